@@ -1,0 +1,73 @@
+-- The chosen rows: a row more, a row less, and a member by its row.
+-- Assumes nothing.
+use mathlib.Core.Path.{_≡_, refl, sym, ap, ap₂, _∙_, subst, subst₂}
+use mathlib.Core.Logic.{_⊎_, ⊎-elim}
+use mathlib.Core.List.{List, [], _∷_, List·Permᴰ, Permᴰ·refl, List·Permᴰ·cons, List·Permᴰ·swap, List·Permᴰ·trans}
+use Prim.Native.Nat.{ℕ, zero, suc, _-_, _/_, _%_, _^_, _<_}
+use native.Mathlib.Nat.{zero-lt-suc, not-suc-le-zero, le-of-suc-le-suc}
+use native.Mathlib.Omega.{arith}
+use lib.Bits.{bitOr, or-zero-r}
+use lib.Dec.{T, eqb, eqb→eq, eqb-refl}
+use lib.ListN.{length, getD, set, length-set}
+use lib.Seq.{set-set, set-getD}
+use Rattle.gf2.specs.Vectors.{outside, bit}
+use Rattle.gf2.specs.Select.{elem, putIf, chosen}
+use Rattle.gf2.proofs.Bit.{low2, bit-low, bit-suc, half-pow, even-pow, bit-pow-same}
+use Rattle.lists.proofs.Tests.{or-l, or-r, or-cases}
+use Rattle.gf2.proofs.Lowest.{or-low, or-half, bit-outside, or-outside}
+
+-- ---- the live vectors of an occupied row more, and of one less
+
+pub chosen-add : (rs : List ℕ) (i m k : ℕ) → i < length rs → bit i m ≡ 0 → List·Permᴰ (chosen (bitOr m (2 ^ i)) (set rs i k)) (k ∷ chosen m rs)
+chosen-add [] i m k h z = absurd (not-suc-le-zero h)
+chosen-add (r ∷ rs) zero m k h z =
+    let e : m % 2 ≡ 0 = sym (bit-low m) ∙ z in
+    let l : bitOr m 1 % 2 ≡ 1 = or-low m 1 ∙ omega arith in
+    let q : bitOr m 1 / 2 ≡ m / 2 = or-half m 1 ∙ or-zero-r (m / 2) in
+    subst₂ (λ (a b : List ℕ). List·Permᴰ a b)
+    (ap₂ (λ (x y : ℕ). putIf x k (chosen y rs)) (sym l) (sym q)) (ap (λ (x : ℕ). k ∷ putIf x r (chosen (m / 2) rs)) (sym e))
+    (Permᴰ·refl (k ∷ chosen (m / 2) rs))
+chosen-add (r ∷ rs) (suc i) m k h z =
+    let l : bitOr m (2 ^ suc i) % 2 ≡ m % 2 = or-low m (2 ^ suc i) ∙ omega (arith, even-pow i) in
+    let q : bitOr m (2 ^ suc i) / 2 ≡ bitOr (m / 2) (2 ^ i) = or-half m (2 ^ suc i) ∙ ap (bitOr (m / 2)) (half-pow i) in
+    subst (λ (a : List ℕ). List·Permᴰ a (k ∷ putIf (m % 2) r (chosen (m / 2) rs)))
+    (ap₂ (λ (x y : ℕ). putIf x r (chosen y (set rs i k))) (sym l) (sym q))
+    (go (m % 2) (chosen-add rs i (m / 2) k (le-of-suc-le-suc h) (sym (bit-suc i m) ∙ z)))
+  where
+    go : (d : ℕ) → List·Permᴰ (chosen (bitOr (m / 2) (2 ^ i)) (set rs i k)) (k ∷ chosen (m / 2) rs)
+        → List·Permᴰ (putIf d r (chosen (bitOr (m / 2) (2 ^ i)) (set rs i k))) (k ∷ putIf d r (chosen (m / 2) rs))
+    go zero p = p
+    go (suc d) p = List·Permᴰ·trans (List·Permᴰ·cons refl p) (List·Permᴰ·swap refl refl)
+
+-- row i leaves, whatever stands there afterwards
+pub chosen-drop : (rs : List ℕ) (i m x : ℕ) → i < length rs → bit i m ≡ 1 → List·Permᴰ (chosen m rs) (getD rs i 0 ∷ chosen (outside m (2 ^ i)) (set rs i x))
+chosen-drop rs i m x h b =
+    subst₂ (λ (a : ℕ) (l : List ℕ). List·Permᴰ (chosen a l) (getD rs i 0 ∷ chosen (outside m (2 ^ i)) (set rs i x)))
+    (or-outside m i b) (set-set rs i x (getD rs i 0) ∙ set-getD rs i 0)
+    (chosen-add (set rs i x) i (outside m (2 ^ i)) (getD rs i 0) (subst (λ (l : ℕ). i < l) (sym (length-set rs i x)) h)
+    (bit-outside i m (2 ^ i) ∙ omega (arith, bit-pow-same i)))
+
+unfoldable pub Row : ℕ → ℕ → List ℕ → Type 0
+Row x m rs = (i : ℕ) × (i < length rs) × (bit i m ≡ 1) × (getD rs i 0 ≡ x)
+
+pub elem→row : (x m : ℕ) (rs : List ℕ) → T (elem x (chosen m rs)) → Row x m rs
+unfolding Row
+elem→row x m [] t = absurd t
+elem→row x m (r ∷ rs) t = go (m % 2) refl (elem→row x (m / 2) rs) t
+  where
+    later : Row x (m / 2) rs → Row x m (r ∷ rs)
+    later w = (suc (w .0), omega (arith, w .1), bit-suc (w .0) m ∙ w .2, w .3)
+
+    go : (d : ℕ) → m % 2 ≡ d → (T (elem x (chosen (m / 2) rs)) → Row x (m / 2) rs) → T (elem x (putIf d r (chosen (m / 2) rs))) → Row x m (r ∷ rs)
+    go zero e ih t = later (ih t)
+    go (suc d) e ih t =
+        ⊎-elim (λ a. (0, zero-lt-suc (length rs), bit-low m ∙ omega (arith, low2 m), sym (eqb→eq x r a))) (λ c. later (ih c)) (or-cases (eqb x r) (elem x (chosen (m / 2) rs)) t)
+
+pub row→elem : (m : ℕ) (rs : List ℕ) (i : ℕ) → i < length rs → bit i m ≡ 1 → T (elem (getD rs i 0) (chosen m rs))
+row→elem m [] i h b = absurd (not-suc-le-zero h)
+row→elem m (r ∷ rs) zero h b = subst (λ (d : ℕ). T (elem r (putIf d r (chosen (m / 2) rs)))) (sym (sym (bit-low m) ∙ b)) (or-l (eqb r r) _ (eqb-refl r))
+row→elem m (r ∷ rs) (suc i) h b = go (m % 2) (row→elem (m / 2) rs i (le-of-suc-le-suc h) (sym (bit-suc i m) ∙ b))
+  where
+    go : (d : ℕ) → T (elem (getD rs i 0) (chosen (m / 2) rs)) → T (elem (getD rs i 0) (putIf d r (chosen (m / 2) rs)))
+    go zero t = t
+    go (suc d) t = or-r (eqb (getD rs i 0) r) _ t

@@ -1,0 +1,49 @@
+-- The solution words: what a step along a row's column does to the products of the rows; and the column step as a solution step.
+-- Assumes nothing.
+use mathlib.Core.Path.{_≡_, refl, sym, ap, ap₂, _∙_}
+use mathlib.Core.List.{List, [], _∷_}
+use Prim.Native.Nat.{ℕ, _+_, _-_, _*_, _/_, _%_, _^_, _<_}
+use native.Mathlib.Omega.{arith}
+use lib.Arith.{lt-one}
+use lib.Bits.{bitXor, xor-lt, xor-zero-r}
+use lib.ListN.{length, getD}
+use Rattle.gf2.specs.Vectors.{bit, on, flipIf, dot, product, colStep, solStep, Inverse}
+use Rattle.gf2.proofs.Bit.{low2, xor-cat, xor-cancel, half-lt, bit-pow-same, bit-pow-other, dot-lt}
+use Rattle.gf2.proofs.Linear.{on-zero, on-cat, on-lt, product-bit, product-lt, dot-flip}
+
+pub product-solStep : (u d : ℕ) (ss : List ℕ) (x : ℕ) → d < 2 ^ length ss → product (solStep u d ss) x ≡ bitXor (product ss x) (on (dot x u) d)
+product-solStep u d [] x h = sym (ap (on (dot x u)) (lt-one h) ∙ on-zero (dot x u))
+product-solStep u d (s ∷ ss) x h =
+    let e : d ≡ d % 2 + 2 * (d / 2) = omega arith in
+    ap₂ (λ (p q : ℕ). p + 2 * q) (dot-flip x (d % 2) u s (low2 d)) (product-solStep u (d / 2) ss x (half-lt d (length ss) h))
+    ∙ sym (ap (bitXor (dot x s + 2 * product ss x)) (ap (on (dot x u)) e ∙ on-cat (dot x u) (d % 2) (d / 2))
+    ∙ xor-cat (dot x s) (on (dot x u) (d % 2)) (product ss x) (on (dot x u) (d / 2)) (dot-lt x s) (on-lt 1 (dot x u) (d % 2) (low2 d)))
+
+-- after the solution step on row i's column, row i has the plan and the other rows have theirs: for add and change alike
+module _ (n : ℕ) (K cs ss : List ℕ) (inv : Inverse n K cs) (i plan : ℕ) (hi : i < n) (hp : plan < 2 ^ length ss) where
+  dot-row : (a : ℕ) → a < n → dot (getD K a 0) (getD cs i 0) ≡ bit i (2 ^ a)
+  dot-row a h = sym (product-bit cs (getD K a 0) i) ∙ ap (bit i) (inv .unit a h)
+
+  diff-lt : bitXor (product ss (getD K i 0)) plan < 2 ^ length ss
+  diff-lt = xor-lt (length ss) (product ss (getD K i 0)) plan (product-lt ss (getD K i 0)) hp
+
+  pub plan-set : product (solStep (getD cs i 0) (bitXor (product ss (getD K i 0)) plan) ss) (getD K i 0) ≡ plan
+  plan-set =
+      product-solStep (getD cs i 0) (bitXor (product ss (getD K i 0)) plan) ss (getD K i 0) diff-lt
+      ∙ ap (λ (d : ℕ). bitXor (product ss (getD K i 0)) (on d (bitXor (product ss (getD K i 0)) plan))) (dot-row i hi ∙ bit-pow-same i)
+      ∙ xor-cancel (product ss (getD K i 0)) plan
+
+  pub plan-kept : (a : ℕ) → a < n → (i ≡ a → ⊥) → product (solStep (getD cs i 0) (bitXor (product ss (getD K i 0)) plan) ss) (getD K a 0) ≡ product ss (getD K a 0)
+  plan-kept a h ne =
+      product-solStep (getD cs i 0) (bitXor (product ss (getD K i 0)) plan) ss (getD K a 0) diff-lt
+      ∙ ap (λ (d : ℕ). bitXor (product ss (getD K a 0)) (on d (bitXor (product ss (getD K i 0)) plan))) (dot-row a h ∙ bit-pow-other i a ne)
+      ∙ xor-zero-r (product ss (getD K a 0))
+
+-- ---- the step on the columns, by the product of v alone
+
+pub colStep-product : (u v : ℕ) (cs : List ℕ) → colStep u v cs ≡ solStep u (product cs v) cs
+colStep-product u v [] = refl
+colStep-product u v (c ∷ cs) =
+    let l : (dot v c + 2 * product cs v) % 2 ≡ dot v c = omega (arith, dot-lt v c) in
+    let q : (dot v c + 2 * product cs v) / 2 ≡ product cs v = omega (arith, dot-lt v c) in
+    ap₂ (λ (x : ℕ) (r : List ℕ). flipIf x u c ∷ r) (sym l) (colStep-product u v cs ∙ ap (λ (w : ℕ). solStep u w cs) (sym q))

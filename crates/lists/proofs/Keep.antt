@@ -1,0 +1,176 @@
+-- What `keep`, `map` and `tabulate` do to the elements of a list, to a part of it and to its order; the numbers from a on.
+-- Assumes nothing.
+use Prim.Native.Nat.{ℕ, zero, suc, _+_, _<_, _≤_}
+use native.Mathlib.Nat.{le-of-suc-le-suc, not-suc-le-zero}
+use native.Mathlib.Omega.{arith}
+use lib.Arith.{lt-of-le-ne}
+use mathlib.Core.Path.{_≡_, refl, sym, ap, ap₂, _∙_, subst, subst⁻¹, subst₂, fun-ext}
+use mathlib.Core.Bool.{Bool, true, false, cond, not, _&&_, false≢true, true≢false}
+use mathlib.Core.Logic.{⊎-elim}
+use mathlib.Core.List.{List, [], _∷_, _++_, map, append-assoc, Sublistᴰ, Sublistᴰ·slnil, Sublistᴰ·cons, Sublistᴰ·cons-cons, List·Permᴰ, List·Permᴰ·nil, List·Permᴰ·cons, List·Permᴰ·swap, List·Permᴰ·trans, Permᴰ·refl, Permᴰ·symm, Permᴰ·middle, Permᴰ·append-right, List·Permᴰ·append-comm, List·Memᴰ, List·Memᴰ·head, List·Memᴰ·tail, List·Memᴰ·not-nil, List·Memᴰ·cases-cons}
+use lib.Dec.{eqb}
+use lib.ListN.{length, getD}
+use borrow.Author.Tests.{eqb-true, eqb-false}
+use Rattle.lists.specs.Lists.{keep, tabulate, countFrom}
+use Rattle.lists.proofs.Tests.{cases, by-test, cond-false}
+
+pub keep-none : {A : Type 0} (p : A → Bool) (xs : List A) → ((x : A) → p x ≡ false) → keep p xs ≡ []
+keep-none p [] h = refl
+keep-none p (x ∷ xs) h = cond-false (x ∷ keep p xs) (keep p xs) (h x) ∙ keep-none p xs h
+
+pub map-sub : {A B : Type 0} (f : A → B) {xs ys : List A} → Sublistᴰ xs ys → Sublistᴰ (map f xs) (map f ys)
+map-sub f Sublistᴰ·slnil = Sublistᴰ·slnil
+map-sub f (Sublistᴰ·cons s) = Sublistᴰ·cons (map-sub f s)
+map-sub f (Sublistᴰ·cons-cons e s) = Sublistᴰ·cons-cons (ap f e) (map-sub f s)
+
+pub length-sub : {A : Type 0} {xs ys : List A} → Sublistᴰ xs ys → length xs ≤ length ys
+length-sub Sublistᴰ·slnil = omega arith
+length-sub (Sublistᴰ·cons s) = let h = length-sub s in omega arith
+length-sub (Sublistᴰ·cons-cons e s) = let h = length-sub s in omega arith
+
+sub-cond : {A : Type 0} (b c : Bool) → (b ≡ true → c ≡ true) → (x : A) {xs ys : List A} → Sublistᴰ xs ys
+    → Sublistᴰ (cond b (x ∷ xs) xs) (cond c (x ∷ ys) ys)
+sub-cond true true h x s = Sublistᴰ·cons-cons refl s
+sub-cond true false h x s = absurd (false≢true (h refl))
+sub-cond false true h x s = Sublistᴰ·cons s
+sub-cond false false h x s = s
+
+sub-skip : {A : Type 0} (c : Bool) (x : A) {xs ys : List A} → Sublistᴰ xs ys → Sublistᴰ xs (cond c (x ∷ ys) ys)
+sub-skip true x s = Sublistᴰ·cons s
+sub-skip false x s = s
+
+module _ {A : Type 0} (p q : A → Bool) (weaker : (x : A) → p x ≡ true → q x ≡ true) where
+  pub keep-sub : {xs ys : List A} → Sublistᴰ xs ys → Sublistᴰ (keep p xs) (keep q ys)
+  keep-sub Sublistᴰ·slnil = Sublistᴰ·slnil
+  keep-sub (Sublistᴰ·cons {a = y} s) = sub-skip (q y) y (keep-sub s)
+  keep-sub (Sublistᴰ·cons-cons {a = x} {b = y} {l₁ = xs} {l₂ = ys} e s) =
+      subst⁻¹ (λ (z : A). Sublistᴰ (keep p (z ∷ xs)) (keep q (y ∷ ys))) e (sub-cond (p y) (q y) (weaker y) y (keep-sub s))
+
+perm-cond : {A : Type 0} (b : Bool) (x : A) {xs ys : List A} → List·Permᴰ xs ys → List·Permᴰ (cond b (x ∷ xs) xs) (cond b (x ∷ ys) ys)
+perm-cond true x s = List·Permᴰ·cons refl s
+perm-cond false x s = s
+
+perm-swap : {A : Type 0} (b c : Bool) (x y : A) (l : List A)
+    → List·Permᴰ (cond b (x ∷ cond c (y ∷ l) l) (cond c (y ∷ l) l)) (cond c (y ∷ cond b (x ∷ l) l) (cond b (x ∷ l) l))
+perm-swap true true x y l = List·Permᴰ·swap refl refl
+perm-swap true false x y l = Permᴰ·refl (x ∷ l)
+perm-swap false true x y l = Permᴰ·refl (y ∷ l)
+perm-swap false false x y l = Permᴰ·refl l
+
+module _ {A : Type 0} (p : A → Bool) where
+  pub keep-perm : {xs ys : List A} → List·Permᴰ xs ys → List·Permᴰ (keep p xs) (keep p ys)
+  keep-perm List·Permᴰ·nil = List·Permᴰ·nil
+  keep-perm (List·Permᴰ·cons {a = x} {b = y} {l₁ = xs} {l₂ = ys} e s) =
+      subst⁻¹ (λ (z : A). List·Permᴰ (keep p (z ∷ xs)) (keep p (y ∷ ys))) e (perm-cond (p y) y (keep-perm s))
+  keep-perm (List·Permᴰ·swap {a = x} {b = y} {a′ = x′} {b′ = y′} {l = l} e f) =
+      subst₂ (λ (u v : A). List·Permᴰ (keep p (x ∷ y ∷ l)) (keep p (u ∷ v ∷ l))) f e (perm-swap (p x) (p y) x y (keep p l))
+  keep-perm (List·Permᴰ·trans s t) = List·Permᴰ·trans (keep-perm s) (keep-perm t)
+
+pub tabulate-at : (f : ℕ → ℕ) (n i : ℕ) → i < n → getD (tabulate f n) i 0 ≡ f i
+tabulate-at f zero i h = absurd (not-suc-le-zero h)
+tabulate-at f (suc n) zero h = refl
+tabulate-at f (suc n) (suc i) h = tabulate-at (λ j. f (suc j)) n i (le-of-suc-le-suc h)
+
+pub tabulate-ext : (f g : ℕ → ℕ) (n : ℕ) → ((i : ℕ) → i < n → f i ≡ g i) → tabulate f n ≡ tabulate g n
+tabulate-ext f g zero h = refl
+tabulate-ext f g (suc n) h = ap₂ {C = List ℕ} _∷_ (h 0 (omega arith)) (tabulate-ext (λ j. f (suc j)) (λ j. g (suc j)) n (λ i l. h (suc i) (omega arith)))
+
+pub tabulate-length : (f : ℕ → ℕ) (n : ℕ) → length (tabulate f n) ≡ n
+tabulate-length f zero = refl
+tabulate-length f (suc n) = ap suc (tabulate-length (λ j. f (suc j)) n)
+
+pub tabulate-out : (f : ℕ → ℕ) (n i : ℕ) → n ≤ i → getD (tabulate f n) i 0 ≡ 0
+tabulate-out f zero i h = refl
+tabulate-out f (suc n) zero h = absurd (not-suc-le-zero h)
+tabulate-out f (suc n) (suc i) h = tabulate-out (λ j. f (suc j)) n i (le-of-suc-le-suc h)
+
+split-cond : {A : Type 0} (b c : Bool) → (b ≡ false → c ≡ true) → (x : A) {xs : List A} (ys zs : List A) → List·Permᴰ xs (ys ++ zs)
+    → List·Permᴰ (cond c (x ∷ xs) xs) (cond (b && c) (x ∷ ys) ys ++ cond (not b) (x ∷ zs) zs)
+split-cond true true h x ys zs s = List·Permᴰ·cons refl s
+split-cond true false h x ys zs s = s
+split-cond false true h x ys zs s = List·Permᴰ·trans (List·Permᴰ·cons refl s) (Permᴰ·symm (Permᴰ·middle x ys zs))
+split-cond false false h x ys zs s = absurd (false≢true (h refl))
+
+-- what passes c is what passes b and c, and what does not pass b, where that passes c
+module _ {A : Type 0} (b c : A → Bool) (h : (x : A) → b x ≡ false → c x ≡ true) where
+  pub keep-split : (xs : List A) → List·Permᴰ (keep c xs) (keep (λ x. b x && c x) xs ++ keep (λ x. not (b x)) xs)
+  keep-split [] = List·Permᴰ·nil
+  keep-split (x ∷ xs) = split-cond (b x) (c x) (h x) x (keep (λ y. b y && c y) xs) (keep (λ y. not (b y)) xs) (keep-split xs)
+
+-- ---- keep and map
+
+map-cond : {A B : Type 0} (f : A → B) (b : Bool) (x : A) (xs : List A) → cond b (f x ∷ map f xs) (map f xs) ≡ map f (cond b (x ∷ xs) xs)
+map-cond f true x xs = refl
+map-cond f false x xs = refl
+
+pub keep-map : {A B : Type 0} (f : A → B) (p : B → Bool) (xs : List A) → keep p (map f xs) ≡ map f (keep (λ x. p (f x)) xs)
+keep-map f p [] = refl
+keep-map {A} {B} f p (x ∷ xs) =
+    ap (λ (l : List B). cond (p (f x)) (f x ∷ l) l) (keep-map f p xs) ∙ map-cond f (p (f x)) x (keep (λ y. p (f y)) xs)
+
+keep-cond : {A : Type 0} (p : A → Bool) (b : Bool) (x : A) (xs : List A)
+    → keep p (cond b (x ∷ xs) xs) ≡ cond (b && p x) (x ∷ keep p xs) (keep p xs)
+keep-cond p true x xs = refl
+keep-cond p false x xs = refl
+
+pub keep-keep : {A : Type 0} (p q : A → Bool) (xs : List A) → keep p (keep q xs) ≡ keep (λ x. q x && p x) xs
+keep-keep p q [] = refl
+keep-keep {A} p q (x ∷ xs) =
+    keep-cond p (q x) x (keep q xs) ∙ ap (λ (l : List A). cond (q x && p x) (x ∷ l) l) (keep-keep p q xs)
+
+-- ---- members of what is kept
+
+pub keep-in : {A : Type 0} (p : A → Bool) (xs : List A) {x : A} → List·Memᴰ x xs → p x ≡ true → List·Memᴰ x (keep p xs)
+keep-in p [] m h = m
+keep-in {A} p (y ∷ ys) {x} m h =
+    by-test (λ (l : List A). List·Memᴰ x l) (p y)
+    (λ t. ⊎-elim (λ e. List·Memᴰ·head e) (λ n. List·Memᴰ·tail (keep-in p ys n h)) (List·Memᴰ·cases-cons m))
+    (λ f. ⊎-elim (λ (e : x ≡ y). absurd (true≢false (sym h ∙ ap p e ∙ f))) (λ n. keep-in p ys n h) (List·Memᴰ·cases-cons m))
+
+pub keep-out : {A : Type 0} (p : A → Bool) (xs : List A) (x : A) → List·Memᴰ x (keep p xs) → List·Memᴰ x xs × (p x ≡ true)
+keep-out p [] x = λ m. absurd (List·Memᴰ·not-nil m)
+keep-out {A} p (y ∷ ys) x =
+    by-test (λ (l : List A). List·Memᴰ x l → List·Memᴰ x (y ∷ ys) × (p x ≡ true)) (p y)
+    (λ t m. ⊎-elim {C = List·Memᴰ x (y ∷ ys) × (p x ≡ true)} (λ (e : x ≡ y). (List·Memᴰ·head e, ap p e ∙ t))
+    (λ n. let r = keep-out p ys x n in (List·Memᴰ·tail (r .0), r .1)) (List·Memᴰ·cases-cons m))
+    (λ f m. let r = keep-out p ys x m in (List·Memᴰ·tail (r .0), r .1))
+
+-- ---- keep
+
+pub keep-ext : {A : Type 0} (p q : A → Bool) (xs : List A) → ((x : A) → p x ≡ q x) → keep p xs ≡ keep q xs
+keep-ext {A} p q xs h = ap (λ (r : A → Bool). keep r xs) (fun-ext h)
+
+part-cond : {A : Type 0} (b : Bool) (x : A) {xs : List A} (ys zs : List A) → List·Permᴰ xs (ys ++ zs)
+    → List·Permᴰ (x ∷ xs) (cond b (x ∷ ys) ys ++ cond (not b) (x ∷ zs) zs)
+part-cond true x ys zs s = List·Permᴰ·cons refl s
+part-cond false x ys zs s = List·Permᴰ·trans (List·Permᴰ·cons refl s) (Permᴰ·symm (Permᴰ·middle x ys zs))
+
+-- a list is what passes a test, and what does not
+pub keep-part : {A : Type 0} (p : A → Bool) (xs : List A) → List·Permᴰ xs (keep p xs ++ keep (λ x. not (p x)) xs)
+keep-part p [] = List·Permᴰ·nil
+keep-part p (x ∷ xs) = part-cond (p x) x (keep p xs) (keep (λ y. not (p y)) xs) (keep-part p xs)
+
+pub shuffle : {A : Type 0} (a b c : List A) → List·Permᴰ (a ++ b ++ c) (b ++ (a ++ c))
+shuffle {A} a b c = subst (List·Permᴰ (a ++ b ++ c)) (append-assoc b a c) (Permᴰ·append-right c (List·Permᴰ·append-comm a b))
+
+-- ---- numbers from a on
+
+pub count-le : (a m x : ℕ) → List·Memᴰ x (countFrom a m) → a ≤ x
+count-le a zero x i = absurd (List·Memᴰ·not-nil i)
+count-le a (suc m) x i = ⊎-elim (λ (e : x ≡ a). omega arith) (λ j. let h = count-le (suc a) m x j in omega arith) (List·Memᴰ·cases-cons i)
+
+pub count-lt : (a m x : ℕ) → List·Memᴰ x (countFrom a m) → x < a + m
+count-lt a zero x i = absurd (List·Memᴰ·not-nil i)
+count-lt a (suc m) x i = ⊎-elim (λ (e : x ≡ a). omega arith) (λ j. let h = count-lt (suc a) m x j in omega arith) (List·Memᴰ·cases-cons i)
+
+pub count-in : (a m x : ℕ) → a ≤ x → x < a + m → List·Memᴰ x (countFrom a m)
+count-in a zero x h l = absurd (omega arith)
+count-in a (suc m) x h l =
+    cases (eqb x a) (λ t. List·Memᴰ·head (eqb-true x a t))
+    (λ f. List·Memᴰ·tail (count-in (suc a) m x (lt-of-le-ne h (λ e. eqb-false x a f (sym e))) (omega arith)))
+
+pub perm-length : {A : Type 0} {xs ys : List A} → List·Permᴰ xs ys → length xs ≡ length ys
+perm-length List·Permᴰ·nil = refl
+perm-length (List·Permᴰ·cons e s) = ap suc (perm-length s)
+perm-length (List·Permᴰ·swap e f) = refl
+perm-length (List·Permᴰ·trans s t) = perm-length s ∙ perm-length t

@@ -1,0 +1,3 @@
+-- The definitions of the crate.
+pub mod Lists
+pub mod Entries
