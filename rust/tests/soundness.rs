@@ -102,7 +102,7 @@ fn each_rule_alone() {
             t[3] += 1;
         };
         let place = oracle::mix(1 << j);
-        if place % 8 < 4 && place / 8 % 2 == 0 {
+        if place % 8 < 4 && (place / 8).is_multiple_of(2) {
             let mut other = table.clone();
             marked(&mut other);
             assert_eq!(soundness(&other), ACCEPTED);
