@@ -3,6 +3,9 @@
 // at every number of rows and of solution words; proofs/Steps.antt has what the steps keep (K and its inverse, live vectors, plans).
 // Cites gf2 (vectors) and codec (parts of a slice). settle and table build on it.
 ghost use mathlib.Core.Path.{_≡_};
+ghost use Prim.Native.Nat.{_<_, _≤_, _^_};
+ghost use lib.ListN.{length};
+ghost use Rattle.gf2.specs.Vectors.{dot, product, flipIf, colStep, solStep, exchange, units};
 ghost use Rattle.bucket.specs.Bucket.{emptyBucket};
 
 // The bucket by value. The columns travel as one array.
@@ -17,6 +20,90 @@ pub struct Bucket {
 pub struct Tried {
     pub done: bool,
     pub bucket: Bucket,
+}
+
+// The parity of ones in (k AND c).
+pub(crate) fn dot(k: u64, c: u64) -> u64
+    ensures { λ r. ⌜ r ≡ dot k c ⌝ }
+{
+    (u64::count_ones(k & c) % 2) as u64
+}
+
+// Bit i is the parity of ones in (k AND word i), for at most 64 words.
+pub(crate) fn product_in(words: &[u64], k: u64) -> u64
+    requires { ⌜ length (now words) ≤ 64 ⌝ }
+    ensures { λ r. ⌜ r ≡ product (now (words .entry)) k ⌝ }
+{
+    let mut p: u64 = 0;
+    let mut i = words.len();
+    while 0 < i {
+        i -= 1;
+        p = dot(k, words[i]) + 2 * p;
+    }
+    p
+}
+
+// Bit i is the parity of ones in (k AND column i).
+pub(crate) fn product(cols: [u64; Bucket::ROWS], k: u64) -> u64
+    ensures { λ r. ⌜ r ≡ product cols k ⌝ }
+{
+    product_in(&cols, k)
+}
+
+// a with u XORed into it where d is set.
+pub(crate) fn flip_if(d: u64, u: u64, a: u64) -> u64
+    ensures { λ r. ⌜ r ≡ flipIf d u a ⌝ }
+{
+    if d == 0 { a } else { a ^ u }
+}
+
+// u is XORed into each column a for which (v AND a) has odd parity.
+pub(crate) fn col_step(u: u64, v: u64, cols: [u64; Bucket::ROWS]) -> [u64; Bucket::ROWS]
+    ensures { λ r. ⌜ r ≡ colStep u v cols ⌝ }
+{
+    let mut out = cols;
+    let mut i: usize = 0;
+    while i < Bucket::ROWS {
+        let a = out[i];
+        out[i] = flip_if(dot(v, a), u, a);
+        i += 1;
+    }
+    out
+}
+
+// u is XORed into each solution word whose bit of d is set.
+pub(crate) fn sol_step(u: u64, d: u64, sols: [u64; Bucket::SOLUTIONS]) -> [u64; Bucket::SOLUTIONS]
+    ensures { λ r. ⌜ r ≡ solStep u d sols ⌝ }
+{
+    let mut out = sols;
+    let mut left = d;
+    let mut i: usize = 0;
+    while i < Bucket::SOLUTIONS {
+        out[i] = flip_if(left % 2, u, out[i]);
+        left = left / 2;
+        i += 1;
+    }
+    out
+}
+
+// Columns i and j change places.
+pub(crate) fn exchanged(i: usize, j: usize, cols: [u64; Bucket::ROWS]) -> [u64; Bucket::ROWS]
+    requires { do ⌜ (i < (← ⟦Bucket::ROWS⟧)) × (j < (← ⟦Bucket::ROWS⟧)) ⌝ }
+    ensures { λ r. ⌜ r ≡ exchange i j cols ⌝ }
+{
+    let mut out = cols;
+    let a = out[i];
+    out[i] = out[j];
+    out[j] = a;
+    out
+}
+
+// The unit vector of row i.
+pub(crate) fn power(i: usize) -> u64
+    requires { do ⌜ i < (← ⟦Bucket::ROWS⟧) ⌝ }
+    ensures { λ r. ⌜ r ≡ 2 ^ i ⌝ }
+{
+    1 << i
 }
 
 impl Bucket {
