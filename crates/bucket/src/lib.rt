@@ -6,7 +6,7 @@ ghost use mathlib.Core.Path.{_≡_};
 ghost use Prim.Native.Nat.{_<_, _≤_, _^_};
 ghost use lib.ListN.{length};
 ghost use Rattle.gf2.specs.Vectors.{dot, product, flipIf, colStep, solStep, exchange, units};
-ghost use Rattle.bucket.specs.Bucket.{emptyBucket};
+ghost use Rattle.bucket.specs.Bucket.{emptyBucket, rowOf, lookup, add, change, withdraw};
 
 // The bucket by value. The columns travel as one array.
 pub struct Bucket {
@@ -106,6 +106,19 @@ pub(crate) fn power(i: usize) -> u64
     1 << i
 }
 
+// The unit vectors.
+pub(crate) fn unit_cols() -> [u64; Bucket::ROWS]
+    ensures { λ r. do ⌜ r ≡ units (← ⟦Bucket::ROWS⟧ .entry) ⌝ }
+{
+    let mut out = [0u64; Bucket::ROWS];
+    let mut i: usize = 0;
+    while i < Bucket::ROWS {
+        out[i] = power(i);
+        i += 1;
+    }
+    out
+}
+
 impl Bucket {
     // Rows and columns.
     pub const ROWS: usize = 64;
@@ -124,4 +137,124 @@ impl Bucket {
     pub const BOUND_AT: usize = Self::SOLUTIONS_AT + Self::SOLUTIONS;
 
     pub const WORDS: usize = Self::BOUND_AT + 1;
+
+    pub fn empty() -> Self
+        ensures { λ r. do ⌜ r ≡ emptyBucket (← ⟦Bucket::ROWS⟧ .entry) (← ⟦Bucket::SOLUTIONS⟧ .entry) ⌝ }
+    {
+        let cols = unit_cols();
+        Self {
+            cols,
+            mark: 0,
+            sols: [0; Self::SOLUTIONS],
+            bound: Self::LARGEST_BOUND,
+        }
+    }
+
+    // The plan that the solutions give for k.
+    pub fn lookup(self, k: u64) -> u64
+        ensures { λ r. ⌜ r ≡ lookup self k ⌝ }
+    {
+        let sols = self.sols;
+        product_in(&sols, k)
+    }
+
+    // The row of a live k; `ROWS` where k is not live.
+    pub fn row_of(self, k: u64) -> usize
+        ensures { λ r. do ⌜ r ≡ rowOf (← ⟦Bucket::ROWS⟧ .entry) k self ⌝ }
+    {
+        let cols = self.cols;
+        let p = product(cols, k);
+        let i = u64::trailing_zeros(p) as usize;
+        if i < Self::ROWS {
+            if p == power(i) {
+                if (self.mark >> i) % 2 == 1 {
+                    return i;
+                }
+            }
+        }
+        Self::ROWS
+    }
+
+    // k with its plan in the lowest free row whose product bit is 1; not done where there is none: k depends on the live vectors.
+    pub fn add(self, k: u64, plan: u64) -> Tried
+        ensures { λ r. do ⌜ r ≡ add (← ⟦Bucket::ROWS⟧ .entry) k plan self ⌝ }
+    {
+        let cols = self.cols;
+        let mark = self.mark;
+        let p = product(cols, k);
+        let i = u64::trailing_zeros(p ^ (p & mark)) as usize;
+        if i < Self::ROWS {
+            let unit = power(i);
+            let next = col_step(cols[i], k ^ unit, cols);
+            let sols = self.sols;
+            let solved = sol_step(next[i], self.lookup(k) ^ plan, sols);
+            return Tried {
+                done: true,
+                bucket: Self {
+                    cols: next,
+                    mark: mark | unit,
+                    sols: solved,
+                    bound: self.bound,
+                },
+            };
+        }
+        Tried {
+            done: false,
+            bucket: self,
+        }
+    }
+
+    // k with another plan; not done where k is not live.
+    pub fn change(self, k: u64, plan: u64) -> Tried
+        ensures { λ r. do ⌜ r ≡ change (← ⟦Bucket::ROWS⟧ .entry) k plan self ⌝ }
+    {
+        let i = self.row_of(k);
+        if i < Self::ROWS {
+            let cols = self.cols;
+            let sols = self.sols;
+            let solved = sol_step(cols[i], self.lookup(k) ^ plan, sols);
+            return Tried {
+                done: true,
+                bucket: Self {
+                    cols,
+                    mark: self.mark,
+                    sols: solved,
+                    bound: self.bound,
+                },
+            };
+        }
+        Tried {
+            done: false,
+            bucket: self,
+        }
+    }
+
+    // The bucket without k: the row freed is the lowest set bit of k's column; not done where k is not live.
+    pub fn withdraw(self, k: u64) -> Tried
+        ensures { λ r. do ⌜ r ≡ withdraw (← ⟦Bucket::ROWS⟧ .entry) k self ⌝ }
+    {
+        let i = self.row_of(k);
+        if i < Self::ROWS {
+            let cols = self.cols;
+            let mark = self.mark;
+            let u = cols[i];
+            let j = u64::trailing_zeros(u) as usize;
+            let unit = power(j);
+            let next = exchanged(i, j, col_step(u, k ^ unit, cols));
+            let sols = self.sols;
+            return Tried {
+                done: true,
+                bucket: Self {
+                    cols: next,
+                    mark: mark ^ (mark & unit),
+                    sols,
+                    bound: self.bound,
+                },
+            };
+        }
+        Tried {
+            done: false,
+            bucket: self,
+        }
+    }
 }
