@@ -34,17 +34,28 @@ module _ (n k : ℕ) (b : Bucket) (hl : live n k b ≡ true) where
       subst (λ (x : ℕ). x < n) (sym (cond-true (trailingZeros n p) n hl))
       (tz-lt n p (subst (λ (l : ℕ). p < 2 ^ l) h (product-lt (b .cols) k)) (λ e. omega (arith, row-product, pow-pos (rowOf n k b))))
 
-  -- a live k's column has a lowest bit
-  pub column-lt : getD (b .cols) (rowOf n k b) 0 < 2 ^ n → trailingZeros n (getD (b .cols) (rowOf n k b) 0) < n
-  column-lt h =
-      let i : ℕ = rowOf n k b in
-      tz-lt n (getD (b .cols) i 0) h
-      (λ e. let z : _≡_ {A = ℕ} 1 0 = sym (bit-pow-same i) ∙ ap (bit i) (sym row-product) ∙ product-bit (b .cols) k i ∙ ap (dot k) e ∙ dot-zero-r k in omega arith)
+module _ (n k : ℕ) (b : Bucket) (h : length (b .cols) ≡ n) where
+  -- no row where k is not live
+  not-live : live n k b ≡ false → rowOf n k b ≡ n
+  unfolding rowOf
+  not-live e = cond-false (trailingZeros n (product (b .cols) k)) n e
 
--- k is live exactly when its row is one of the rows
-pub live-row : (n k : ℕ) (b : Bucket) → length (b .cols) ≡ n → live n k b ≡ ltb (rowOf n k b) n
-live-row n k b h = cases (live n k b) (λ e. e ∙ sym (lt-ltb _ _ (row-lt n k b e h))) (λ e. e ∙ sym (le-ltb _ _ (no-row e)))
-  where
-    no-row : live n k b ≡ false → n ≤ rowOf n k b
-    unfolding rowOf
-    no-row e = subst (λ (x : ℕ). n ≤ x) (sym (cond-false (trailingZeros n (product (b .cols) k)) n e)) (le-refl n)
+  -- k is live exactly when its row is one of the rows
+  pub live-row : live n k b ≡ ltb (rowOf n k b) n
+  live-row = cases (live n k b) (λ e. e ∙ sym (lt-ltb _ _ (row-lt n k b e h))) (λ e. e ∙ sym (ap (λ (i : ℕ). ltb i n) (not-live e) ∙ le-ltb n n (le-refl n)))
+
+  -- no row where the product is 0
+  pub no-row : n ≤ trailingZeros n (product (b .cols) k) → n ≡ rowOf n k b
+  unfolding rowOf
+  no-row m =
+      let i : ℕ = trailingZeros n (product (b .cols) k) in
+      cases (live n k b) (λ e. absurd (omega (arith, row-lt n k b e h, cond-true i n e))) (λ e. sym (not-live e))
+
+  -- the column of a live k has a lowest bit
+  pub freed-lt : {i j : ℕ} → i ≡ rowOf n k b → i < n → getD (b .cols) i 0 < 2 ^ n → j ≡ trailingZeros n (getD (b .cols) i 0) → j < n
+  freed-lt {i} {j} e hi f q =
+      let l : live n k b ≡ true = live-row ∙ lt-ltb _ _ (subst (λ (x : ℕ). x < n) e hi) in
+      let p : product (b .cols) k ≡ 2 ^ i = row-product n k b l ∙ ap (λ (x : ℕ). 2 ^ x) (sym e) in
+      subst (λ (x : ℕ). x < n) (sym q)
+      (tz-lt n (getD (b .cols) i 0) f
+      (λ z. let o : _≡_ {A = ℕ} 1 0 = sym (bit-pow-same i) ∙ ap (bit i) (sym p) ∙ product-bit (b .cols) k i ∙ ap (dot k) z ∙ dot-zero-r k in omega arith))

@@ -4,6 +4,7 @@
 // Cites gf2 (vectors) and codec (parts of a slice). settle and table build on it.
 ghost use mathlib.Core.Path.{_≡_};
 ghost use Prim.Native.Nat.{_<_, _≤_, _^_};
+ghost use lib.Count.{trailingZeros};
 ghost use lib.ListN.{length};
 ghost use Rattle.gf2.specs.Vectors.{dot, product, flipIf, colStep, solStep, exchange, units};
 ghost use Rattle.bucket.specs.Bucket.{emptyBucket, rowOf, lookup, add, change, withdraw};
@@ -106,6 +107,13 @@ pub(crate) fn power(i: usize) -> u64
     1 << i
 }
 
+// The lowest set bit of x; `ROWS` where x is 0.
+pub(crate) fn lowest(x: u64) -> usize
+    ensures { λ r. do ⌜ r ≡ trailingZeros (← ⟦Bucket::ROWS⟧ .entry) x ⌝ }
+{
+    u64::trailing_zeros(x) as usize
+}
+
 // The unit vectors.
 pub(crate) fn unit_cols() -> [u64; Bucket::ROWS]
     ensures { λ r. do ⌜ r ≡ units (← ⟦Bucket::ROWS⟧ .entry) ⌝ }
@@ -164,7 +172,7 @@ impl Bucket {
     {
         let cols = self.cols;
         let p = product(cols, k);
-        let i = u64::trailing_zeros(p) as usize;
+        let i = lowest(p);
         if i < Self::ROWS {
             if p == power(i) {
                 if (self.mark >> i) % 2 == 1 {
@@ -182,7 +190,7 @@ impl Bucket {
         let cols = self.cols;
         let mark = self.mark;
         let p = product(cols, k);
-        let i = u64::trailing_zeros(p ^ (p & mark)) as usize;
+        let i = lowest(p ^ (p & mark));
         if i < Self::ROWS {
             let unit = power(i);
             let next = col_step(cols[i], k ^ unit, cols);
@@ -238,7 +246,7 @@ impl Bucket {
             let cols = self.cols;
             let mark = self.mark;
             let u = cols[i];
-            let j = u64::trailing_zeros(u) as usize;
+            let j = lowest(u);
             let unit = power(j);
             let next = exchanged(i, j, col_step(u, k ^ unit, cols));
             let sols = self.sols;

@@ -1,68 +1,63 @@
+-- `bucket::Bucket::add` meets its contract.
+-- Assumes nothing.
+use mathlib.Core.Path.{_≡_}
 use borrow.Author.Needs.{needs}
+use borrow.Author.Tests.{lt-ltb, le-ltb}
+use Rattle.bucket.specs.Bucket.{freeRow, addAt, add}
 use Rattle.bucket.proofs.Bucket.add.Statement.{statement}
 use Rattle.bucket.proofs.Bucket.add.Tie as tie
-use Rattle.bucket.proofs.Bucket.add.Reads as reads
-use Rattle.bucket.proofs.Bucket.add.Lts as lts
-use Rattle.bucket.proofs.Bucket.lookup.Reads as lookup-reads
-use Rattle.bucket.proofs.col_step.Reads as col-step-reads
-use Rattle.bucket.proofs.power.Reads as power-reads
-use Rattle.bucket.proofs.product.Reads as product-reads
-use Rattle.bucket.proofs.sol_step.Reads as sol-step-reads
 
--- src/lib.rt:184:13
 product-requires : tie.Need-product-requires
 product-requires c κs = search needs
 
--- src/lib.rt:185:17
-cast-i : tie.Need-cast-i
-cast-i c = ?
+lowest-requires : tie.Need-lowest-requires
+lowest-requires c κs = search needs
 
--- src/lib.rt:187:17
 power-requires : tie.Need-power-requires
 power-requires c κs = search needs
 
--- src/lib.rt:188:33
 mul-col-step : tie.Need-mul-col-step
 mul-col-step c = search needs
 
--- src/lib.rt:188:33
 array-read-col-step : tie.Need-array-read-col-step
 array-read-col-step c = search needs
 
--- src/lib.rt:188:24
 col-step-requires : tie.Need-col-step-requires
 col-step-requires c κs = search needs
 
--- src/lib.rt:190:35
 mul-sol-step : tie.Need-mul-sol-step
 mul-sol-step c = search needs
 
--- src/lib.rt:190:35
 array-read-sol-step : tie.Need-array-read-sol-step
 array-read-sol-step c = search needs
 
--- src/lib.rt:190:44
 lookup-requires : tie.Need-lookup-requires
 lookup-requires c κs = search needs
 
--- src/lib.rt:190:17
 sol-step-requires : tie.Need-sol-step-requires
 sol-step-requires c κs = search needs
 
--- src/lib.rt:191:13
 returns : tie.Need-returns
-returns c = ?
+unfolding add addAt
+returns c =
+    let b = c .before .before .before .before .before in
+    let a = b .before .before .before .before .args in
+    let e : freeRow 64 (a .k) (a .self) ≡ b .before .lowest .result = cc in
+    rw (e, lt-ltb _ _ (b .if1 .taken), c .sol-step .ensures, c .before .lookup .ensures, c .before .before .before .col-step .ensures, c .before .before .before .before .power .ensures)
 
--- src/lib.rt:179:5
 returns-2 : tie.Need-returns-2
-returns-2 c = ?
+unfolding add
+returns-2 c =
+    let a = c .before .before .before .before .args in
+    let e : freeRow 64 (a .k) (a .self) ≡ c .before .lowest .result = cc in
+    rw (e, le-ltb _ _ (c .if1 .left))
 
 pub add-spec : {M : Type 1} → statement M
 add-spec =
     tie.close
     (tie.spec
     product-requires
-    cast-i
+    lowest-requires
     power-requires
     mul-col-step
     array-read-col-step

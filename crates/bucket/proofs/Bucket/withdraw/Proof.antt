@@ -1,48 +1,61 @@
+-- `bucket::Bucket::withdraw` meets its contract. The column of a live vector is not 0, so it has a lowest bit.
+-- Assumes nothing.
+use mathlib.Core.Path.{_≡_}
+use lib.ListN.{length, getD}
+use mir.Val.{Fits}
+use mir.Syntax.{w64}
 use borrow.Author.Needs.{needs}
+use borrow.Author.Tests.{lt-ltb, le-ltb}
+use Rattle.bucket.specs.Bucket.{withdrawAt, withdraw}
+use Rattle.bucket.proofs.Laws.{live-row, freed-lt}
 use Rattle.bucket.proofs.Bucket.withdraw.Statement.{statement}
 use Rattle.bucket.proofs.Bucket.withdraw.Tie as tie
-use Rattle.bucket.proofs.Bucket.withdraw.Reads as reads
-use Rattle.bucket.proofs.Bucket.withdraw.Lts as lts
-use Rattle.bucket.proofs.Bucket.row_of.Reads as row-of-reads
-use Rattle.bucket.proofs.col_step.Reads as col-step-reads
-use Rattle.bucket.proofs.exchanged.Reads as exchanged-reads
-use Rattle.bucket.proofs.power.Reads as power-reads
 
--- src/lib.rt:236:13
 row-of-requires : tie.Need-row-of-requires
 row-of-requires c κs = search needs
 
--- src/lib.rt:240:21
 mul-u : tie.Need-mul-u
 mul-u c = search needs
 
--- src/lib.rt:240:21
 array-read-u : tie.Need-array-read-u
 array-read-u c = search needs
 
--- src/lib.rt:241:21
-cast-j : tie.Need-cast-j
-cast-j c = ?
+lowest-requires : tie.Need-lowest-requires
+lowest-requires c κs = search needs
 
--- src/lib.rt:242:17
 power-requires : tie.Need-power-requires
-power-requires c κs = ?
+power-requires c κs =
+    let b = c .before .before in
+    let a = b .before .before .args in
+    let h : length (a .self .cols) ≡ 64 = search needs in
+    let f : Fits w64 (getD (a .self .cols) (b .before .row-of .result) 0) = search needs in
+    freed-lt 64 (a .k) (a .self) h (b .before .row-of .ensures) (b .if1 .taken) (f .fits) (c .lowest .ensures)
 
--- src/lib.rt:243:40
 col-step-requires : tie.Need-col-step-requires
 col-step-requires c κs = search needs
 
--- src/lib.rt:243:17
 exchanged-requires : tie.Need-exchanged-requires
-exchanged-requires c κs = ?
+exchanged-requires c κs =
+    let b = c .before .before .before .before in
+    let a = b .before .before .args in
+    let h : length (a .self .cols) ≡ 64 = search needs in
+    let f : Fits w64 (getD (a .self .cols) (b .before .row-of .result) 0) = search needs in
+    (b .if1 .taken, freed-lt 64 (a .k) (a .self) h (b .before .row-of .ensures) (b .if1 .taken) (f .fits) (c .before .before .lowest .ensures))
 
--- src/lib.rt:245:13
 returns : tie.Need-returns
-returns c = ?
+unfolding withdraw withdrawAt
+returns c =
+    let b = c .before .before .before .before .before .before in
+    let a = b .before .before .args in
+    let h : length (a .self .cols) ≡ 64 = search needs in
+    rw (live-row 64 (a .k) (a .self) h, ← b .before .row-of .ensures, lt-ltb _ _ (b .if1 .taken), c .before .exchanged .ensures, c .before .before .col-step .ensures, c .before .before .before .power .ensures, c .before .before .before .before .lowest .ensures)
 
--- src/lib.rt:233:5
 returns-2 : tie.Need-returns-2
-returns-2 c = ?
+unfolding withdraw
+returns-2 c =
+    let a = c .before .before .args in
+    let h : length (a .self .cols) ≡ 64 = search needs in
+    rw (live-row 64 (a .k) (a .self) h, ← c .before .row-of .ensures, le-ltb _ _ (c .if1 .left))
 
 pub withdraw-spec : {M : Type 1} → statement M
 withdraw-spec =
@@ -51,7 +64,7 @@ withdraw-spec =
     row-of-requires
     mul-u
     array-read-u
-    cast-j
+    lowest-requires
     power-requires
     col-step-requires
     exchanged-requires
