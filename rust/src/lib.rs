@@ -5,6 +5,8 @@ pub mod answer;
 pub mod bucket;
 pub mod identifier;
 pub mod lines;
+#[cfg(feature = "linked")]
+pub mod ours;
 pub mod plane;
 pub mod rng;
 pub mod table;
