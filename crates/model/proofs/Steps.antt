@@ -3,7 +3,7 @@
 use Prim.Native.Nat.{ℕ, _<_, _≤_}
 use mathlib.Core.Path.{_≡_, refl, sym, ap, _∙_}
 use mathlib.Core.Bool.{true, false, true≢false, false≢true}
-use mathlib.Core.Logic.{_↔_}
+use mathlib.Core.Logic.{_↔_, _⊎_}
 use mathlib.Core.Option.{Option, none, some}
 use mathlib.Core.List.{List}
 use lib.Dec.{ltb}
@@ -16,32 +16,36 @@ use Rattle.answer.specs.declared.Answer.{Answer}
 use Rattle.answer.specs.declared.Answer.the-variants.{Accepted, Live, NotLive, Full}
 use Rattle.model.specs.Levels.{Level, due, passed}
 use Rattle.model.specs.Model.{baseLimit, State, Call, add, addOf, change, withdraw, query, Outcome, withLive, settled, base, stepAdd, stepLive, step}
-use Rattle.model.specs.History.{accepted}
+use Rattle.model.specs.Machine.{accepted}
 use Rattle.model.proofs.Levels.{lower-largest}
 
-module _ (L1 L2 : Level) where
-  live-keeps : (s : State) (l : List Entry) (o : Option ℕ) → (stepLive L1 L2 s l o .after .bounds1 ≡ s .bounds1) × (stepLive L1 L2 s l o .after .bounds2 ≡ s .bounds2)
-  live-keeps s l none = (refl, refl)
-  live-keeps s l (some p) = (refl, refl)
+-- t has the bounds of s
+abbrev pub Keeps : State → State → Type 0
+Keeps s t = (t .bounds1 ≡ s .bounds1) × (t .bounds2 ≡ s .bounds2)
 
+live-keeps : (s : State) (l : List Entry) (o : Option ℕ) → Keeps s (stepLive s l o .after)
+live-keeps s l none = (refl, refl)
+live-keeps s l (some p) = (refl, refl)
+
+live-refused : (s : State) (l : List Entry) (o : Option ℕ) → accepted (stepLive s l o .answer) ≡ false → stepLive s l o .after ≡ s
+live-refused s l none r = refl
+live-refused s l (some p) r = absurd (true≢false r)
+
+module _ (L1 L2 : Level) where
   -- a query changes nothing
   pub query-keeps : (s : State) (w : ℕ) → step L1 L2 s (query w) .after ≡ s
   query-keeps s w = go (find w (s .live))
     where
-      go : (o : Option ℕ) → stepLive L1 L2 s (s .live) o .after ≡ s
+      go : (o : Option ℕ) → stepLive s (s .live) o .after ≡ s
       go none = refl
       go (some p) = refl
 
   -- changes and withdrawals keep every bound
-  pub change-keeps : (s : State) (w p : ℕ) → (step L1 L2 s (change w p) .after .bounds1 ≡ s .bounds1) × (step L1 L2 s (change w p) .after .bounds2 ≡ s .bounds2)
+  pub change-keeps : (s : State) (w p : ℕ) → Keeps s (step L1 L2 s (change w p) .after)
   change-keeps s w p = live-keeps s (update (record { word = w; plan = p }) (s .live)) (find w (s .live))
 
-  pub withdraw-keeps : (s : State) (w : ℕ) → (step L1 L2 s (withdraw w) .after .bounds1 ≡ s .bounds1) × (step L1 L2 s (withdraw w) .after .bounds2 ≡ s .bounds2)
+  pub withdraw-keeps : (s : State) (w : ℕ) → Keeps s (step L1 L2 s (withdraw w) .after)
   withdraw-keeps s w = live-keeps s (remove w (s .live)) (find w (s .live))
-
-  live-refused : (s : State) (l : List Entry) (o : Option ℕ) → accepted (stepLive L1 L2 s l o .answer) ≡ false → stepLive L1 L2 s l o .after ≡ s
-  live-refused s l none r = refl
-  live-refused s l (some p) r = absurd (true≢false r)
 
   -- a refused call changes nothing
   pub refused-keeps : (s : State) (c : Call ℕ) → accepted (step L1 L2 s c .answer) ≡ false → step L1 L2 s c .after ≡ s
@@ -58,6 +62,10 @@ module _ (L1 L2 : Level) where
   refused-keeps s (change w p) = live-refused s (update (record { word = w; plan = p }) (s .live)) (find w (s .live))
   refused-keeps s (withdraw w) = live-refused s (remove w (s .live)) (find w (s .live))
   refused-keeps s (query w) = λ r. query-keeps s w
+
+  -- o is a refusal that changes nothing, or what the call c does
+  abbrev pub Follows : State → Call ℕ → Outcome → Type 0
+  Follows s c o = ((accepted (o .answer) ≡ false) × (o .after ≡ s)) ⊎ (o ≡ step L1 L2 s c)
 
   -- ---- the bounds that the live words l would leave: first level before second
 
@@ -125,7 +133,7 @@ module _ (L1 L2 : Level) where
       (withdraws : (w q : ℕ) → find w (s .live) ≡ some q → P (withdraw w) (record { answer = Accepted q; after = withLive s (remove w (s .live)) }))
       (queries : (w q : ℕ) → P (query w) (record { answer = Accepted q; after = s })) where
     live-cases : (c : Call ℕ) (l : List Entry) (o : Option ℕ)
-        → ((q : ℕ) → o ≡ some q → P c (record { answer = Accepted q; after = withLive s l })) → P c (stepLive L1 L2 s l o)
+        → ((q : ℕ) → o ≡ some q → P c (record { answer = Accepted q; after = withLive s l })) → P c (stepLive s l o)
     live-cases c l none f = refused c NotLive refl
     live-cases c l (some q) f = f q refl
 
