@@ -10,14 +10,14 @@ use mathlib.Core.Option.{Option, none, some}
 use lib.Dec.{ltb}
 use lib.ListN.{length}
 use borrow.Author.Tests.{ne-eqb}
-use Rattle.lists.specs.Entries.{Entry, find, insert}
+use Rattle.lists.specs.Entries.{Entry, find}
 use Rattle.lists.proofs.Tests.{by-test}
 use Rattle.answer.specs.Numbers.{numberOf}
 use Rattle.identifier.specs.Identifier.{sized, firstRefused, wordOf, readOf}
 use Rattle.identifier.specs.declared.Read.{Read}
 use Rattle.identifier.specs.declared.Read.the-variants.{Word, Refused}
 use Rattle.model.specs.Levels.{Level, firstLevel, secondLevel}
-use Rattle.model.specs.Model.{baseLimit, State, Call, add, change, withdraw, query, Outcome, stepLive, settled, base, stepAdd, step}
+use Rattle.model.specs.Model.{baseLimit, State, Call, add, change, withdraw, query, Outcome, stepLive, wouldLeave, base, stepAdd, step}
 use Rattle.model.specs.Request.{subject, askOf, byWord, serveRead, serve}
 use Rattle.model.specs.Machine.{accepted}
 use Rattle.model.proofs.Steps.{refused-keeps, Follows}
@@ -64,7 +64,7 @@ step-never L1 L2 s (add w p) = go (find w (s .live))
     go : (o : Option ℕ) → Never45 (numberOf (stepAdd L1 L2 s e o .answer))
     go (some q) = omega arith
     go none =
-        by-test (λ (o : Outcome). Never45 (numberOf (o .answer))) (ltb baseLimit (length (base L1 L2 (settled L1 L2 s (insert e (s .live))))))
+        by-test (λ (o : Outcome). Never45 (numberOf (o .answer))) (ltb baseLimit (length (base L1 L2 (wouldLeave L1 L2 s e))))
         (λ t. omega arith) (λ t. omega arith)
 step-never L1 L2 s (change w p) = live-never s _ (find w (s .live))
 step-never L1 L2 s (withdraw w) = live-never s _ (find w (s .live))

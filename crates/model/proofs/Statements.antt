@@ -1,5 +1,6 @@
--- The laws that others cite, each under the sentence that it stands for, in document 01's order. To read them takes specs/ and
--- `Largest` (gf2, specs/Bound.antt); each is proved in the file whose name stands before its dot. Assumes nothing.
+-- The laws that others cite, each under the sentence that it stands for. To read them takes specs/ and `Largest` (gf2, specs/Bound.antt);
+-- `arrivals` and `lift-fits` also take the definitions that they name. What stands before a dot is the file with the proof.
+-- Assumes nothing.
 use Prim.Native.Nat.{ℕ, _+_, _<_, _≤_}
 use native.Mathlib.Omega.{arith}
 use mathlib.Core.Path.{_≡_, refl}
@@ -14,7 +15,7 @@ use Rattle.gf2.specs.Bound.{Largest}
 use Rattle.answer.specs.Numbers.{numberOf}
 use Rattle.answer.specs.declared.Answer.the-variants.{Full}
 use Rattle.model.specs.Levels.{Level, firstLevel, secondLevel, passed, due, lower}
-use Rattle.model.specs.Model.{State, Call, addOf, change, withdraw, query, Outcome, opened, settled, base, step, lifted}
+use Rattle.model.specs.Model.{State, Call, addOf, change, withdraw, query, Outcome, opened, wouldLeave, base, step, lifted}
 use Rattle.model.specs.Request.{byWord, serve}
 use Rattle.model.specs.Machine.{Machine, accepted, after, answers, acceptedOf, AllAccepted, Alike, Refines, Compares}
 use Rattle.model.specs.History.{wordModel, model, acceptedCalls, addsIn, withdrawalsIn, told}
@@ -55,16 +56,16 @@ module _ (L1 L2 : Level) (s : State) (e : Entry) where
   bounds-second a i h = rw (Steps.added L1 L2 s e a .left) (Steps.bounds-second L1 L2 s (insert e (s .live)) i h)
 
   -- statement 3, the base list: refused as full exactly when more than 64 words would fall to it under the bounds that the add would so
-  -- leave. (`settled` is the state that it would leave: Steps.bounds-first and Steps.bounds-second say so, accepted or not.)
-  pub full-exactly : find (e .word) (s .live) ≡ none → (outcome .answer ≡ Full) ↔ (64 < length (base L1 L2 (settled L1 L2 s (insert e (s .live)))))
+  -- leave (Steps.bounds-first and Steps.bounds-second: these are those of wouldLeave, accepted or not)
+  pub full-exactly : find (e .word) (s .live) ≡ none → (outcome .answer ≡ Full) ↔ (64 < length (base L1 L2 (wouldLeave L1 L2 s e)))
   full-exactly f = Steps.full-exactly L1 L2 s e f
 
 module _ (L1 L2 : Level) (s : State) where
   -- "changes, withdrawals, queries and refused calls keep them": queries and refused calls keep everything
-  pub change-keeps : (w p : ℕ) → Steps.Keeps s (step L1 L2 s (change w p) .after)
+  pub change-keeps : (w p : ℕ) → (step L1 L2 s (change w p) .after .bounds1 ≡ s .bounds1) × (step L1 L2 s (change w p) .after .bounds2 ≡ s .bounds2)
   change-keeps = Steps.change-keeps L1 L2 s
 
-  pub withdraw-keeps : (w : ℕ) → Steps.Keeps s (step L1 L2 s (withdraw w) .after)
+  pub withdraw-keeps : (w : ℕ) → (step L1 L2 s (withdraw w) .after .bounds1 ≡ s .bounds1) × (step L1 L2 s (withdraw w) .after .bounds2 ≡ s .bounds2)
   withdraw-keeps = Steps.withdraw-keeps L1 L2 s
 
   pub query-keeps : (w : ℕ) → step L1 L2 s (query w) .after ≡ s
@@ -73,8 +74,8 @@ module _ (L1 L2 : Level) (s : State) where
   pub refused-keeps : (c : Call ℕ) → accepted (step L1 L2 s c .answer) ≡ false → step L1 L2 s c .after ≡ s
   refused-keeps = Steps.refused-keeps L1 L2 s
 
--- "While it depends there, the bound falls by one": words that so arrive at a level one after the other, in any order, leave the bounds
--- that one look at all of them leaves. Before, under the bounds no non-empty selection of the words ws XORs to zero
+-- "While it depends there, the bound falls by one": words that so arrive at a level one after the other, in any order, where no non-empty
+-- selection of the words ws that are due there already XORs to zero, leave the bounds that one look at all of them leaves
 pub arrivals : (L : Level) (n : ℕ) → 0 < n → (bounds ws new vs : List ℕ) → length bounds ≡ n → Levels.AllFree L n bounds ws → List·Permᴰ (new ++ ws) vs
     → Arrivals.arrives L n bounds ws new ≡ lower L n bounds vs
 arrivals = Arrivals.arrives-all
@@ -132,6 +133,6 @@ pub order-of-adds : (L1 L2 : Level) (b1 b2 : ℕ) {ds es : List Entry} → List�
     × (after (wordModel L1 L2) (opened b1 b2) (map addOf ds) ≡ after (wordModel L1 L2) (opened b1 b2) (map addOf es))
 order-of-adds = Orders.order-free
 
--- order 9: a lift never overfills the base list (Valid: of every state that calls reach, Calls.valid-after, also by lifts, Lift.valid-lifted)
+-- order 9: a lift never overfills the base list. Every state is valid that calls reach (Calls.valid-after) or a lift leaves (Lift.valid-lifted)
 pub lift-fits : (L1 L2 : Level) (s : State) → Valid.Valid L1 L2 s → length (base L1 L2 (lifted L1 L2 s)) ≤ 64
 lift-fits = Lift.lift-fits

@@ -15,7 +15,7 @@ use Rattle.gf2.specs.Bound.{Largest}
 use Rattle.answer.specs.declared.Answer.{Answer}
 use Rattle.answer.specs.declared.Answer.the-variants.{Accepted, Live, NotLive, Full}
 use Rattle.model.specs.Levels.{Level, due, passed}
-use Rattle.model.specs.Model.{baseLimit, State, Call, add, addOf, change, withdraw, query, Outcome, withLive, settled, base, stepAdd, stepLive, step}
+use Rattle.model.specs.Model.{baseLimit, State, Call, add, addOf, change, withdraw, query, Outcome, withLive, settled, wouldLeave, base, stepAdd, stepLive, step}
 use Rattle.model.specs.Machine.{accepted}
 use Rattle.model.proofs.Levels.{lower-largest}
 
@@ -57,7 +57,7 @@ module _ (L1 L2 : Level) where
       go : (o : Option ℕ) → accepted (stepAdd L1 L2 s e o .answer) ≡ false → stepAdd L1 L2 s e o .after ≡ s
       go (some q) = λ r. refl
       go none =
-          by-test (λ (x : Outcome). accepted (x .answer) ≡ false → x .after ≡ s) (ltb baseLimit (length (base L1 L2 (settled L1 L2 s (insert e (s .live))))))
+          by-test (λ (x : Outcome). accepted (x .answer) ≡ false → x .after ≡ s) (ltb baseLimit (length (base L1 L2 (wouldLeave L1 L2 s e))))
           (λ t r. refl) (λ t r. absurd (true≢false r))
   refused-keeps s (change w p) = live-refused s (update (record { word = w; plan = p }) (s .live)) (find w (s .live))
   refused-keeps s (withdraw w) = live-refused s (remove w (s .live)) (find w (s .live))
@@ -82,21 +82,21 @@ module _ (L1 L2 : Level) where
 
   module _ (s : State) (e : Entry) (f : find (e .word) (s .live) ≡ none) where
     -- accepted where the base list has room
-    pub accepts : length (base L1 L2 (settled L1 L2 s (insert e (s .live)))) ≤ baseLimit
+    pub accepts : length (base L1 L2 (wouldLeave L1 L2 s e)) ≤ baseLimit
         → step L1 L2 s (addOf e)
-        ≡ record { answer = Accepted (length (insert e (s .live))); after = settled L1 L2 s (insert e (s .live)) }
-    accepts h = ap (stepAdd L1 L2 s e) f ∙ cond-false _ _ (le-ltb baseLimit (length (base L1 L2 (settled L1 L2 s (insert e (s .live))))) h)
+        ≡ record { answer = Accepted (length (insert e (s .live))); after = wouldLeave L1 L2 s e }
+    accepts h = ap (stepAdd L1 L2 s e) f ∙ cond-false _ _ (le-ltb baseLimit (length (base L1 L2 (wouldLeave L1 L2 s e))) h)
 
     -- refused as full where it has not
-    pub overfull : baseLimit < length (base L1 L2 (settled L1 L2 s (insert e (s .live))))
+    pub overfull : baseLimit < length (base L1 L2 (wouldLeave L1 L2 s e))
         → step L1 L2 s (addOf e) ≡ record { answer = Full; after = s }
-    overfull h = ap (stepAdd L1 L2 s e) f ∙ cond-true _ _ (lt-ltb baseLimit (length (base L1 L2 (settled L1 L2 s (insert e (s .live))))) h)
+    overfull h = ap (stepAdd L1 L2 s e) f ∙ cond-true _ _ (lt-ltb baseLimit (length (base L1 L2 (wouldLeave L1 L2 s e))) h)
 
     -- refused as full exactly where it has not
-    pub full-exactly : (step L1 L2 s (addOf e) .answer ≡ Full) ↔ (baseLimit < length (base L1 L2 (settled L1 L2 s (insert e (s .live)))))
+    pub full-exactly : (step L1 L2 s (addOf e) .answer ≡ Full) ↔ (baseLimit < length (base L1 L2 (wouldLeave L1 L2 s e)))
     full-exactly = (
-      λ r. cases (ltb baseLimit (length (base L1 L2 (settled L1 L2 s (insert e (s .live))))))
-          (λ t. ltb-true baseLimit (length (base L1 L2 (settled L1 L2 s (insert e (s .live))))) t)
+      λ r. cases (ltb baseLimit (length (base L1 L2 (wouldLeave L1 L2 s e))))
+          (λ t. ltb-true baseLimit (length (base L1 L2 (wouldLeave L1 L2 s e))) t)
           (λ t. absurd (true≢false (ap accepted (sym (ap (λ (o : Outcome). o .answer) (accepts (ltb-false baseLimit _ t))) ∙ r)))),
       λ h. ap (λ (o : Outcome). o .answer) (overfull h),
     )
@@ -104,8 +104,8 @@ module _ (L1 L2 : Level) where
   -- what an accepted add tells
   pub record Added (s : State) (e : Entry) : Type 0 where
     pub fresh : find (e .word) (s .live) ≡ none
-    pub fits : length (base L1 L2 (settled L1 L2 s (insert e (s .live)))) ≤ baseLimit
-    pub left : step L1 L2 s (addOf e) ≡ record { answer = Accepted (length (insert e (s .live))); after = settled L1 L2 s (insert e (s .live)) }
+    pub fits : length (base L1 L2 (wouldLeave L1 L2 s e)) ≤ baseLimit
+    pub left : step L1 L2 s (addOf e) ≡ record { answer = Accepted (length (insert e (s .live))); after = wouldLeave L1 L2 s e }
 
   pub added : (s : State) (e : Entry) → accepted (step L1 L2 s (addOf e) .answer) ≡ true → Added s e
   added s e a = record { fresh = f; fits = h; left = accepts s e f h }
@@ -117,17 +117,17 @@ module _ (L1 L2 : Level) where
       f : find (e .word) (s .live) ≡ none
       f = go (find (e .word) (s .live)) refl a
 
-      h : length (base L1 L2 (settled L1 L2 s (insert e (s .live)))) ≤ baseLimit
+      h : length (base L1 L2 (wouldLeave L1 L2 s e)) ≤ baseLimit
       h =
-          cases (ltb baseLimit (length (base L1 L2 (settled L1 L2 s (insert e (s .live))))))
+          cases (ltb baseLimit (length (base L1 L2 (wouldLeave L1 L2 s e))))
           (λ t. absurd (false≢true (sym (ap (λ (o : Outcome). accepted (o .answer)) (overfull s e f (ltb-true baseLimit _ t))) ∙ a)))
-          (λ t. ltb-false baseLimit (length (base L1 L2 (settled L1 L2 s (insert e (s .live))))) t)
+          (λ t. ltb-false baseLimit (length (base L1 L2 (wouldLeave L1 L2 s e))) t)
 
   -- ---- the cases of a call: what holds in each holds of what it does
 
   module _ (s : State) (P : Call ℕ → Outcome → Type 0)
       (refused : (c : Call ℕ) (a : Answer) → accepted a ≡ false → P c (record { answer = a; after = s }))
-      (adds : (e : Entry) → Added s e → P (addOf e) (record { answer = Accepted (length (insert e (s .live))); after = settled L1 L2 s (insert e (s .live)) }))
+      (adds : (e : Entry) → Added s e → P (addOf e) (record { answer = Accepted (length (insert e (s .live))); after = wouldLeave L1 L2 s e }))
       (changes : (e : Entry) (q : ℕ) → find (e .word) (s .live) ≡ some q
       → P (change (e .word) (e .plan)) (record { answer = Accepted q; after = withLive s (update e (s .live)) }))
       (withdraws : (w q : ℕ) → find w (s .live) ≡ some q → P (withdraw w) (record { answer = Accepted q; after = withLive s (remove w (s .live)) }))
@@ -140,9 +140,9 @@ module _ (L1 L2 : Level) where
     add-cases : (e : Entry) (o : Option ℕ) → find (e .word) (s .live) ≡ o → P (addOf e) (stepAdd L1 L2 s e o)
     add-cases e (some q) f = refused (addOf e) (Live q) refl
     add-cases e none f =
-        by-test (P (addOf e)) (ltb baseLimit (length (base L1 L2 (settled L1 L2 s (insert e (s .live))))))
+        by-test (P (addOf e)) (ltb baseLimit (length (base L1 L2 (wouldLeave L1 L2 s e))))
         (λ t. refused (addOf e) Full refl)
-        (λ t. let h = ltb-false baseLimit (length (base L1 L2 (settled L1 L2 s (insert e (s .live))))) t in
+        (λ t. let h = ltb-false baseLimit (length (base L1 L2 (wouldLeave L1 L2 s e))) t in
         adds e (record { fresh = f; fits = h; left = accepts s e f h }))
 
     pub by-step : (c : Call ℕ) → P c (step L1 L2 s c)

@@ -69,11 +69,15 @@ module _ (L1 L2 : Level) where
       let second : List ℕ = lower L2 (s .buckets2) (s .bounds2) (passed L1 (s .buckets1) first (words l)) in
       record { buckets1 = s .buckets1; buckets2 = s .buckets2; live = l; bounds1 = first; bounds2 = second }
 
+  -- the state that the add of the new word e would leave
+  abbrev pub wouldLeave : State → Entry → State
+  wouldLeave s e = settled s (insert e (s .live))
+
   -- the live words that neither level holds: those of the base list (which has their w')
   abbrev pub base : State → List ℕ
   base s = passed L2 (s .buckets2) (s .bounds2) (passed L1 (s .buckets1) (s .bounds1) (words (s .live)))
 
-  -- the add that would leave t: an add for which the base list has no room changes nothing at all
+  -- the add that would leave t; where that needs a longer base list, the add changes nothing at all
   abbrev pub unlessFull : State → State → Outcome
   unlessFull s t =
       cond (ltb baseLimit (length (base t)))
@@ -83,7 +87,7 @@ module _ (L1 L2 : Level) where
   -- the add of e, by the plan of its word, if that is live
   abbrev pub stepAdd : State → Entry → Option ℕ → Outcome
   stepAdd s e (some p) = record { answer = Live p; after = s }
-  stepAdd s e none = unlessFull s (settled s (insert e (s .live)))
+  stepAdd s e none = unlessFull s (wouldLeave s e)
 
   -- what a call does
   abbrev pub step : State → Call ℕ → Outcome
