@@ -57,7 +57,7 @@ module _ (L1 L2 : Level) (s : State) (e : Entry) where
 
   -- statement 3, the base list: refused as full exactly when more than 64 words would fall to it under the bounds that the add would so
   -- leave (Steps.bounds-first and Steps.bounds-second: these are those of wouldLeave, accepted or not)
-  pub full-exactly : find (e .word) (s .live) ≡ none → (outcome .answer ≡ Full) ↔ (64 < length (base L1 L2 (wouldLeave L1 L2 s e)))
+  pub full-exactly : find (e .word) (s .live) ≡ none → (step L1 L2 s (addOf e) .answer ≡ Full) ↔ (64 < length (base L1 L2 (wouldLeave L1 L2 s e)))
   full-exactly f = Steps.full-exactly L1 L2 s e f
 
 module _ (L1 L2 : Level) (s : State) where
