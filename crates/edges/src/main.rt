@@ -69,7 +69,7 @@ fn every_byte() {
     }
 }
 
-fn main() {
+fn lengths() {
     named(b"");
     named(b"a");
     named(b"A");
@@ -77,6 +77,9 @@ fn main() {
     named(b"123456789012345678901");
     named(b"abcdefghijklmnopqrst");
     named(b"ABCDEFGHIJKLMNOPQRST");
+}
+
+fn letters_and_marks() {
     named(b"Bus-17");
     named(b"BUS-17");
     named(b"bus-17");
@@ -86,6 +89,9 @@ fn main() {
     named(b"|");
     named(b"0");
     named(b"*-_=:+|@.");
+}
+
+fn refused() {
     named(b"a/b");
     named(b"/ab");
     named(b"ab/");
@@ -93,5 +99,11 @@ fn main() {
     named(b"a b");
     named(b"12345678901234567890/");
     named(b"1234567890123456789/");
+}
+
+fn main() {
+    lengths();
+    letters_and_marks();
+    refused();
     every_byte();
 }

@@ -1,7 +1,6 @@
 // Entries for other languages over hash, codec and identifier: a program made without this code is compared with them.
 // Definition: specs/Probe.antt.
 // Cites answer, codec, hash and identifier. Nothing cites it.
-use answer::Answer;
 use identifier::Identifier;
 use identifier::Read;
 ghost use mathlib.Core.Path.{_≡_};
@@ -11,13 +10,13 @@ ghost use Rattle.codec.specs.Parts.{partAt, written};
 ghost use Rattle.hash.specs.Mix.{mixOf, unmixOf};
 ghost use Rattle.hash.specs.Fnv.{fnvOf};
 ghost use Rattle.identifier.specs.Identifier.{readOf};
-ghost use Rattle.probe.specs.Probe.{answerOf};
+ghost use Rattle.probe.specs.Probe.{wordAnswer};
 
 // The number of the answer to the bytes of an identifier, 0 if they are accepted. What is returned with it goes into value:
 // the word, if they are accepted.
 #[no_mangle]
 pub extern "C" fn probe_word(id: &[u8], value: &mut u64) -> u64
-    ensures { λ r. ⌜ (r ≡ numberOf (answerOf (readOf (now (id .entry))))) × (now (value .exit) ≡ valueOf (answerOf (readOf (now (id .entry))))) ⌝ }
+    ensures { λ r. ⌜ (r ≡ numberOf (wordAnswer (readOf (now (id .entry))))) × (now (value .exit) ≡ valueOf (wordAnswer (readOf (now (id .entry))))) ⌝ }
 {
     let read = Identifier::read(id);
     match read {

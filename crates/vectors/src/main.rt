@@ -52,7 +52,7 @@ fn in_hex(n: u64, published: u64) -> u64 {
     next(n)
 }
 
-fn main() {
+fn letters() {
     fnv(b"");
     fnv(b"a");
     fnv(b"b");
@@ -60,11 +60,17 @@ fn main() {
     fnv(b"d");
     fnv(b"e");
     fnv(b"f");
+}
+
+fn foobar() {
     fnv(b"fo");
     fnv(b"foo");
     fnv(b"foob");
     fnv(b"fooba");
     fnv(b"foobar");
+}
+
+fn chongo() {
     fnv(b"ch");
     fnv(b"cho");
     fnv(b"chon");
@@ -73,14 +79,28 @@ fn main() {
     fnv(b"chongo ");
     fnv(b"chongo was here!");
     fnv(b"chongo was here!\n");
+}
+
+fn seed_1234567() {
     let mut n = in_decimal(1234567, 6457827717110365317);
     n = in_decimal(n, 3203168211198807973);
     n = in_decimal(n, 9817491932198370423);
     n = in_decimal(n, 4593380528125082431);
     in_decimal(n, 16408922859458223821);
+}
+
+fn seed_0() {
     let mut m = in_hex(0, 0xe220_a839_7b1d_cdaf);
     m = in_hex(m, 0x6e78_9e6a_a1b9_65f4);
     m = in_hex(m, 0x06c4_5d18_8009_454f);
     m = in_hex(m, 0xf88b_b8a8_724c_81ec);
     in_hex(m, 0x1b39_896a_51a8_749b);
+}
+
+fn main() {
+    letters();
+    foobar();
+    chongo();
+    seed_1234567();
+    seed_0();
 }
