@@ -1,3 +1,4 @@
 -- The laws of the crate.
+pub mod Arrays
 pub mod Hold
 pub mod Settle

@@ -3,7 +3,6 @@
 // them; proofs/Hold.antt what a bucket holds as a list of entries, proofs/Settle.antt where the bound comes to stand, who stays and
 // who leaves. Cites gf2, lists, bucket, eliminate (the rows of K) and identifier (thresholds); table builds on it.
 use bucket::Bucket;
-
 ghost use mathlib.Core.Path.{_≡_};
 ghost use mathlib.Core.List.{[]};
 ghost use Prim.Native.Nat.{_+_, _<_, _≤_};
@@ -50,7 +49,12 @@ pub(crate) fn place_of(vectors: [u64; Outgoing::MOST], count: usize, v: u64) -> 
 }
 
 // The first `count` elements of `from` written from element `at` on.
-pub(crate) fn pasted(words: [u64; Outgoing::MOST], at: usize, from: [u64; Outgoing::MOST], count: usize) -> [u64; Outgoing::MOST]
+pub(crate) fn pasted(
+    words: [u64; Outgoing::MOST],
+    at: usize,
+    from: [u64; Outgoing::MOST],
+    count: usize,
+) -> [u64; Outgoing::MOST]
     requires { do ⌜ at + count ≤ (← ⟦Outgoing::MOST⟧) ⌝ }
     ensures { λ r. ⌜ r ≡ paste words at from count ⌝ }
 {

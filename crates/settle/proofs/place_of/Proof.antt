@@ -1,46 +1,59 @@
+-- `settle::place_of` meets its contract: no vector that the loop passed is larger than v.
+-- Assumes nothing.
+use mathlib.Core.Path.{_≡_}
+use Prim.Native.Nat.{_+_, _-_, _≤_}
+use native.Mathlib.Omega.{arith}
+use native.Mathlib.Numerals.{add-one}
+use lib.ListN.{length, take, drop}
+use Rattle.settle.proofs.Arrays.{place-here, place-next, place-end}
+use Rattle.settle.specs.Outgoing.{placeOf}
 use borrow.Author.Needs.{needs}
 use Rattle.settle.proofs.place_of.Statement.{statement}
 use Rattle.settle.proofs.place_of.Tie as tie
-use Rattle.settle.proofs.place_of.Reads as reads
-use Rattle.settle.proofs.place_of.Lts as lts
 
 abbrev Inv-loop : tie.InvT-loop
-Inv-loop count v vectors i₀ i = ?
+Inv-loop count v vectors i₀ i = (i ≤ count) × (placeOf v (take count vectors) ≡ i + placeOf v (drop i (take count vectors)))
 
 abbrev μ-loop : tie.MeasureT-loop
-μ-loop count v vectors i₀ i = ?
+μ-loop count v vectors i₀ i = count - i
 
--- src/lib.rt:43:5
 loop-holds : tie.Need-loop-holds Inv-loop μ-loop
-loop-holds c = search needs
+loop-holds c = (search needs, search needs)
 
--- src/lib.rt:44:16
 mul-if1 : tie.Need-mul-if1 Inv-loop μ-loop
 mul-if1 c = search needs
 
--- src/lib.rt:44:16
 array-read-if1 : tie.Need-array-read-if1 Inv-loop μ-loop
 array-read-if1 c = search needs
 
--- src/lib.rt:45:13
 returns : tie.Need-returns Inv-loop μ-loop
-returns c = search needs
+returns c =
+    let l = c .before .before .loop in
+    let a = c .before .before .before .args in
+    let e : length (a .t1) ≡ 65 = search needs in
+    let h : a .count ≤ length (a .t1) = omega arith in
+    omega (arith, place-here (a .v) (a .t1) (a .count) (l .i) h (c .before .loop-test .taken) (c .if1 .taken))
 
--- src/lib.rt:47:9
 add-i : tie.Need-add-i Inv-loop μ-loop
 add-i c = search needs
 
--- src/lib.rt:43:5
 loop-less : tie.Need-loop-less Inv-loop μ-loop
 loop-less c = search needs
 
--- src/lib.rt:43:5
 loop-again : tie.Need-loop-again Inv-loop μ-loop
-loop-again c = search needs
+loop-again c =
+    let l = c .before .before .loop in
+    let a = c .before .before .before .args in
+    let e : length (a .t1) ≡ 65 = search needs in
+    let h : a .count ≤ length (a .t1) = omega arith in
+    (search needs, rw add-one (omega (arith, place-next (a .v) (a .t1) (a .count) (l .i) h (c .before .loop-test .taken) (c .if1 .left))))
 
--- src/lib.rt:38:1
 returns-2 : tie.Need-returns-2 Inv-loop μ-loop
-returns-2 c = search needs
+returns-2 c =
+    let l = c .before .loop in
+    let a = c .before .before .args in
+    let h : a .count ≤ l .i = omega arith in
+    omega (arith, place-end (a .v) (a .t1) (a .count) (l .i) h)
 
 pub place-of-spec : {M : Type 1} → statement M
 place-of-spec =
