@@ -1,0 +1,71 @@
+// What a call answers: accepted, or the cause for which it is turned down, with what is returned with each.
+// Definitions: specs/Numbers.antt, document 01's number and value of each case. Law: proofs/Determined.antt.
+// A later order adds its causes here and nowhere else.
+// Cites nothing of the project; every crate with a call cites it.
+ghost use mathlib.Core.Path.{_≡_};
+ghost use Rattle.answer.specs.Numbers.{numberOf, valueOf};
+
+// One case for accepted and one for each cause of document 01's table, in its order.
+pub enum Answer {
+    // Accepted: what the call returns.
+    Accepted(u64),
+    // Identifier of 0 or over 20 bytes: its length.
+    WrongLength(u64),
+    // Byte not allowed: index of the first.
+    WrongByte(u64),
+    // Bucket numbers out of range at opening.
+    WrongBuckets,
+    // Table under 4 numbers, header bucket numbers out of range, or length not as they give: the length.
+    WrongTable(u64),
+    // Table not sound.
+    NotSound,
+    // Add: word live: its plan.
+    Live(u64),
+    // Change, withdraw, query: not live.
+    NotLive,
+    // Base list full.
+    Full,
+    // Output shorter than the plane: length needed.
+    ShortOutput(u64),
+    // Plane wrong: offset of the first record that is cut, of a wrong kind or with a value not allowed, or of the first
+    // byte after kind 4.
+    WrongPlane(u64),
+}
+
+// The number of an answer: 0 if accepted, else that of the cause.
+pub fn number(a: Answer) -> u64
+    ensures { λ r. ⌜ r ≡ numberOf a ⌝ }
+{
+    match a {
+        Answer::Accepted(_) => 0,
+        Answer::WrongLength(_) => 1,
+        Answer::WrongByte(_) => 2,
+        Answer::WrongBuckets => 3,
+        Answer::WrongTable(_) => 4,
+        Answer::NotSound => 5,
+        Answer::Live(_) => 6,
+        Answer::NotLive => 7,
+        Answer::Full => 8,
+        Answer::ShortOutput(_) => 9,
+        Answer::WrongPlane(_) => 10,
+    }
+}
+
+// What is returned with it.
+pub fn value(a: Answer) -> u64
+    ensures { λ r. ⌜ r ≡ valueOf a ⌝ }
+{
+    match a {
+        Answer::Accepted(n) => n,
+        Answer::WrongLength(n) => n,
+        Answer::WrongByte(i) => i,
+        Answer::WrongBuckets => 0,
+        Answer::WrongTable(n) => n,
+        Answer::NotSound => 0,
+        Answer::Live(p) => p,
+        Answer::NotLive => 0,
+        Answer::Full => 0,
+        Answer::ShortOutput(n) => n,
+        Answer::WrongPlane(i) => i,
+    }
+}

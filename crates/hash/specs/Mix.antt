@@ -1,0 +1,36 @@
+-- S, document 01's "S(n), all sums and products modulo 2^64", and its inverse.
+use Prim.Native.Nat.{ℕ, zero, suc, _+_, _*_, _/_, _%_, _^_}
+use lib.Bits.{bitXor}
+
+-- x + c, modulo 2 ^ w
+abbrev pub addMod : ℕ → ℕ → ℕ → ℕ
+addMod w c x = (x + c) % 2 ^ w
+
+-- x × c, modulo 2 ^ w
+abbrev pub mulMod : ℕ → ℕ → ℕ → ℕ
+mulMod w c x = (x * c) % 2 ^ w
+
+-- x XOR x>>s
+abbrev pub xorShift : ℕ → ℕ → ℕ
+xorShift s x = bitXor x (x / 2 ^ s)
+
+-- document 01's S(n)
+unfoldable pub mixOf : ℕ → ℕ
+mixOf n =
+    let z₁ = addMod 64 0x9e3779b97f4a7c15 n in
+    let z₂ = mulMod 64 0xbf58476d1ce4e5b9 (xorShift 30 z₁) in
+    let z₃ = mulMod 64 0x94d049bb133111eb (xorShift 27 z₂) in
+    xorShift 31 z₃
+
+-- x XOR x>>s XOR .. XOR x>>(k × s): undoes xorShift s on s × (k + 1) bits
+abbrev pub unXorShift : ℕ → ℕ → ℕ → ℕ
+unXorShift s zero x = x
+unXorShift s (suc k) x = bitXor x (unXorShift s k (x / 2 ^ s))
+
+-- the inverse of S, its steps undone from the last to the first: the factors are the inverses modulo 2^64 of those of S, the summand is 2^64 less that of S
+unfoldable pub unmixOf : ℕ → ℕ
+unmixOf n =
+    let z₃ = unXorShift 31 2 n in
+    let z₂ = unXorShift 27 2 (mulMod 64 0x319642b2d24d8ec3 z₃) in
+    let z₁ = unXorShift 30 2 (mulMod 64 0x96de1b173f119089 z₂) in
+    addMod 64 0x61c8864680b583eb z₁
