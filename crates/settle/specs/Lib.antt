@@ -1,3 +1,3 @@
 -- The definitions that the contracts of the crate cite.
-pub mod Outgoing
 pub mod Settle
+pub mod Outgoing

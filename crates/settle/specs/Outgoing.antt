@@ -1,12 +1,17 @@
 -- The words that leave a bucket as the code keeps them: two arrays of m numbers, of which the first are used.
 -- Assumes nothing.
-use Prim.Native.Nat.{ℕ, suc, _+_, _-_}
+use Prim.Native.Nat.{ℕ, zero, suc, _+_, _-_}
 use mathlib.Core.Bool.{cond}
 use mathlib.Core.List.{List, [], _∷_, _++_, map}
-use lib.Dec.{ltb}
+use lib.Dec.{eqb, ltb}
 use lib.ListN.{length, take, drop, replicate}
 use lib.Seq.{paste}
-use Rattle.lists.specs.Entries.{Entry, words}
+use Rattle.lists.specs.Lists.{keep}
+use Rattle.lists.specs.Entries.{Entry, words, sort}
+use Rattle.bucket.specs.declared.Bucket.{Bucket}
+use Rattle.bucket.specs.Bucket.{lookup}
+use Rattle.settle.specs.declared.Settled.{Settled}
+use Rattle.settle.specs.Settle.{listed, Settlement}
 use Rattle.settle.specs.declared.Outgoing.{Outgoing}
 
 -- the numbers, then zeros, m in all
@@ -45,3 +50,16 @@ joined p q = record {
   vectors = paste (p .vectors) (p .count) (q .vectors) (q .count);
   plans = paste (p .plans) (p .count) (q .plans) (q .count);
 }
+
+-- of the vectors ks of b those of threshold t, with their plans, smallest first
+unfoldable pub leavingOf : (ℕ → ℕ) → ℕ → Bucket → List ℕ → List Entry
+leavingOf thr t b ks = sort (keep (λ e. eqb (thr (e .word)) t) (listed b ks))
+
+-- v with its plan in b among the others, where d is set and v's threshold is t
+abbrev pub entered : ℕ → (ℕ → ℕ) → ℕ → Bucket → ℕ → Outgoing → Outgoing
+entered zero thr t b v q = q
+entered (suc d) thr t b v q = cond (eqb (thr v) t) (inserted v (lookup b v) q) q
+
+-- a settlement, its words in arrays of m
+abbrev pub settledOf : ℕ → Settlement → Settled
+settledOf m s = record { bucket = s .bucket; out = outgoing m (s .out) }

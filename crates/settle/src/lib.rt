@@ -17,6 +17,12 @@ pub struct Outgoing {
     pub plans: [u64; Outgoing::MOST],
 }
 
+// A bucket after an add, and the words that left it.
+pub struct Settled {
+    pub bucket: Bucket,
+    pub out: Outgoing,
+}
+
 // x before element i; the last element goes.
 pub(crate) fn put_in(words: [u64; Outgoing::MOST], i: usize, x: u64) -> [u64; Outgoing::MOST]
     ensures { λ r. ⌜ r ≡ putIn i x words ⌝ }
