@@ -75,6 +75,10 @@ pub same : {p q : Outgoing} → p .count ≡ q .count → p .vectors ≡ q .vect
 same c v l = λ i. record { count = c i; vectors = v i; plans = l i }
 
 module _ (m : ℕ) (es : List Entry) where
+  pub count-of : outgoing m es .count ≡ length es
+  unfolding outgoing
+  count-of = refl
+
   put-side : (f : Entry → ℕ) (i : ℕ) (e : Entry) → i ≤ length es → length es < m → putIn i (f e) (padded m (map f es)) ≡ padded m (map f (take i es ++ e ∷ drop i es))
   put-side f i e h l =
       let k : length (map f es) ≡ length es = length-map es f in
@@ -116,20 +120,24 @@ insert-law m es e l =
     let w : take (length es) (padded m (words es)) ≡ words es = take-at (words es) _ (length es) k in
     rw w (put-law m es (placeOf (e .word) (words es)) e (omega (arith, place-le (e .word) (words es))) l ∙ ap (outgoing m) (sym (placed e es)))
 
--- the loop that looks for the place of v among the first n
-module _ (v : ℕ) (xs : List ℕ) (n i : ℕ) (fits : n ≤ length xs) (inside : i < n) where
-  tail : drop i (take n xs) ≡ getD xs i 0 ∷ drop (suc i) (take n xs)
-  tail =
-      let h : i < length (take n xs) = rw length-take-le inside in
-      rw (drop-cons (take n xs) i 0 h, getD-take)
+-- ---- loops over the first m elements
 
-  pub place-here : v < getD xs i 0 → placeOf v (drop i (take n xs)) ≡ 0
-  place-here l = rw tail (cond-true 0 (suc (placeOf v (drop (suc i) (take n xs)))) (lt-ltb v (getD xs i 0) l))
+pub part : (xs : List ℕ) (m i : ℕ) → m ≤ length xs → i < m → drop i (take m xs) ≡ getD xs i 0 ∷ drop (suc i) (take m xs)
+part xs m i l h =
+    let k : i < length (take m xs) = rw length-take-le h in
+    rw (drop-cons (take m xs) i 0 k, getD-take)
 
-  pub place-next : getD xs i 0 ≤ v → placeOf v (drop i (take n xs)) ≡ suc (placeOf v (drop (suc i) (take n xs)))
-  place-next l = rw tail (cond-false 0 (suc (placeOf v (drop (suc i) (take n xs)))) (le-ltb v (getD xs i 0) l))
+pub past : (xs : List ℕ) (m i : ℕ) → m ≤ i → drop i (take m xs) ≡ []
+past xs m i h =
+    let k : length (take m xs) ≤ i = rw length-take (omega arith) in
+    drop-of-length-le (take m xs) k
 
-pub place-end : (v : ℕ) (xs : List ℕ) (n i : ℕ) → n ≤ i → placeOf v (drop i (take n xs)) ≡ 0
-place-end v xs n i h =
-    let k : length (take n xs) ≤ i = rw length-take (omega arith) in
-    rw (drop-of-length-le (take n xs) k)
+module _ (v : ℕ) (xs : List ℕ) (m i : ℕ) where
+  pub place-here : m ≤ length xs → i < m → v < getD xs i 0 → placeOf v (drop i (take m xs)) ≡ 0
+  place-here h k l = rw (part xs m i h k) (cond-true 0 (suc (placeOf v (drop (suc i) (take m xs)))) (lt-ltb v (getD xs i 0) l))
+
+  pub place-next : m ≤ length xs → i < m → getD xs i 0 ≤ v → placeOf v (drop i (take m xs)) ≡ suc (placeOf v (drop (suc i) (take m xs)))
+  place-next h k l = rw (part xs m i h k) (cond-false 0 (suc (placeOf v (drop (suc i) (take m xs)))) (le-ltb v (getD xs i 0) l))
+
+  pub place-end : m ≤ i → placeOf v (drop i (take m xs)) ≡ 0
+  place-end h = rw (past xs m i h)

@@ -3,12 +3,15 @@
 // them; proofs/Hold.antt what a bucket holds as a list of entries, proofs/Settle.antt where the bound comes to stand, who stays and
 // who leaves. Cites gf2, lists, bucket, eliminate (the rows of K) and identifier (thresholds); table builds on it.
 use bucket::Bucket;
+use identifier::threshold;
 ghost use mathlib.Core.Path.{_≡_};
 ghost use mathlib.Core.List.{[]};
 ghost use Prim.Native.Nat.{_+_, _<_, _≤_};
 ghost use lib.ListN.{take};
 ghost use lib.Seq.{paste};
-ghost use Rattle.settle.specs.Outgoing.{putIn, placeOf, outgoing, putAt, inserted, joined};
+ghost use Rattle.gf2.specs.Select.{chosen};
+ghost use Rattle.settle.specs.Settle.{SoundBucket, thresholdOf, leaving, withdrawAll, atBound, settle};
+ghost use Rattle.settle.specs.Outgoing.{putIn, placeOf, outgoing, putAt, inserted, joined, leavingOf, entered, settledOf};
 
 // The words that leave a bucket, with their plans, in order; unused elements are 0.
 pub struct Outgoing {
@@ -135,4 +138,48 @@ impl Outgoing {
             plans: pasted(plans, count, next_plans, more),
         }
     }
+}
+
+// The words with v and its plan in b among them, where d is set and v's threshold is t.
+pub(crate) fn entered(out: Outgoing, b: Bucket, d: u64, v: u64, t: u64) -> Outgoing
+    requires { do ⌜ out .count < (← ⟦Outgoing::MOST⟧) ⌝ }
+    ensures { λ r. ⌜ r ≡ entered d thresholdOf t b v out ⌝ }
+{
+    if d == 0 {
+        return out;
+    }
+    if threshold(v) != t {
+        return out;
+    }
+    out.insert(v, b.lookup(v))
+}
+
+// Of the rows that are occupied in b those of threshold t, with their plans, smallest first.
+pub(crate) fn leaving_of(b: Bucket, rows: [u64; Bucket::ROWS], t: u64) -> Outgoing
+    ensures { λ r. do ⌜ r ≡ outgoing (← ⟦Outgoing::MOST⟧ .entry) (leavingOf thresholdOf t b (chosen (b .mark) rows)) ⌝ }
+{
+    let mark = b.mark;
+    let mut out = Outgoing::none();
+    let mut i = Bucket::ROWS;
+    while 0 < i {
+        i -= 1;
+        out = entered(out, b, (mark >> i) % 2, rows[i], t);
+    }
+    out
+}
+
+// Each of the words is withdrawn.
+pub(crate) fn withdraw_all(b: Bucket, out: Outgoing) -> Bucket
+    requires { do ⌜ out .count ≤ (← ⟦Outgoing::MOST⟧) ⌝ }
+    ensures { λ r. do ⌜ r ≡ withdrawAll (← ⟦Bucket::ROWS⟧ .entry) (take (out .count) (out .vectors)) b ⌝ }
+{
+    let vectors = out.vectors;
+    let count = out.count;
+    let mut left = b;
+    let mut i: usize = 0;
+    while i < count {
+        left = left.withdraw(vectors[i]).bucket;
+        i += 1;
+    }
+    left
 }
