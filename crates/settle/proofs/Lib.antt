@@ -3,3 +3,4 @@ pub mod Arrays
 pub mod Hold
 pub mod Leave
 pub mod Settle
+pub mod Sound
