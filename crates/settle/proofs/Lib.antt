@@ -2,5 +2,6 @@
 pub mod Arrays
 pub mod Hold
 pub mod Leave
+pub mod Run
 pub mod Settle
 pub mod Sound
