@@ -3,5 +3,5 @@ pub mod Arrays
 pub mod Hold
 pub mod Leave
 pub mod Run
-pub mod Settle
+pub mod Fall
 pub mod Sound

@@ -22,7 +22,7 @@ use Rattle.settle.specs.Settle.{SoundBucket, contents, leaving, withdraw
 use Rattle.settle.specs.Outgoing.{outgoing, putAt, joined, settledOf}
 use Rattle.settle.proofs.Arrays.{count-of, words-of, push-law, join-law}
 use Rattle.settle.proofs.Leave.{chosen-length}
-use Rattle.settle.proofs.Settle.{rows-of}
+use Rattle.settle.proofs.Fall.{rows-of}
 use Rattle.settle.proofs.Sound.{sound-listed, lowered-sound, lowered-length}
 
 -- ---- the three ways of the definition
@@ -80,12 +80,12 @@ module _ (n r m : ℕ) (thr : ℕ → ℕ) (e : Entry) where
         (s .is-out ∙ ap (outgoing m) (sym (append-nil (s .gone))))
 
     -- e leaves last
-    pub ends-past : b .bound ≤ thr (e .word) → n < m
-        → _≡_ {A = Settled} (record { bucket = b; out = putAt (out .count) (e .word) (e .plan) out }) (settledOf m (settle n thr e (b₀ .bound) b₀))
-    ends-past l h =
+    pub ends-past : b .bound ≤ thr (e .word) → n < m → {o : Outgoing} → o ≡ putAt (out .count) (e .word) (e .plan) out
+        → _≡_ {A = Settled} (record { bucket = b; out = o }) (settledOf m (settle n thr e (b₀ .bound) b₀))
+    ends-past l h p =
         let k : length (s .gone) < m = omega (arith, s .room) in
         ends (record { bucket = b; out = e ∷ [] }) (settle-past n thr e (b .bound) b l)
-        (ap₂ (λ (c : ℕ) (q : Outgoing). putAt c (e .word) (e .plan) q) counts (s .is-out) ∙ push-law m (s .gone) e k)
+        (p ∙ ap₂ (λ (c : ℕ) (q : Outgoing). putAt c (e .word) (e .plan) q) counts (s .is-out) ∙ push-law m (s .gone) e k)
 
     -- the bound falls to t; the words of q leave
     module _ (t : ℕ) (is : b .bound ≡ suc t) {q : Outgoing} (found : q ≡ outgoing m (leaving n thr t b)) where

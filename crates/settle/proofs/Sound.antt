@@ -24,7 +24,7 @@ use Rattle.settle.specs.Settle.{SoundBucket, listed, contents, leaving, 
 use Rattle.settle.specs.Outgoing.{leavingOf}
 use Rattle.settle.proofs.Hold.{Holds, holds-perm, mem-elem, elem-sums}
 use Rattle.settle.proofs.Leave.{keep-within}
-use Rattle.settle.proofs.Settle.{rows-of, rows-ascending, holds-lowered, held, over, seen, under-held, settle-law}
+use Rattle.settle.proofs.Fall.{rows-of, rows-ascending, holds-lowered, held, over, seen, under-held, settle-law}
 
 -- ---- a sound bucket holds its rows
 
