@@ -1,14 +1,14 @@
 -- A sound bucket: what it holds and which words leave it when its bound falls, by the rows of K. What an add under the bound means.
 -- Assumes nothing.
-use Prim.Native.Nat.{ℕ, suc, _+_, _^_, _≤_, _<_}
+use Prim.Native.Nat.{ℕ, _+_, _^_, _≤_, _<_}
 use native.Mathlib.Omega.{arith}
 use mathlib.Core.Path.{_≡_, refl, sym, ap, _∙_, subst, subst⁻¹}
 use mathlib.Core.Bool.{Bool, true, false, not, _&&_}
-use mathlib.Core.List.{List, [], _∷_, _++_, map, Perm, Perm·refl, List·Permᴰ, Permᴰ·symm, List·Permᴰ·trans, Memᴰ·of-map}
+use mathlib.Core.List.{List, [], _∷_, _++_, map, Perm, Perm·refl, List·Permᴰ, Permᴰ·symm, Memᴰ·of-map}
 use lib.Dec.{T, eqb}
 use lib.ListN.{length, length-append}
 use Rattle.lists.specs.Lists.{keep}
-use Rattle.lists.specs.Entries.{Entry, words, sort, Distinct, Ascending}
+use Rattle.lists.specs.Entries.{Entry, words, Distinct, Ascending}
 use Rattle.lists.proofs.Tests.{and-l, and-r, T→true}
 use Rattle.lists.proofs.Keep.{keep-perm, keep-part, perm-length}
 use Rattle.lists.proofs.Entries.{none-find, sub-ascending}
