@@ -27,7 +27,7 @@ carry-end l xs at c i x h e q = sym (take-at l (c ∷ drop at l) (length xs) e) 
 -- ---- arrays of numbers, padded with zeros
 
 module _ {A : Type 0} where
-  pub length-put : (xs : List A) (i : ℕ) (x : A) → i ≤ length xs → length (take i xs ++ x ∷ drop i xs) ≡ suc (length xs)
+  length-put : (xs : List A) (i : ℕ) (x : A) → i ≤ length xs → length (take i xs ++ x ∷ drop i xs) ≡ suc (length xs)
   length-put xs i x h = simp (length-append, length-take, length-drop) (omega arith)
 
 abbrev zeros : ℕ → List ℕ
@@ -51,14 +51,14 @@ put-zeros xs k i x h =
     length-append (take i xs ++ x ∷ drop i xs) (zeros k) ∙ rw (length-put xs i x h, length-append xs) (omega (arith, length-replicate {A = ℕ} k 0)) in
     ap (take (length (xs ++ zeros (suc k)))) e ∙ take-at whole (0 ∷ []) (length (xs ++ zeros (suc k))) n
 
-pub pad-put : (m : ℕ) (xs : List ℕ) (i x : ℕ) → i ≤ length xs → length xs < m → putIn i x (padded m xs) ≡ padded m (take i xs ++ x ∷ drop i xs)
+pad-put : (m : ℕ) (xs : List ℕ) (i x : ℕ) → i ≤ length xs → length xs < m → putIn i x (padded m xs) ≡ padded m (take i xs ++ x ∷ drop i xs)
 pad-put m xs i x h l =
     let e : m - length xs ≡ suc (m - suc (length xs)) = omega arith in
     ap (λ (j : ℕ). putIn i x (xs ++ zeros j)) e
     ∙ put-zeros xs (m - suc (length xs)) i x h
     ∙ ap (λ (j : ℕ). (take i xs ++ x ∷ drop i xs) ++ zeros (m - j)) (sym (length-put xs i x h))
 
-pub pad-join : (m : ℕ) (xs ys : List ℕ) → paste (padded m xs) (length xs) (padded m ys) (length ys) ≡ padded m (xs ++ ys)
+pad-join : (m : ℕ) (xs ys : List ℕ) → paste (padded m xs) (length xs) (padded m ys) (length ys) ≡ padded m (xs ++ ys)
 pad-join m xs ys =
     let e : m - length xs - length ys ≡ m - (length xs + length ys) = omega arith in
     rw (take-append-seam xs, take-append-seam ys, drop-append-add, drop-zeros, length-append) (ap (λ (j : ℕ). (xs ++ ys) ++ zeros j) e)
@@ -88,7 +88,7 @@ module _ (m : ℕ) (es : List Entry) where
       pad-put m (map f es) i (f e) (omega arith) (omega arith) ∙ ap (padded m) (sym (map-put f es i e))
 
   -- an entry more, at i
-  pub put-law : (i : ℕ) (e : Entry) → i ≤ length es → length es < m → putAt i (e .word) (e .plan) (outgoing m es) ≡ outgoing m (take i es ++ e ∷ drop i es)
+  put-law : (i : ℕ) (e : Entry) → i ≤ length es → length es < m → putAt i (e .word) (e .plan) (outgoing m es) ≡ outgoing m (take i es ++ e ∷ drop i es)
   unfolding outgoing
   put-law i e h l = same (add-one (length es) ∙ sym (length-put es i e h)) (put-side (λ x. x .word) i e h l) (put-side (λ x. x .plan) i e h l)
 
@@ -107,11 +107,11 @@ module _ (m : ℕ) (es : List Entry) where
 
 -- ---- the place among ascending vectors
 
-pub place-le : (v : ℕ) (xs : List ℕ) → placeOf v xs ≤ length xs
+place-le : (v : ℕ) (xs : List ℕ) → placeOf v xs ≤ length xs
 place-le v [] = zero-le
 place-le v (x ∷ xs) = by-test (λ (i : ℕ). i ≤ suc (length xs)) (ltb v x) (λ t. zero-le) (λ f. let h = place-le v xs in omega arith)
 
-pub placed : (e : Entry) (es : List Entry) → insert e es ≡ take (placeOf (e .word) (words es)) es ++ e ∷ drop (placeOf (e .word) (words es)) es
+placed : (e : Entry) (es : List Entry) → insert e es ≡ take (placeOf (e .word) (words es)) es ++ e ∷ drop (placeOf (e .word) (words es)) es
 placed e [] = refl
 placed e (x ∷ es) =
     cases (ltb (e .word) (x .word)) (λ t. rw t) (λ f. rw f (ap (λ (l : List Entry). x ∷ l) (placed e es)))
