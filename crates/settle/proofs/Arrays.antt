@@ -13,7 +13,8 @@ use Rattle.lists.specs.Entries.{Entry, words, insert}
 use Rattle.lists.proofs.Tests.{by-test, cases, cond-true, cond-false}
 use Rattle.gf2.proofs.Loops.{front-step}
 use Rattle.settle.specs.declared.Outgoing.{Outgoing}
-use Rattle.settle.specs.Outgoing.{padded, plans, outgoing, putIn, putAt, placeOf, inserted, joined}
+use Rattle.settle.specs.Outgoing.{padded, plans, outgoing}
+use Rattle.settle.specs.Steps.{putIn, putAt, placeOf, inserted, joined}
 
 -- ---- one element more: the loop carries the element that the one before it took the place of
 

@@ -16,7 +16,8 @@ use Rattle.bucket.specs.Bucket.{add}
 use Rattle.settle.specs.declared.Outgoing.{Outgoing}
 use Rattle.settle.specs.declared.Settled.{Settled}
 use Rattle.settle.specs.Settle.{SoundBucket, contents, leaving, withdrawAll, atBound, lowered, Settlement, ahead, settle}
-use Rattle.settle.specs.Outgoing.{outgoing, putAt, joined, settledOf}
+use Rattle.settle.specs.Outgoing.{outgoing, settledOf}
+use Rattle.settle.specs.Steps.{putAt, joined}
 use Rattle.settle.proofs.Arrays.{count-of, words-of, push-law, join-law}
 use Rattle.settle.proofs.Sound.{contents-few, lowered-sound, lowered-length}
 

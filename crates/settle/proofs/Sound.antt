@@ -27,7 +27,7 @@ use Rattle.eliminate.specs.declared.Rows.{Rows}
 use Rattle.eliminate.specs.Elimination.{soundRows}
 use Rattle.eliminate.proofs.Free.{found-is}
 use Rattle.settle.specs.Settle.{SoundBucket, listed, contents, leaving, lowered, Settlement, ahead, settle}
-use Rattle.settle.specs.Outgoing.{leavingOf}
+use Rattle.settle.specs.Steps.{leavingOf}
 use Rattle.settle.proofs.Hold.{Holds, holds-perm, mem-elem, elem-sums}
 use Rattle.settle.proofs.Leave.{keep-within, chosen-length}
 use Rattle.settle.proofs.Fall.{rows-of, rows-ascending, holds-lowered, held, over, seen, under-held, settle-law}

@@ -6,7 +6,7 @@ use native.Mathlib.Omega.{arith}
 use native.Mathlib.Numerals.{add-one}
 use lib.ListN.{length, take, drop}
 use Rattle.settle.proofs.Arrays.{place-here, place-next, place-end}
-use Rattle.settle.specs.Outgoing.{placeOf}
+use Rattle.settle.specs.Steps.{placeOf}
 use borrow.Author.Needs.{needs}
 use Rattle.settle.proofs.place_of.Statement.{statement}
 use Rattle.settle.proofs.place_of.Tie as tie
