@@ -14,7 +14,7 @@ use Rattle.lists.proofs.Tests.{by-test, cases, cond-true, cond-false}
 use Rattle.gf2.proofs.Loops.{front-step}
 use Rattle.settle.specs.declared.Outgoing.{Outgoing}
 use Rattle.settle.specs.Outgoing.{padded, plans, outgoing}
-use Rattle.settle.specs.Steps.{putIn, putAt, placeOf, inserted, joined}
+use Rattle.settle.specs.Steps.{putIn, putAt, positionOf, inserted, joined}
 
 -- ---- one element more: the loop carries the element that the one before it took the place of
 
@@ -106,13 +106,13 @@ module _ (m : ℕ) (es : List Entry) where
     unfolding outgoing
     join-law = same (sym (length-append es fs)) (join-side (λ x. x .word)) (join-side (λ x. x .plan))
 
--- ---- the place among ascending vectors
+-- ---- the position among ascending vectors
 
-place-le : (v : ℕ) (xs : List ℕ) → placeOf v xs ≤ length xs
-place-le v [] = zero-le
-place-le v (x ∷ xs) = by-test (λ (i : ℕ). i ≤ suc (length xs)) (ltb v x) (λ t. zero-le) (λ f. let h = place-le v xs in omega arith)
+position-le : (v : ℕ) (xs : List ℕ) → positionOf v xs ≤ length xs
+position-le v [] = zero-le
+position-le v (x ∷ xs) = by-test (λ (i : ℕ). i ≤ suc (length xs)) (ltb v x) (λ t. zero-le) (λ f. let h = position-le v xs in omega arith)
 
-placed : (e : Entry) (es : List Entry) → insert e es ≡ take (placeOf (e .word) (words es)) es ++ e ∷ drop (placeOf (e .word) (words es)) es
+placed : (e : Entry) (es : List Entry) → insert e es ≡ take (positionOf (e .word) (words es)) es ++ e ∷ drop (positionOf (e .word) (words es)) es
 placed e [] = refl
 placed e (x ∷ es) =
     cases (ltb (e .word) (x .word)) (λ t. rw t) (λ f. rw f (ap (λ (l : List Entry). x ∷ l) (placed e es)))
@@ -121,7 +121,7 @@ pub insert-law : (m : ℕ) (es : List Entry) (e : Entry) → length es < m → i
 unfolding outgoing
 insert-law m es e l =
     let k : length (words es) ≡ length es = length-map es (λ x. x .word) in
-    rw (words-of m es) (put-law m es (placeOf (e .word) (words es)) e (omega (arith, place-le (e .word) (words es))) l ∙ ap (outgoing m) (sym (placed e es)))
+    rw (words-of m es) (put-law m es (positionOf (e .word) (words es)) e (omega (arith, position-le (e .word) (words es))) l ∙ ap (outgoing m) (sym (placed e es)))
 
 -- ---- loops over the first m elements
 
@@ -136,11 +136,11 @@ past xs m i h =
     drop-of-length-le (take m xs) k
 
 module _ (v : ℕ) (xs : List ℕ) (m i : ℕ) where
-  pub place-here : m ≤ length xs → i < m → v < getD xs i 0 → placeOf v (drop i (take m xs)) ≡ 0
-  place-here h k l = rw (part xs m i h k) (cond-true 0 (suc (placeOf v (drop (suc i) (take m xs)))) (lt-ltb v (getD xs i 0) l))
+  pub position-here : m ≤ length xs → i < m → v < getD xs i 0 → positionOf v (drop i (take m xs)) ≡ 0
+  position-here h k l = rw (part xs m i h k) (cond-true 0 (suc (positionOf v (drop (suc i) (take m xs)))) (lt-ltb v (getD xs i 0) l))
 
-  pub place-next : m ≤ length xs → i < m → getD xs i 0 ≤ v → placeOf v (drop i (take m xs)) ≡ suc (placeOf v (drop (suc i) (take m xs)))
-  place-next h k l = rw (part xs m i h k) (cond-false 0 (suc (placeOf v (drop (suc i) (take m xs)))) (le-ltb v (getD xs i 0) l))
+  pub position-next : m ≤ length xs → i < m → getD xs i 0 ≤ v → positionOf v (drop i (take m xs)) ≡ suc (positionOf v (drop (suc i) (take m xs)))
+  position-next h k l = rw (part xs m i h k) (cond-false 0 (suc (positionOf v (drop (suc i) (take m xs)))) (le-ltb v (getD xs i 0) l))
 
-  pub place-end : m ≤ i → placeOf v (drop i (take m xs)) ≡ 0
-  place-end h = rw (past xs m i h)
+  pub position-end : m ≤ i → positionOf v (drop i (take m xs)) ≡ 0
+  position-end h = rw (past xs m i h)

@@ -25,7 +25,7 @@ use Rattle.bucket.specs.Bucket.{largestBound, lookup, addAt, add}
 use Rattle.bucket.proofs.Steps.{add-sound, add-goes, add-depends}
 use Rattle.eliminate.specs.declared.Rows.{Rows}
 use Rattle.eliminate.specs.Elimination.{soundRows}
-use Rattle.eliminate.proofs.Free.{found-is}
+use Rattle.eliminate.proofs.Exact.{found-is}
 use Rattle.settle.specs.Settle.{SoundBucket, listed, contents, leaving, lowered, Settlement, ahead, settle}
 use Rattle.settle.specs.Steps.{leavingOf}
 use Rattle.settle.proofs.Hold.{Holds, holds-perm, mem-elem, elem-sums}

@@ -22,13 +22,13 @@ abbrev pub putAt : ℕ → ℕ → ℕ → Outgoing → Outgoing
 putAt i v plan q = record { count = q .count + 1; vectors = putIn i v (q .vectors); plans = putIn i plan (q .plans) }
 
 -- how many numbers stand before the first that is larger than v
-abbrev pub placeOf : ℕ → List ℕ → ℕ
-placeOf v [] = 0
-placeOf v (x ∷ xs) = cond (ltb v x) 0 (suc (placeOf v xs))
+abbrev pub positionOf : ℕ → List ℕ → ℕ
+positionOf v [] = 0
+positionOf v (x ∷ xs) = cond (ltb v x) 0 (suc (positionOf v xs))
 
 -- v with its plan before the first word with a larger vector
 abbrev pub inserted : ℕ → ℕ → Outgoing → Outgoing
-inserted v plan q = putAt (placeOf v (take (q .count) (q .vectors))) v plan q
+inserted v plan q = putAt (positionOf v (take (q .count) (q .vectors))) v plan q
 
 -- the words of p, then those of q
 abbrev pub joined : Outgoing → Outgoing → Outgoing

@@ -2,7 +2,7 @@
 // further. specs/Settle.antt has the definition, in document 01's order, and specs/Outgoing.antt its result as the code keeps it.
 // Laws: proofs/Hold.antt (what a bucket holds, as a list of entries), proofs/Fall.antt (where the bound comes to stand, who stays and
 // who leaves), proofs/Sound.antt (`settle-meaning`; the bucket stays sound).
-// Cites gf2, lists, hash and identifier (thresholds), eliminate (the rows of K) and bucket. table builds on it.
+// Cites gf2, lists, identifier (thresholds), eliminate (the rows of K) and bucket. table builds on it.
 use bucket::Bucket;
 use identifier::threshold;
 ghost use mathlib.Core.Path.{_≡_};
@@ -13,7 +13,7 @@ ghost use lib.Seq.{paste};
 ghost use Rattle.gf2.specs.Select.{chosen};
 ghost use Rattle.settle.specs.Settle.{SoundBucket, thresholdOf, leaving, withdrawAll, atBound, settle};
 ghost use Rattle.settle.specs.Outgoing.{outgoing, settledOf};
-ghost use Rattle.settle.specs.Steps.{putIn, placeOf, putAt, inserted, joined, leavingOf, entered};
+ghost use Rattle.settle.specs.Steps.{putIn, positionOf, putAt, inserted, joined, leavingOf, entered};
 
 // The words that leave a bucket, with their plans, in order; unused elements are 0.
 pub struct Outgoing {
@@ -45,9 +45,9 @@ pub(crate) fn put_in(words: [u64; Outgoing::MOST], i: usize, x: u64) -> [u64; Ou
 }
 
 // How many of the first `count` vectors stand before the first that is larger than v.
-pub(crate) fn place_of(vectors: [u64; Outgoing::MOST], count: usize, v: u64) -> usize
+pub(crate) fn position_of(vectors: [u64; Outgoing::MOST], count: usize, v: u64) -> usize
     requires { do ⌜ count ≤ (← ⟦Outgoing::MOST⟧) ⌝ }
-    ensures { λ r. ⌜ r ≡ placeOf v (take count vectors) ⌝ }
+    ensures { λ r. ⌜ r ≡ positionOf v (take count vectors) ⌝ }
 {
     let mut i: usize = 0;
     while i < count {
@@ -112,7 +112,7 @@ impl Outgoing {
         ensures { λ r. ⌜ r ≡ inserted v plan self ⌝ }
     {
         let vectors = self.vectors;
-        self.put_at(place_of(vectors, self.count, v), v, plan)
+        self.put_at(position_of(vectors, self.count, v), v, plan)
     }
 
     // v with its plan after all others.
