@@ -1,3 +1,7 @@
 -- The laws of the crate.
 pub mod Hold
-pub mod Settle
+pub mod Fall
+pub mod Arrays
+pub mod Leave
+pub mod Sound
+pub mod Run
