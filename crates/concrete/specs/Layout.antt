@@ -6,15 +6,12 @@ use lib.ListN.{length, getD, drop, replicate}
 use Rattle.lists.specs.Entries.{Entry}
 use Rattle.bucket.specs.declared.Bucket.{Bucket}
 use Rattle.bucket.specs.Words.{span, wordsOf, bucketFrom}
+use Rattle.model.specs.Model.{baseLimit}
 use Rattle.concrete.specs.Table.{Table}
 
 -- the numbers before the buckets: buckets of level 1, of level 2, base count, live count
 abbrev pub header : ℕ
 header = 4
-
--- the most entries of the base list
-abbrev pub baseLimit : ℕ
-baseLimit = 64
 
 -- the numbers of the base list: a pair for each entry, used or not
 abbrev pub baseNumbers : ℕ
