@@ -5,7 +5,7 @@ use mathlib.Core.List.{List, [], _∷_, _++_}
 use lib.ListN.{length, getD, drop, replicate}
 use Rattle.lists.specs.Entries.{Entry}
 use Rattle.bucket.specs.declared.Bucket.{Bucket}
-use Rattle.bucket.specs.Words.{span, wordsOf, bucketFrom}
+use Rattle.bucket.specs.Words.{bucketWords, wordsOf, bucketFrom}
 use Rattle.model.specs.Model.{baseLimit}
 use Rattle.concrete.specs.Table.{Table}
 
@@ -22,21 +22,25 @@ abbrev pub levelNumbers : List Bucket → List ℕ
 levelNumbers [] = []
 levelNumbers (b ∷ bs) = wordsOf b ++ levelNumbers bs
 
--- the base pairs: w', plan
+-- pairs: w', plan
 abbrev pub pairNumbers : List Entry → List ℕ
 pairNumbers [] = []
 pairNumbers (e ∷ es) = e .word ∷ e .plan ∷ pairNumbers es
 
--- the numbers of a table: header, level 1, level 2, base pairs, and 0 for the unused ones
+-- the base pairs, and 0 for the unused ones
+abbrev pub basePairs : List Entry → List ℕ
+basePairs es = pairNumbers es ++ replicate (baseNumbers - 2 * length es) 0
+
+-- the numbers of a table: header, level 1, level 2, base pairs
 unfoldable pub numbersOf : Table → List ℕ
 numbersOf T =
     length (T .level1) ∷ length (T .level2) ∷ length (T .base) ∷ T .count
-    ∷ (levelNumbers (T .level1) ++ (levelNumbers (T .level2) ++ (pairNumbers (T .base) ++ replicate (baseNumbers - 2 * length (T .base)) 0)))
+    ∷ (levelNumbers (T .level1) ++ (levelNumbers (T .level2) ++ basePairs (T .base)))
 
 -- m buckets from the front of the numbers
 abbrev pub levelFrom : ℕ → ℕ → ℕ → List ℕ → List Bucket
 levelFrom n r zero xs = []
-levelFrom n r (suc m) xs = bucketFrom n r xs ∷ levelFrom n r m (drop (span n r) xs)
+levelFrom n r (suc m) xs = bucketFrom n r xs ∷ levelFrom n r m (drop (bucketWords n r) xs)
 
 -- k pairs from the front of the numbers
 abbrev pub pairsFrom : ℕ → List ℕ → List Entry
@@ -45,7 +49,7 @@ pairsFrom (suc k) xs = record { word = getD xs 0 0; plan = getD xs 1 0 } ∷ pai
 
 -- the place of bucket i, level 1 first
 abbrev pub bucketPlace : ℕ → ℕ → ℕ → ℕ
-bucketPlace n r i = header + i * span n r
+bucketPlace n r i = header + i * bucketWords n r
 
 -- the table that the numbers hold
 unfoldable pub tableFrom : ℕ → ℕ → List ℕ → Table

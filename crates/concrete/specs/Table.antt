@@ -1,12 +1,12 @@
 -- The whole table, with buckets of n rows and r solution words; S is the mix. At 64, 8 and mixOf it is document 01's table.
 -- Assumes nothing.
-use Prim.Native.Nat.{ℕ, zero, suc, _+_, _-_}
+use Prim.Native.Nat.{ℕ, suc, _-_}
 use mathlib.Core.Bool.{Bool, cond}
 use mathlib.Core.List.{List, [], _∷_, _++_, map}
 use mathlib.Core.Option.{Option}
 use lib.Dec.{ltb}
 use lib.ListN.{length, getD, set, replicate}
-use Rattle.lists.specs.Entries.{Entry, find, insert, update, remove}
+use Rattle.lists.specs.Entries.{Entry, find, update, remove, insertAll}
 use Rattle.identifier.specs.Place.{thresholdAt, bucketAt}
 use Rattle.bucket.specs.declared.Bucket.{Bucket}
 use Rattle.bucket.specs.Bucket as B
@@ -23,24 +23,19 @@ pub record Table : Type 0 where
 unfoldable pub bounds : List Bucket → List ℕ
 bounds bs = map (λ b. b .bound) bs
 
--- entries inserted one after the other
-abbrev pub insertAll : List Entry → List Entry → List Entry
-insertAll [] base = base
-insertAll (e ∷ es) base = insertAll es (insert e base)
-
 -- the buckets of a level, and the words that leave the level with their plans, in this order
 pub record Placed : Type 0 where
   pub buckets : List Bucket
   pub out : List Entry
 
-module _ (n r : ℕ) (S : ℕ → ℕ) where
-  -- a level works with vectors: the place of the vector v is S(v)
+module _ (S : ℕ → ℕ) where
+  -- a level works with vectors: the place of the vector v is S(v); its threshold
   abbrev pub thr : ℕ → ℕ
   thr v = thresholdAt (S v)
 
-  -- the number of v's bucket, of count
+  -- and its bucket, of m
   abbrev pub index : ℕ → ℕ → ℕ
-  index count v = bucketAt count (S v)
+  index m v = bucketAt m (S v)
 
   -- w', the vector of the second level
   abbrev pub second : ℕ → ℕ
@@ -50,24 +45,14 @@ module _ (n r : ℕ) (S : ℕ → ℕ) where
   abbrev pub onSecond : Entry → Entry
   onSecond e = record { word = second (e .word); plan = e .plan }
 
-  -- the bucket of v
-  abbrev pub bucketOf : List Bucket → ℕ → Bucket
-  bucketOf bs v = getD bs (index (length bs) v) (B.emptyBucket n r)
-
   -- the level with v's bucket replaced
   abbrev pub put : List Bucket → ℕ → Bucket → List Bucket
   put bs v b = set bs (index (length bs) v) b
 
-  -- the level holds v, if v is live: its threshold is below the bound of its bucket
-  abbrev pub holds : List Bucket → ℕ → Bool
-  holds bs v = ltb (thr v) (bucketOf bs v .bound)
-
-  -- the plan of the word w, if it is live: at level 1 if that holds it, else at level 2 if that holds it, else in the base list
-  abbrev pub planIn : Table → ℕ → Option ℕ
-  planIn T w =
-      cond (holds (T .level1) w) (planOf n w (bucketOf (T .level1) w))
-      (cond (holds (T .level2) (second w)) (planOf n (second w) (bucketOf (T .level2) (second w)))
-      (find (second w) (T .base)))
+module _ (n r : ℕ) where
+  -- bucket i of a level
+  abbrev pub nth : List Bucket → ℕ → Bucket
+  nth bs i = getD bs i (B.emptyBucket n r)
 
   -- opened: every bucket empty
   abbrev pub openTable : ℕ → ℕ → Table
@@ -78,14 +63,30 @@ module _ (n r : ℕ) (S : ℕ → ℕ) where
     count = 0;
   }
 
+module _ (n r : ℕ) (S : ℕ → ℕ) where
+  -- the bucket of v
+  abbrev pub bucketOf : List Bucket → ℕ → Bucket
+  bucketOf bs v = nth n r bs (index S (length bs) v)
+
+  -- the level holds v, if v is live: its threshold is below the bound of its bucket
+  abbrev pub holds : List Bucket → ℕ → Bool
+  holds bs v = ltb (thr S v) (bucketOf bs v .bound)
+
+  -- the plan of the word w, if it is live: at level 1 if that holds it, else at level 2 if that holds it, else in the base list
+  abbrev pub planIn : Table → ℕ → Option ℕ
+  planIn T w =
+      cond (holds (T .level1) w) (planOf n w (bucketOf (T .level1) w))
+      (cond (holds (T .level2) (second S w)) (planOf n (second S w) (bucketOf (T .level2) (second S w)))
+      (find (second S w) (T .base)))
+
   -- the table with w's bucket changed by f, or its base list by g, wherever the three tests send w
   abbrev pub touch : Table → ℕ → (ℕ → Bucket → Bucket) → (ℕ → List Entry → List Entry) → ℕ → Table
   touch T w f g count =
       cond (holds (T .level1) w)
-      (record { level1 = put (T .level1) w (f w (bucketOf (T .level1) w)); level2 = T .level2; base = T .base; count = count })
-      (cond (holds (T .level2) (second w))
-      (record { level1 = T .level1; level2 = put (T .level2) (second w) (f (second w) (bucketOf (T .level2) (second w))); base = T .base; count = count })
-      (record { level1 = T .level1; level2 = T .level2; base = g (second w) (T .base); count = count }))
+      (record { level1 = put S (T .level1) w (f w (bucketOf (T .level1) w)); level2 = T .level2; base = T .base; count = count })
+      (cond (holds (T .level2) (second S w))
+      (record { level1 = T .level1; level2 = put S (T .level2) (second S w) (f (second S w) (bucketOf (T .level2) (second S w))); base = T .base; count = count })
+      (record { level1 = T .level1; level2 = T .level2; base = g (second S w) (T .base); count = count }))
 
   -- the live word w gets the plan p
   abbrev pub changedIn : Table → ℕ → ℕ → Table
@@ -98,8 +99,8 @@ module _ (n r : ℕ) (S : ℕ → ℕ) where
   -- the word e arrives at a level: it settles in its bucket
   abbrev pub arriveAt : List Bucket → Entry → Placed
   arriveAt bs e =
-      let s : Settlement = settle n thr e (bucketOf bs (e .word) .bound) (bucketOf bs (e .word)) in
-      record { buckets = put bs (e .word) (s .bucket); out = s .out }
+      let s : Settlement = settle n (thr S) e (bucketOf bs (e .word) .bound) (bucketOf bs (e .word)) in
+      record { buckets = put S bs (e .word) (s .bucket); out = s .out }
 
   -- words arrive one after the other
   abbrev pub arriveAll : List Bucket → List Entry → Placed
@@ -114,5 +115,5 @@ module _ (n r : ℕ) (S : ℕ → ℕ) where
   abbrev pub addedTo : Table → Entry → Table
   addedTo T e =
       let p : Placed = arriveAt (T .level1) e in
-      let q : Placed = arriveAll (T .level2) (map onSecond (p .out)) in
+      let q : Placed = arriveAll (T .level2) (map (onSecond S) (p .out)) in
       record { level1 = p .buckets; level2 = q .buckets; base = insertAll (q .out) (T .base); count = suc (T .count) }
