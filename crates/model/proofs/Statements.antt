@@ -1,0 +1,129 @@
+-- The laws that others cite, each with the sentence of document 01 that it stands for; the files named prove them. L1 and L2 are any
+-- two levels, so document 01's firstLevel and secondLevel.
+-- Assumes nothing.
+use Prim.Native.Nat.{ℕ, _+_, _<_, _≤_}
+use native.Mathlib.Omega.{arith}
+use mathlib.Core.Path.{_≡_, refl}
+use mathlib.Core.Bool.{true, false}
+use mathlib.Core.Logic.{_↔_}
+use mathlib.Core.Option.{none}
+use mathlib.Core.List.{List, map, _++_, List·Permᴰ}
+use lib.ListN.{length, getD}
+use Rattle.lists.specs.Entries.{Entry, words, find, insert}
+use Rattle.lists.proofs.Keep.{tabulate-at}
+use Rattle.gf2.specs.Bound.{Largest}
+use Rattle.answer.specs.declared.Answer.the-variants.{Full}
+use Rattle.model.specs.Levels.{Level, firstLevel, secondLevel, passed, due, lower}
+use Rattle.model.specs.Model.{State, Call, addOf, change, withdraw, query, opened, settled, base, step, lifted}
+use Rattle.model.specs.Request.{byWord}
+use Rattle.model.specs.History.{Machine, accepted, after, answers, acceptedOf, Alike, AllAccepted, wordModel, model, acceptedCalls, Refines, Compares, addsIn, withdrawalsIn, told}
+use Rattle.model.proofs.Levels.{AllFree}
+use Rattle.model.proofs.Steps as Steps
+use Rattle.model.proofs.Arrivals as Arrivals
+use Rattle.model.proofs.Valid as Valid
+use Rattle.model.proofs.Refine as Refine
+use Rattle.model.proofs.Calls as Calls
+use Rattle.model.proofs.Requests as Requests
+use Rattle.model.proofs.Orders as Orders
+use Rattle.model.proofs.Lift as Lift
+
+-- ---- one call
+
+-- "Bounds are 8 at first"
+pub opening-first : (b1 b2 i : ℕ) → i < b1 → getD (opened b1 b2 .bounds1) i 0 ≡ 8
+opening-first b1 b2 i h = tabulate-at (λ j. 8) b1 i h
+
+pub opening-second : (b1 b2 i : ℕ) → i < b2 → getD (opened b1 b2 .bounds2) i 0 ≡ 8
+opening-second b1 b2 i h = tabulate-at (λ j. 8) b2 i h
+
+module _ (L1 L2 : Level) (s : State) where
+  -- statement 3, the rule of the bounds: after an accepted add each is the largest number, not above the old one, under which no
+  -- non-empty selection of the words due there XORs to zero; first level
+  pub bounds-first : (e : Entry) → accepted (step L1 L2 s (addOf e) .answer) ≡ true → (i : ℕ) → i < s .buckets1
+      → Largest (getD (s .bounds1) i 0)
+      (due L1 (s .buckets1) (words (step L1 L2 s (addOf e) .after .live)) i)
+      (getD (step L1 L2 s (addOf e) .after .bounds1) i 0)
+  bounds-first e a i h = rw (Steps.added L1 L2 s e a .left) (Steps.bounds-first L1 L2 s (insert e (s .live)) i h)
+
+  -- then the second, where the words are due that the first does not hold now
+  pub bounds-second : (e : Entry) → accepted (step L1 L2 s (addOf e) .answer) ≡ true → (i : ℕ) → i < s .buckets2
+      → Largest (getD (s .bounds2) i 0)
+      (due L2 (s .buckets2) (passed L1 (s .buckets1) (step L1 L2 s (addOf e) .after .bounds1) (words (step L1 L2 s (addOf e) .after .live))) i)
+      (getD (step L1 L2 s (addOf e) .after .bounds2) i 0)
+  bounds-second e a i h = rw (Steps.added L1 L2 s e a .left) (Steps.bounds-second L1 L2 s (insert e (s .live)) i h)
+
+  -- statement 3, the rule of the base list: refused as full exactly when more than 64 words would fall to the base list under the
+  -- bounds that the add would so leave (Steps: `settled` has those bounds, accepted or not)
+  pub full-exactly : (e : Entry) → find (e .word) (s .live) ≡ none
+      → (step L1 L2 s (addOf e) .answer ≡ Full) ↔ (64 < length (base L1 L2 (settled L1 L2 s (insert e (s .live)))))
+  full-exactly e f = Steps.full-exactly L1 L2 s e f
+
+  -- "changes, withdrawals, queries and refused calls keep them"; queries and refused calls keep everything
+  pub change-keeps : (w p : ℕ) → (step L1 L2 s (change w p) .after .bounds1 ≡ s .bounds1) × (step L1 L2 s (change w p) .after .bounds2 ≡ s .bounds2)
+  change-keeps = Steps.change-keeps L1 L2 s
+
+  pub withdraw-keeps : (w : ℕ) → (step L1 L2 s (withdraw w) .after .bounds1 ≡ s .bounds1) × (step L1 L2 s (withdraw w) .after .bounds2 ≡ s .bounds2)
+  withdraw-keeps = Steps.withdraw-keeps L1 L2 s
+
+  pub query-keeps : (w : ℕ) → step L1 L2 s (query w) .after ≡ s
+  query-keeps = Steps.query-keeps L1 L2 s
+
+  pub refused-keeps : (c : Call ℕ) → accepted (step L1 L2 s c .answer) ≡ false → step L1 L2 s c .after ≡ s
+  refused-keeps = Steps.refused-keeps L1 L2 s
+
+-- ---- lists of calls, with any bytes as identifiers
+
+-- "The live count equals accepted adds less accepted withdrawals since opening"
+pub count : (b1 b2 : ℕ) (cs : List (Call (List ℕ)))
+    → length (after model (opened b1 b2) cs .live) + withdrawalsIn (acceptedCalls b1 b2 cs) ≡ addsIn (acceptedCalls b1 b2 cs)
+count b1 b2 cs = let h = Calls.count-after firstLevel secondLevel model byWord Requests.serve-each (opened b1 b2) cs in omega arith
+
+-- "a word is live if, of its accepted adds and withdrawals, the last is an add; its plan is that of its last accepted add or change"
+pub live-plan : (b1 b2 : ℕ) (cs : List (Call (List ℕ))) (v : ℕ) → find v (after model (opened b1 b2) cs .live) ≡ told v (acceptedCalls b1 b2 cs)
+live-plan b1 b2 cs v =
+    Calls.told-after firstLevel secondLevel model byWord Requests.serve-each v (opened b1 b2) (Valid.valid-opened firstLevel secondLevel b1 b2) false 0 refl cs
+
+-- "in the base list, at most 64 entries"
+pub base-fits : (b1 b2 : ℕ) (cs : List (Call (List ℕ))) → length (base firstLevel secondLevel (after model (opened b1 b2) cs)) ≤ 64
+base-fits b1 b2 cs =
+    Calls.valid-after firstLevel secondLevel model byWord Requests.serve-each (opened b1 b2) (Valid.valid-opened firstLevel secondLevel b1 b2) cs .fits
+
+-- ---- lists of calls put to a table that refines the model: M is the table, N the model
+
+module _ {T S C : Type 0} (M : Machine T C) (N : Machine S C) (Stands : T → S → Type 0) (refines : Refines M N Stands) where
+  -- "So the opening and these calls alone settle every answer and bound": the answers are the model's, and the table stands for the
+  -- state that the model comes to
+  pub settles : (t : T) (s : S) → Stands t s → (cs : List C) → (answers M t cs ≡ answers N s cs) × Stands (after M t cs) (after N s cs)
+  settles t s h cs = (Refine.answers-after M N Stands refines t s h cs, Refine.stands-after M N Stands refines t s h cs)
+
+  -- and the same calls are accepted
+  pub accepted-alike : (t : T) (s : S) → Stands t s → (cs : List C) → acceptedOf M t cs ≡ acceptedOf N s cs
+  accepted-alike = Refine.accepted-after M N Stands refines
+
+  -- statement 3, the claim about lists: t and u are as openings left them, ds and es any calls, refused ones included. Where the two
+  -- tables are then the same in bucket numbers, live words, plans and bounds (Same), each further call of every list gets the same
+  -- answer from both, and they are the same again after each call
+  pub statement-3 : (Same : T → T → Type 0) → Compares Stands Same → (t u : T) (s q : S) → Stands t s → Stands u q → (ds es : List C)
+      → Same (after M t ds) (after M u es) → (cs : List C) → Alike M Same (after M t ds) (after M u es) cs
+  statement-3 = Refine.statement-3 M N Stands refines
+
+-- ---- what an add does word by word
+
+-- words that arrive at a level one after the other, in any order, each lowering its bucket's bound by one while it depends there, leave
+-- the bounds that one look at all of them leaves
+pub arrivals : (L : Level) (n : ℕ) → 0 < n → (bounds ws new vs : List ℕ) → length bounds ≡ n → AllFree L n bounds ws → List·Permᴰ (new ++ ws) vs
+    → Arrivals.arrives L n bounds ws new ≡ lower L n bounds vs
+arrivals = Arrivals.arrives-all
+
+-- ---- later orders of document 02
+
+-- order 8: if all adds of a sequence are accepted from opening, so are all in any other sequence of them, and both leave one state
+pub order-of-adds : (L1 L2 : Level) (b1 b2 : ℕ) {ds es : List Entry} → List·Permᴰ ds es
+    → AllAccepted (wordModel L1 L2) (opened b1 b2) (map addOf ds)
+    → AllAccepted (wordModel L1 L2) (opened b1 b2) (map addOf es)
+    × (after (wordModel L1 L2) (opened b1 b2) (map addOf ds) ≡ after (wordModel L1 L2) (opened b1 b2) (map addOf es))
+order-of-adds = Orders.order-free
+
+-- order 9: a lift never overfills the base list
+pub lift-fits : (L1 L2 : Level) (s : State) → Valid.Valid L1 L2 s → length (base L1 L2 (lifted L1 L2 s)) ≤ 64
+lift-fits = Lift.lift-fits

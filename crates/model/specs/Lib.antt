@@ -1,0 +1,5 @@
+-- The definitions of the crate, in document 01's order.
+pub mod Levels
+pub mod Model
+pub mod Request
+pub mod History
