@@ -21,7 +21,7 @@ use Rattle.gf2.proofs.Bound.{fall}
 use Rattle.bucket.specs.declared.Bucket.{Bucket}
 use Rattle.bucket.specs.declared.Tried.{Tried}
 use Rattle.bucket.specs.Bucket.{lookup, live, add, withdraw}
-use Rattle.settle.specs.Settle.{contents, planOf, withdrawAll, atBound, Settlement, ahead, orElse, leaving, settle}
+use Rattle.settle.specs.Settle.{contents, planOf, withdrawAll, atBound, lowered, Settlement, ahead, orElse, leaving, settle}
 use Rattle.settle.proofs.Hold.{Holds, holds-perm, holds-find, row-of, holds-none, holds-add, holds-withdraw}
 
 -- ---- entries made of numbers in order
@@ -117,12 +117,16 @@ holds-bound t h = record {
   distinct = h .distinct;
 }
 
-pub withdraw-all : {n r : ℕ} (es : List Entry) {b : Bucket} {rest : List Entry} → Holds n r b (es ++ rest) → Holds n r (withdrawAll n es b) rest
+pub withdraw-all : {n r : ℕ} (es : List Entry) {b : Bucket} {rest : List Entry} → Holds n r b (es ++ rest) → Holds n r (withdrawAll n (words es) b) rest
 withdraw-all [] h = h
 withdraw-all {n} {r} (e ∷ es) {b} {rest} h =
     withdraw-all es
     (subst (λ (l : List Entry). Holds n r (withdraw n (e .word) b .bucket) l) (cond-true (es ++ rest) (e ∷ remove (e .word) (es ++ rest)) (eq-eqb (e .word) (e .word) refl))
     (holds-withdraw h (e .word) (e .plan) (word-lt h e (List·Memᴰ·head refl)) (cond-true (some (e .plan)) (find (e .word) (es ++ rest)) (eq-eqb (e .word) (e .word) refl))))
+
+-- the bound falls to t: the words of threshold t leave, the rest stays
+pub holds-lowered : {n r : ℕ} (thr : ℕ → ℕ) (t : ℕ) {b : Bucket} {rows rest : List Entry} → Holds n r b rows → List·Permᴰ rows (leaving n thr t b ++ rest) → Holds n r (lowered n thr t b) rest
+holds-lowered {n} thr t {b} h s = holds-bound t (withdraw-all (leaving n thr t b) (holds-perm h s))
 
 module _ (n r : ℕ) (thr : ℕ → ℕ) where
   -- of the entries fs: those under the bound t, and the others
@@ -193,10 +197,10 @@ module _ (n r : ℕ) (thr : ℕ → ℕ) where
         same-has = ap (λ (l : List ℕ). elem (e .word) (sums l)) (under-held (suc u) fs)
 
         stays : ltb (thr (e .word)) (suc u) ≡ true → elem (e .word) (sums (words (held (suc u) fs))) ≡ false
-            → Settles e fs (suc u) (orElse (add n (e .word) (e .plan) b) (ahead (leaving n thr u b) (settle n thr e u (atBound u (withdrawAll n (leaving n thr u b) b)))))
+            → Settles e fs (suc u) (orElse (add n (e .word) (e .plan) b) (ahead (leaving n thr u b) (settle n thr e u (lowered n thr u b))))
         stays l f =
             let a = holds-add h e small plan-lt f in
-            subst⁻¹ (λ (o : Tried). Settles e fs (suc u) (orElse o (ahead (leaving n thr u b) (settle n thr e u (atBound u (withdrawAll n (leaving n thr u b) b)))))) (a .1)
+            subst⁻¹ (λ (o : Tried). Settles e fs (suc u) (orElse o (ahead (leaving n thr u b) (settle n thr e u (lowered n thr u b))))) (a .1)
             (record {
               holds = subst⁻¹ (λ (t : ℕ). Holds n r (a .0) (held t (e ∷ fs))) (a .3 ∙ q)
                   (subst⁻¹ (Holds n r (a .0)) (cond-true (e ∷ held (suc u) fs) (held (suc u) fs) l) (a .2));
@@ -208,17 +212,15 @@ module _ (n r : ℕ) (thr : ℕ → ℕ) where
         out-at : List·Permᴰ (leaving n thr u b) (at u fs)
         out-at = keep-perm (λ x. eqb (thr (x .word)) u) (rows-of h)
 
-        lowered : Holds n r (atBound u (withdrawAll n (leaving n thr u b) b)) (held u fs)
-        lowered =
-            holds-bound u (withdraw-all (leaving n thr u b) (holds-perm h
-            (List·Permᴰ·trans (held-split u fs) (Permᴰ·append-right (held u fs) (Permᴰ·symm out-at)))))
+        lower : Holds n r (lowered n thr u b) (held u fs)
+        lower = holds-lowered thr u h (List·Permᴰ·trans (held-split u fs) (Permᴰ·append-right (held u fs) (Permᴰ·symm out-at)))
 
         depends : ((c : Bucket) → c .bound ≡ u → Holds n r c (held u fs) → Settles e fs u (settle n thr e u c)) → ltb (thr (e .word)) (suc u) ≡ true → elem (e .word) (sums (words (held (suc u) fs))) ≡ true
-            → Settles e fs (suc u) (orElse (add n (e .word) (e .plan) b) (ahead (leaving n thr u b) (settle n thr e u (atBound u (withdrawAll n (leaving n thr u b) b)))))
+            → Settles e fs (suc u) (orElse (add n (e .word) (e .plan) b) (ahead (leaving n thr u b) (settle n thr e u (lowered n thr u b))))
         depends ih l t =
-            let r = ih (atBound u (withdrawAll n (leaving n thr u b) b)) refl lowered in
-            let o : List Entry = settle n thr e u (atBound u (withdrawAll n (leaving n thr u b) b)) .out in
-            subst⁻¹ (λ (o : Tried). Settles e fs (suc u) (orElse o (ahead (leaving n thr u b) (settle n thr e u (atBound u (withdrawAll n (leaving n thr u b) b)))))) (holds-none h e small t)
+            let r = ih (lowered n thr u b) refl lower in
+            let o : List Entry = settle n thr e u (lowered n thr u b) .out in
+            subst⁻¹ (λ (o : Tried). Settles e fs (suc u) (orElse o (ahead (leaving n thr u b) (settle n thr e u (lowered n thr u b))))) (holds-none h e small t)
             (record {
               holds = r .holds;
               falls = r .falls ∙ sym (cond-true (fall u (seen e) (map seen fs)) (suc u) (and-true (ltb (thr (e .word)) (suc u)) _ l (same-has ∙ t)));

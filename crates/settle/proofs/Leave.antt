@@ -1,0 +1,105 @@
+-- The words that leave when the bound falls: found row by row, inserted in order, withdrawn one by one.
+-- Assumes nothing.
+use Prim.Native.Nat.{ℕ, zero, suc, _+_, _-_, _/_, _%_, _^_, _≤_, _<_, zero-le}
+use native.Mathlib.Nat.{div-one, pow-suc, div-div-eq-div-mul}
+use native.Mathlib.Numerals.{add-one, sub-one}
+use native.Mathlib.Omega.{arith}
+use mathlib.Core.Path.{_≡_, refl, sym, ap, _∙_}
+use mathlib.Core.Bool.{Bool}
+use mathlib.Core.List.{List, [], _∷_, map}
+use lib.Dec.{eqb}
+use lib.ListN.{length, getD, take, drop, length-map, length-drop, drop-of-length-le}
+use lib.Seq.{drop-cons}
+use borrow.Author.Tests.{eq-eqb, ne-eqb}
+use Rattle.lists.specs.Lists.{keep}
+use Rattle.lists.specs.Entries.{Entry, words}
+use Rattle.lists.proofs.Tests.{cases, by-test, cond-true, cond-false}
+use Rattle.lists.proofs.Sorts.{sort-length}
+use Rattle.gf2.specs.Select.{putIf, chosen}
+use Rattle.bucket.specs.declared.Bucket.{Bucket}
+use Rattle.bucket.specs.Bucket.{lookup, withdraw}
+use Rattle.settle.specs.declared.Outgoing.{Outgoing}
+use Rattle.settle.specs.Settle.{listed, withdrawAll}
+use Rattle.settle.specs.Outgoing.{outgoing, inserted, leavingOf, entered}
+use Rattle.settle.proofs.Arrays.{insert-law, part, past}
+
+-- ---- how many
+
+keep-length : {A : Type 0} (p : A → Bool) (xs : List A) → length (keep p xs) ≤ length xs
+keep-length p [] = zero-le
+keep-length p (x ∷ xs) =
+    let h = keep-length p xs in
+    by-test (λ l. length l ≤ suc (length xs)) (p x) (λ t. omega arith) (λ f. omega arith)
+
+pub chosen-length : (mark : ℕ) (rs : List ℕ) → length (chosen mark rs) ≤ length rs
+chosen-length mark [] = zero-le
+chosen-length mark (r ∷ rs) = go (mark % 2) (chosen-length (mark / 2) rs)
+  where
+    go : (d : ℕ) → length (chosen (mark / 2) rs) ≤ length rs → length (putIf d r (chosen (mark / 2) rs)) ≤ suc (length rs)
+    go zero h = omega arith
+    go (suc d) h = omega arith
+
+-- ---- row by row
+
+module _ (thr : ℕ → ℕ) (t : ℕ) (b : Bucket) (v : ℕ) (q : Outgoing) where
+  pub entered-not : (d : ℕ) → (thr v ≡ t → ⊥) → q ≡ entered d thr t b v q
+  entered-not zero h = refl
+  entered-not (suc d) h = sym (cond-false (inserted v (lookup b v) q) q (ne-eqb (thr v) t h))
+
+  pub entered-on : (d : ℕ) → (d ≡ 0 → ⊥) → thr v ≡ t → inserted v (lookup b v) q ≡ entered d thr t b v q
+  entered-on zero h e = absurd (h refl)
+  entered-on (suc d) h e = sym (cond-true (inserted v (lookup b v) q) q (eq-eqb (thr v) t e))
+
+-- the rows from i on, and the one before them
+chosen-down : (mark i : ℕ) (rows : List ℕ) → i < length rows
+    → chosen (mark / 2 ^ i) (drop i rows) ≡ putIf (mark / 2 ^ i % 2) (getD rows i 0) (chosen (mark / 2 ^ suc i) (drop (suc i) rows))
+chosen-down mark i rows h =
+    let e : mark / 2 ^ i / 2 ≡ mark / 2 ^ suc i = div-div-eq-div-mul mark (2 ^ i) 2 ∙ ap (λ (x : ℕ). mark / x) (sym (pow-suc 2 i)) in
+    rw (drop-cons rows i 0 h, e)
+
+module _ (thr : ℕ → ℕ) (t : ℕ) (b : Bucket) where
+  leaving-length : (ks : List ℕ) → length (leavingOf thr t b ks) ≤ length ks
+  unfolding leavingOf
+  leaving-length ks =
+      let f : ℕ → Entry = (λ k. record { word = k; plan = lookup b k }) in
+      rw sort-length (omega (arith, keep-length (λ (e : Entry). eqb (thr (e .word)) t) (map f ks), length-map ks f))
+
+  enter : (m d v : ℕ) (ks : List ℕ) → length ks < m → entered d thr t b v (outgoing m (leavingOf thr t b ks)) ≡ outgoing m (leavingOf thr t b (putIf d v ks))
+  unfolding leavingOf
+  enter m zero v ks h = refl
+  enter m (suc d) v ks h =
+      cases (eqb (thr v) t)
+      (λ y. rw y (insert-law m (leavingOf thr t b ks) (record { word = v; plan = lookup b v }) (omega (arith, leaving-length ks))))
+      (λ n. rw n)
+
+  -- what the loop has found among the rows from i on
+  abbrev pub found : ℕ → ℕ → List ℕ → List Entry
+  found mark i rows = leavingOf thr t b (chosen (mark / 2 ^ i) (drop i rows))
+
+  pub found-end : (mark i : ℕ) (rows : List ℕ) → length rows ≤ i → found mark i rows ≡ []
+  unfolding leavingOf
+  found-end mark i rows h = rw (drop-of-length-le rows h)
+
+  pub found-all : (mark : ℕ) (rows : List ℕ) → found mark 0 rows ≡ leavingOf thr t b (chosen mark rows)
+  found-all mark rows = ap (λ (x : ℕ). leavingOf thr t b (chosen x rows)) (div-one mark)
+
+  few : (mark i : ℕ) (rows : List ℕ) → length (chosen (mark / 2 ^ i) (drop i rows)) ≤ length rows - i
+  few mark i rows = omega (arith, chosen-length (mark / 2 ^ i) (drop i rows), length-drop i rows)
+
+  pub found-few : (mark i : ℕ) (rows : List ℕ) → length (found mark i rows) ≤ length rows - i
+  found-few mark i rows = omega (arith, leaving-length (chosen (mark / 2 ^ i) (drop i rows)), few mark i rows)
+
+  pub found-down : (m mark i : ℕ) (rows : List ℕ) → 0 < i → i ≤ length rows → length rows ≤ m
+      → entered (mark / 2 ^ (i - 1) % 2) thr t b (getD rows (i - 1) 0) (outgoing m (found mark i rows)) ≡ outgoing m (found mark (i - 1) rows)
+  found-down m mark zero rows p h l = absurd (omega arith)
+  found-down m mark (suc i) rows p h l =
+      rw (sub-one, chosen-down mark i rows h) (enter m (mark / 2 ^ i % 2) (getD rows i 0) (chosen (mark / 2 ^ suc i) (drop (suc i) rows)) (omega (arith, few mark (suc i) rows)))
+
+-- ---- withdrawn one by one
+
+pub withdraw-step : (n : ℕ) (b : Bucket) (xs : List ℕ) (m i : ℕ) → i < m → m ≤ length xs
+    → withdrawAll n (drop (i + 1) (take m xs)) (withdraw n (getD xs i 0) b .bucket) ≡ withdrawAll n (drop i (take m xs)) b
+withdraw-step n b xs m i h l = rw (add-one, part xs m i l h)
+
+pub withdraw-end : (n : ℕ) (b : Bucket) (xs : List ℕ) (m i : ℕ) → m ≤ i → withdrawAll n (drop i (take m xs)) b ≡ b
+withdraw-end n b xs m i h = rw (past xs m i h)
