@@ -34,6 +34,13 @@ pub bound-at : (n r : ℕ) (bs : List Bucket) (i : ℕ) → i < length bs → ge
 unfolding bounds
 bound-at n r bs i h = getD-map-in (λ b. b .bound) bs i (emptyBucket n r) 0 h
 
+-- words of n bits with plans of r bits
+abbrev pub Fits : ℕ → ℕ → Entry → Type 0
+Fits n r e = (e .word < 2 ^ n) × (e .plan < 2 ^ r)
+
+abbrev pub Small : ℕ → ℕ → List Entry → Type 0
+Small n r es = (e : Entry) → List·Memᴰ e es → Fits n r e
+
 -- the entries, with more of them in front, one after the other
 abbrev pub joined : List Entry → List Entry → List Entry
 joined es [] = es
@@ -133,7 +140,7 @@ module _ (n r : ℕ) (S : ℕ → ℕ) where
     pub falls : bounds (p .buckets) ≡ arrive (firstLevel S) m (bounds bs) (words es) (e .word)
     pub leaves : List·Permᴰ (p .out ++ pass S m (bounds bs) es) (pass S m (bounds (p .buckets)) (e ∷ es))
 
-  module _ (bs : List Bucket) (es : List Entry) (e : Entry) (pos : 0 < length bs) (small : e .word < 2 ^ n) (plan-lt : e .plan < 2 ^ r)
+  module _ (bs : List Bucket) (es : List Entry) (e : Entry) (pos : 0 < length bs) (small : Fits n r e)
       (l : LevelHolds (length bs) bs es) where
     abbrev m : ℕ
     m = length bs
@@ -151,7 +158,7 @@ module _ (n r : ℕ) (S : ℕ → ℕ) where
     s = settle n (thr S) e (nth n r bs i .bound) (nth n r bs i)
 
     law : Settles n r (thr S) e fs (nth n r bs i .bound) s
-    law = settle-law n r (thr S) e fs small plan-lt (nth n r bs i .bound) (nth n r bs i) refl (l .each i i-lt)
+    law = settle-law n r (thr S) e fs (small .0) (small .1) (nth n r bs i .bound) (nth n r bs i) refl (l .each i i-lt)
 
     own-due : dueIn S m i (e ∷ es) ≡ e ∷ fs
     own-due = cond-true (e ∷ fs) fs (eq-eqb i i refl)
@@ -193,9 +200,9 @@ module _ (n r : ℕ) (S : ℕ → ℕ) where
       leaves = leaves-after;
     }
 
-  pub arrive-law : (m : ℕ) (bs : List Bucket) (es : List Entry) (e : Entry) → 0 < m → e .word < 2 ^ n → e .plan < 2 ^ r → LevelHolds m bs es → Arrived m bs es e (arriveAt n r S bs e)
-  arrive-law m bs es e pos small plan-lt l =
-      subst (λ (k : ℕ). 0 < k → LevelHolds k bs es → Arrived k bs es e (arriveAt n r S bs e)) (l .count) (λ p a. arrive-here bs es e p small plan-lt a) pos l
+  pub arrive-law : (m : ℕ) (bs : List Bucket) (es : List Entry) (e : Entry) → 0 < m → Fits n r e → LevelHolds m bs es → Arrived m bs es e (arriveAt n r S bs e)
+  arrive-law m bs es e pos small l =
+      subst (λ (k : ℕ). 0 < k → LevelHolds k bs es → Arrived k bs es e (arriveAt n r S bs e)) (l .count) (λ p a. arrive-here bs es e p small a) pos l
 
   -- ---- arrivals one after the other
 
@@ -204,17 +211,12 @@ module _ (n r : ℕ) (S : ℕ → ℕ) where
     pub falls : bounds (p .buckets) ≡ arrives (firstLevel S) m (bounds bs) (words es) (words new)
     pub leaves : List·Permᴰ (p .out ++ pass S m (bounds bs) es) (pass S m (bounds (p .buckets)) (joined es new))
 
-  -- words of n bits and plans of r bits
-  abbrev pub Small : List Entry → Type 0
-  Small es = (e : Entry) → List·Memᴰ e es → (e .word < 2 ^ n) × (e .plan < 2 ^ r)
-
-  pub arrive-all : (m : ℕ) → 0 < m → (bs : List Bucket) (es new : List Entry) → Small new → LevelHolds m bs es → ArrivedAll m bs es new (arriveAll n r S bs new)
+  pub arrive-all : (m : ℕ) → 0 < m → (bs : List Bucket) (es new : List Entry) → Small n r new → LevelHolds m bs es → ArrivedAll m bs es new (arriveAll n r S bs new)
   arrive-all m pos bs es [] small l = record { level = l; falls = refl; leaves = Permᴰ·refl (pass S m (bounds bs) es) }
   arrive-all m pos bs es (e ∷ new) small l =
-      let own = small e (List·Memᴰ·head refl) in
       let p : Placed = arriveAt n r S bs e in
       let q : Placed = arriveAll n r S (p .buckets) new in
-      let a = arrive-law m bs es e pos (own .0) (own .1) l in
+      let a = arrive-law m bs es e pos (small e (List·Memᴰ·head refl)) l in
       let b = arrive-all m pos (p .buckets) (e ∷ es) new (λ x i. small x (List·Memᴰ·tail i)) (a .level) in
       record {
         level = b .level;

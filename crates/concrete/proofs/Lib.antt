@@ -1,3 +1,4 @@
 pub mod Numbers
 pub mod Level
 pub mod Touch
+pub mod Stand
