@@ -2,3 +2,4 @@ pub mod Numbers
 pub mod Level
 pub mod Touch
 pub mod Stand
+pub mod Content

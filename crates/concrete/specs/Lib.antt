@@ -1,3 +1,5 @@
 -- The definitions of the crate.
 pub mod Table
 pub mod Layout
+pub mod Content
+pub mod Sound
