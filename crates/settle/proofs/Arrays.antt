@@ -79,6 +79,10 @@ module _ (m : ℕ) (es : List Entry) where
   unfolding outgoing
   count-of = refl
 
+  pub words-of : take (outgoing m es .count) (outgoing m es .vectors) ≡ words es
+  unfolding outgoing
+  words-of = take-at (words es) _ (length es) (length-map es (λ x. x .word))
+
   put-side : (f : Entry → ℕ) (i : ℕ) (e : Entry) → i ≤ length es → length es < m → putIn i (f e) (padded m (map f es)) ≡ padded m (map f (take i es ++ e ∷ drop i es))
   put-side f i e h l =
       let k : length (map f es) ≡ length es = length-map es f in
@@ -117,8 +121,7 @@ pub insert-law : (m : ℕ) (es : List Entry) (e : Entry) → length es < m → i
 unfolding outgoing
 insert-law m es e l =
     let k : length (words es) ≡ length es = length-map es (λ x. x .word) in
-    let w : take (length es) (padded m (words es)) ≡ words es = take-at (words es) _ (length es) k in
-    rw w (put-law m es (placeOf (e .word) (words es)) e (omega (arith, place-le (e .word) (words es))) l ∙ ap (outgoing m) (sym (placed e es)))
+    rw (words-of m es) (put-law m es (placeOf (e .word) (words es)) e (omega (arith, place-le (e .word) (words es))) l ∙ ap (outgoing m) (sym (placed e es)))
 
 -- ---- loops over the first m elements
 

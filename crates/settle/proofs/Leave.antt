@@ -6,7 +6,7 @@ use native.Mathlib.Numerals.{add-one, sub-one}
 use native.Mathlib.Omega.{arith}
 use mathlib.Core.Path.{_≡_, refl, sym, ap, _∙_}
 use mathlib.Core.Bool.{Bool}
-use mathlib.Core.List.{List, [], _∷_, map}
+use mathlib.Core.List.{List, [], _∷_, map, Sublistᴰ, Sublistᴰ·slnil, Sublistᴰ·cons, Sublistᴰ·cons-cons}
 use lib.Dec.{eqb}
 use lib.ListN.{length, getD, take, drop, length-map, length-drop, drop-of-length-le}
 use lib.Seq.{drop-cons}
@@ -14,6 +14,7 @@ use borrow.Author.Tests.{eq-eqb, ne-eqb}
 use Rattle.lists.specs.Lists.{keep}
 use Rattle.lists.specs.Entries.{Entry, words}
 use Rattle.lists.proofs.Tests.{cases, by-test, cond-true, cond-false}
+use Rattle.lists.proofs.Keep.{length-sub}
 use Rattle.lists.proofs.Sorts.{sort-length}
 use Rattle.gf2.specs.Select.{putIf, chosen}
 use Rattle.bucket.specs.declared.Bucket.{Bucket}
@@ -25,11 +26,9 @@ use Rattle.settle.proofs.Arrays.{insert-law, part, past}
 
 -- ---- how many
 
-keep-length : {A : Type 0} (p : A → Bool) (xs : List A) → length (keep p xs) ≤ length xs
-keep-length p [] = zero-le
-keep-length p (x ∷ xs) =
-    let h = keep-length p xs in
-    by-test (λ l. length l ≤ suc (length xs)) (p x) (λ t. omega arith) (λ f. omega arith)
+pub keep-within : {A : Type 0} (p : A → Bool) (xs : List A) → Sublistᴰ (keep p xs) xs
+keep-within p [] = Sublistᴰ·slnil
+keep-within p (x ∷ xs) = by-test (λ l. Sublistᴰ l (x ∷ xs)) (p x) (λ t. Sublistᴰ·cons-cons refl (keep-within p xs)) (λ f. Sublistᴰ·cons (keep-within p xs))
 
 pub chosen-length : (mark : ℕ) (rs : List ℕ) → length (chosen mark rs) ≤ length rs
 chosen-length mark [] = zero-le
@@ -62,7 +61,7 @@ module _ (thr : ℕ → ℕ) (t : ℕ) (b : Bucket) where
   unfolding leavingOf
   leaving-length ks =
       let f : ℕ → Entry = (λ k. record { word = k; plan = lookup b k }) in
-      rw sort-length (omega (arith, keep-length (λ (e : Entry). eqb (thr (e .word)) t) (map f ks), length-map ks f))
+      rw sort-length (omega (arith, length-sub (keep-within (λ (e : Entry). eqb (thr (e .word)) t) (map f ks)), length-map ks f))
 
   enter : (m d v : ℕ) (ks : List ℕ) → length ks < m → entered d thr t b v (outgoing m (leavingOf thr t b ks)) ≡ outgoing m (leavingOf thr t b (putIf d v ks))
   unfolding leavingOf

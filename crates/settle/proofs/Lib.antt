@@ -2,4 +2,6 @@
 pub mod Arrays
 pub mod Hold
 pub mod Leave
-pub mod Settle
+pub mod Run
+pub mod Fall
+pub mod Sound

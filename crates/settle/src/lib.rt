@@ -1,6 +1,6 @@
 // Settling under a bound: a word is added to one bucket, whose bound falls while the word depends; the words that leave go one level
 // further. specs/Settle.antt has the definition, in document 01's order, specs/Outgoing.antt the words that leave as the code keeps
-// them; proofs/Hold.antt what a bucket holds as a list of entries, proofs/Settle.antt where the bound comes to stand, who stays and
+// them; proofs/Hold.antt what a bucket holds as a list of entries, proofs/Fall.antt where the bound comes to stand, who stays and
 // who leaves. Cites gf2, lists, bucket, eliminate (the rows of K) and identifier (thresholds); table builds on it.
 use bucket::Bucket;
 use identifier::threshold;
@@ -182,4 +182,53 @@ pub(crate) fn withdraw_all(b: Bucket, out: Outgoing) -> Bucket
         i += 1;
     }
     left
+}
+
+// The bucket under the bound t.
+pub(crate) fn at_bound(b: Bucket, t: u64) -> Bucket
+    ensures { λ r. ⌜ r ≡ atBound t b ⌝ }
+{
+    let cols = b.cols;
+    let sols = b.sols;
+    Bucket {
+        cols,
+        mark: b.mark,
+        sols,
+        bound: t,
+    }
+}
+
+// The words of threshold t, with their plans, smallest first.
+pub(crate) fn leaving(b: Bucket, t: u64) -> Outgoing
+    requires { do ⌜ SoundBucket (← ⟦Bucket::ROWS⟧) (← ⟦Bucket::SOLUTIONS⟧) b ⌝ }
+    ensures { λ r. do ⌜ r ≡ outgoing (← ⟦Outgoing::MOST⟧ .entry) (leaving (← ⟦Bucket::ROWS⟧ .entry) thresholdOf t b) ⌝ }
+{
+    let cols = b.cols;
+    leaving_of(b, cols, t)
+}
+
+// The word k with its plan comes to the bucket. While it depends there, the bound falls by one, and the words whose threshold equals
+// the new bound leave, smallest vector first, each withdrawn. If k's threshold is not below the bound, k leaves last.
+pub fn settle(b: Bucket, k: u64, plan: u64) -> Settled
+    requires { do ⌜ SoundBucket (← ⟦Bucket::ROWS⟧) (← ⟦Bucket::SOLUTIONS⟧) b ⌝ }
+    ensures { λ r. do ⌜ r ≡ settledOf (← ⟦Outgoing::MOST⟧ .entry) (settle (← ⟦Bucket::ROWS⟧ .entry) thresholdOf (record { word = k; plan = plan }) (b .bound) b) ⌝ }
+{
+    let own = threshold(k);
+    let mut bucket = b;
+    let mut out = Outgoing::none();
+    while own < bucket.bound {
+        let tried = bucket.add(k, plan);
+        if tried.done {
+            let added = tried.bucket;
+            return Settled { bucket: added, out };
+        }
+        let t = bucket.bound - 1;
+        let gone = leaving(bucket, t);
+        out = out.followed_by(gone);
+        bucket = at_bound(withdraw_all(bucket, gone), t);
+    }
+    Settled {
+        bucket,
+        out: out.push(k, plan),
+    }
 }
