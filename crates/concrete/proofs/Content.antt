@@ -21,7 +21,7 @@ use Rattle.gf2.specs.Select.{putIf, chosen}
 use Rattle.bucket.specs.declared.Bucket.{Bucket}
 use Rattle.settle.specs.Settle.{contents}
 use Rattle.settle.proofs.Hold.{Holds}
-use Rattle.settle.proofs.Settle.{held, rows-of}
+use Rattle.settle.proofs.Fall.{held, rows-of}
 use Rattle.model.specs.Model.{State}
 use Rattle.concrete.specs.Table.{Table, bounds, thr, index, onSecond, nth}
 use Rattle.concrete.specs.Content.{occupied, allRows, backOf, entriesOf, liveOf}
@@ -60,7 +60,7 @@ module _ (n r : ℕ) (S : ℕ → ℕ) (m : ℕ) (pos : 0 < m) (B : List ℕ) (e
   abbrev from : ℕ → List Entry
   from i = keep (λ e. not (ltb (at e) i) && ok e) es
 
-  from-split : (i : ℕ) → List·Permᴰ (from i) (held n r (thr S) (getD B i 0) (dueIn S m i es) ++ from (suc i))
+  from-split : (i : ℕ) → List·Permᴰ (from i) (held (thr S) (getD B i 0) (dueIn S m i es) ++ from (suc i))
   from-split i =
       subst₂ (λ (a b : List Entry). List·Permᴰ (from i) (a ++ b))
       (keep-keep (λ e. eqb (at e) i) (λ e. not (ltb (at e) i) && ok e) es
@@ -76,18 +76,18 @@ module _ (n r : ℕ) (S : ℕ → ℕ) (m : ℕ) (pos : 0 < m) (B : List ℕ) (e
           (λ f. ap (λ (b : Bool). b && ok e) f ∙ sym (ap (λ (b : Bool). b && ltb (thr S (e .word)) (getD B i 0)) f))
 
   rows-from : (i : ℕ) (bs : List Bucket) → i + length bs ≡ m
-      → ((j : ℕ) → j < length bs → Holds n r (nth n r bs j) (held n r (thr S) (getD B (i + j) 0) (dueIn S m (i + j) es)))
+      → ((j : ℕ) → j < length bs → Holds n r (nth n r bs j) (held (thr S) (getD B (i + j) 0) (dueIn S m (i + j) es)))
       → List·Permᴰ (allRows n bs) (from i)
   rows-from i [] e h =
       subst⁻¹ (List·Permᴰ [])
       (keep-none (λ x. not (ltb (at x) i) && ok x) es (λ x. ap (λ (b : Bool). not b && ok x) (lt-ltb (at x) i (le-trans (mod-lt (S (x .word) / 8) pos) (omega arith))))) List·Permᴰ·nil
   rows-from i (b ∷ bs) e h =
       List·Permᴰ·trans
-      (List·Permᴰ·trans (Permᴰ·append-right (allRows n bs) (rows-of (subst (λ (k : ℕ). Holds n r b (held n r (thr S) (getD B k 0) (dueIn S m k es))) (add-zero i) (h 0 (omega arith)))))
-      (Permᴰ·append-left (held n r (thr S) (getD B i 0) (dueIn S m i es))
+      (List·Permᴰ·trans (Permᴰ·append-right (allRows n bs) (rows-of (subst (λ (k : ℕ). Holds n r b (held (thr S) (getD B k 0) (dueIn S m k es))) (add-zero i) (h 0 (omega arith)))))
+      (Permᴰ·append-left (held (thr S) (getD B i 0) (dueIn S m i es))
       (rows-from (suc i) bs (omega arith) (λ j l.
       let q : i + suc j ≡ suc i + j = omega arith in
-      subst (λ (k : ℕ). Holds n r (nth n r bs j) (held n r (thr S) (getD B k 0) (dueIn S m k es))) q (h (suc j) (omega arith))))))
+      subst (λ (k : ℕ). Holds n r (nth n r bs j) (held (thr S) (getD B k 0) (dueIn S m k es))) q (h (suc j) (omega arith))))))
       (Permᴰ·symm (from-split i))
 
   whole : List·Permᴰ es (from 0 ++ pass S m B es)
@@ -101,8 +101,8 @@ level-rows : (n r : ℕ) (S : ℕ → ℕ) (m : ℕ) → 0 < m → (bs : List Bu
 level-rows n r S m pos bs es l =
     List·Permᴰ·trans (Permᴰ·append-right (pass S m (bounds bs) es)
     (rows-from n r S m pos (bounds bs) es 0 bs (zero-add (length bs) ∙ l .count) (λ j h.
-    subst⁻¹ (λ (k : ℕ). Holds n r (nth n r bs j) (held n r (thr S) (getD (bounds bs) k 0) (dueIn S m k es))) (zero-add j)
-    (subst⁻¹ (λ (t : ℕ). Holds n r (nth n r bs j) (held n r (thr S) t (dueIn S m j es))) (bound-at n r bs j h)
+    subst⁻¹ (λ (k : ℕ). Holds n r (nth n r bs j) (held (thr S) (getD (bounds bs) k 0) (dueIn S m k es))) (zero-add j)
+    (subst⁻¹ (λ (t : ℕ). Holds n r (nth n r bs j) (held (thr S) t (dueIn S m j es))) (bound-at n r bs j h)
     (l .each j (subst (λ (k : ℕ). j < k) (l .count) h))))))
     (Permᴰ·symm (whole n r S m pos (bounds bs) es))
 

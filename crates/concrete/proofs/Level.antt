@@ -20,7 +20,7 @@ use Rattle.bucket.specs.declared.Bucket.{Bucket}
 use Rattle.bucket.specs.Bucket.{emptyBucket}
 use Rattle.settle.specs.Settle.{Settlement, settle}
 use Rattle.settle.proofs.Hold.{Holds, holds-perm}
-use Rattle.settle.proofs.Settle.{held, over, seen, Settles, settle-law}
+use Rattle.settle.proofs.Fall.{held, over, seen, Settles, settle-law}
 use Rattle.model.specs.Levels as M
 use Rattle.model.specs.Levels.{Level, dueAs, due}
 use Rattle.model.proofs.Arrivals.{arrive, arrives}
@@ -80,19 +80,18 @@ module _ (S : ℕ → ℕ) where
       (λ t. ap₂ (λ (j : ℕ) (b : Bool). not (ltb x (getD B j 0)) && b) (eqb-true k i t) t ∙ and-true (not (ltb x (getD B i 0))) ∙ sym (ap (λ (b : Bool). b && not (ltb x (getD B i 0))) t))
       (λ f. ap (λ (b : Bool). not (ltb x (getD B k 0)) && b) f ∙ and-false (not (ltb x (getD B k 0))) ∙ sym (ap (λ (b : Bool). b && not (ltb x (getD B i 0))) f))
 
-  module _ (n r : ℕ) where
-    pub due-in : (m i : ℕ) (es : List Entry) → due firstLevel m (words es) i ≡ map (seen n r (thr S)) (dueIn m i es)
-    due-in m i es =
-        ap (map (dueAs firstLevel)) (keep-map (λ (e : Entry). e .word) (λ w. eqb (index S m w) i) es) ∙ map-map (dueAs firstLevel) (λ (e : Entry). e .word) (dueIn m i es)
+  pub due-in : (m i : ℕ) (es : List Entry) → due firstLevel m (words es) i ≡ map (seen (thr S)) (dueIn m i es)
+  due-in m i es =
+      ap (map (dueAs firstLevel)) (keep-map (λ (e : Entry). e .word) (λ w. eqb (index S m w) i) es) ∙ map-map (dueAs firstLevel) (λ (e : Entry). e .word) (dueIn m i es)
 
-    pass-split : (m i : ℕ) (B : List ℕ) (es : List Entry) → List·Permᴰ (pass m B es) (over n r (thr S) (getD B i 0) (dueIn m i es) ++ away m i B es)
-    pass-split m i B es =
-        subst₂ (λ (l k : List Entry). List·Permᴰ (pass m B es) (l ++ k))
-        (keep-keep (λ e. eqb (index S m (e .word)) i) (λ e. not (within m B (e .word))) es
-        ∙ keep-ext _ (λ e. eqb (index S m (e .word)) i && not (ltb (thr S (e .word)) (getD B i 0))) es (λ e. pass-here i (thr S (e .word)) (index S m (e .word)) B)
-        ∙ sym (keep-keep (λ e. not (ltb (thr S (e .word)) (getD B i 0))) (λ e. eqb (index S m (e .word)) i) es))
-        (keep-keep (λ e. not (eqb (index S m (e .word)) i)) (λ e. not (within m B (e .word))) es)
-        (keep-part (λ e. eqb (index S m (e .word)) i) (pass m B es))
+  pass-split : (m i : ℕ) (B : List ℕ) (es : List Entry) → List·Permᴰ (pass m B es) (over (thr S) (getD B i 0) (dueIn m i es) ++ away m i B es)
+  pass-split m i B es =
+      subst₂ (λ (l k : List Entry). List·Permᴰ (pass m B es) (l ++ k))
+      (keep-keep (λ e. eqb (index S m (e .word)) i) (λ e. not (within m B (e .word))) es
+      ∙ keep-ext _ (λ e. eqb (index S m (e .word)) i && not (ltb (thr S (e .word)) (getD B i 0))) es (λ e. pass-here i (thr S (e .word)) (index S m (e .word)) B)
+      ∙ sym (keep-keep (λ e. not (ltb (thr S (e .word)) (getD B i 0))) (λ e. eqb (index S m (e .word)) i) es))
+      (keep-keep (λ e. not (eqb (index S m (e .word)) i)) (λ e. not (within m B (e .word))) es)
+      (keep-part (λ e. eqb (index S m (e .word)) i) (pass m B es))
 
   away-set : (m i c : ℕ) (B : List ℕ) (es : List Entry) → away m i (set B i c) es ≡ away m i B es
   away-set m i c B es =
@@ -107,7 +106,7 @@ module _ (S : ℕ → ℕ) where
 module _ (n r : ℕ) (S : ℕ → ℕ) where
   -- of the entries es, bucket b holds those that are due in bucket i of m under its bound
   abbrev pub HoldsDue : ℕ → ℕ → List Entry → Bucket → Type 0
-  HoldsDue m i es b = Holds n r b (held n r (thr S) (b .bound) (dueIn S m i es))
+  HoldsDue m i es b = Holds n r b (held (thr S) (b .bound) (dueIn S m i es))
 
   -- each bucket of the level holds its due
   pub record LevelHolds (m : ℕ) (bs : List Bucket) (es : List Entry) : Type 0 where
@@ -130,7 +129,7 @@ module _ (n r : ℕ) (S : ℕ → ℕ) where
         (λ t. subst (λ (k : ℕ). HoldsDue m k fs (nth n r (set bs i b) k)) (eqb-true i j t)
         (subst⁻¹ (HoldsDue m i fs) (getD-set-same bs i b (emptyBucket n r) (subst⁻¹ (λ (z : ℕ). i < z) (l .count) i-lt)) own))
         (λ f. subst⁻¹ (HoldsDue m j fs) (getD-set-other bs i j b (emptyBucket n r) (λ q. eqb-false i j f (sym q)))
-        (subst⁻¹ (λ (ds : List Entry). Holds n r (nth n r bs j) (held n r (thr S) (nth n r bs j .bound) ds)) (others j f) (l .each j h)));
+        (subst⁻¹ (λ (ds : List Entry). Holds n r (nth n r bs j) (held (thr S) (nth n r bs j .bound) ds)) (others j f) (l .each j h)));
   }
 
   -- ---- one arrival
@@ -183,20 +182,20 @@ module _ (n r : ℕ) (S : ℕ → ℕ) where
 
     leaves-after : List·Permᴰ (s .out ++ pass S m (bounds bs) es) (pass S m (bounds (set bs i (s .bucket))) (e ∷ es))
     leaves-after =
-        List·Permᴰ·trans (Permᴰ·append-left (s .out) (pass-split S n r m i (bounds bs) es))
+        List·Permᴰ·trans (Permᴰ·append-left (s .out) (pass-split S m i (bounds bs) es))
         (subst (λ (l : List Entry). List·Permᴰ l (pass S m (bounds (set bs i (s .bucket))) (e ∷ es)))
-        (append-assoc (s .out) (over n r (thr S) (getD (bounds bs) i 0) fs) (away S m i (bounds bs) es))
+        (append-assoc (s .out) (over (thr S) (getD (bounds bs) i 0) fs) (away S m i (bounds bs) es))
         (List·Permᴰ·trans (Permᴰ·append-right (away S m i (bounds bs) es)
-        (subst⁻¹ (λ (t : ℕ). List·Permᴰ (s .out ++ over n r (thr S) t fs) (over n r (thr S) (s .bucket .bound) (e ∷ fs))) here-bound (law .leaves)))
+        (subst⁻¹ (λ (t : ℕ). List·Permᴰ (s .out ++ over (thr S) t fs) (over (thr S) (s .bucket .bound) (e ∷ fs))) here-bound (law .leaves)))
         (subst₂ (λ (l k : List Entry). List·Permᴰ (l ++ k) (pass S m (bounds (set bs i (s .bucket))) (e ∷ es)))
-        (ap₂ (λ (t : ℕ) (l : List Entry). over n r (thr S) t l) there-bound own-due) away-after
-        (Permᴰ·symm (pass-split S n r m i (bounds (set bs i (s .bucket))) (e ∷ es))))))
+        (ap₂ (λ (t : ℕ) (l : List Entry). over (thr S) t l) there-bound own-due) away-after
+        (Permᴰ·symm (pass-split S m i (bounds (set bs i (s .bucket))) (e ∷ es))))))
 
     arrive-here : Arrived m bs es e (arriveAt n r S bs e)
     arrive-here = record {
-      level = level-set i (s .bucket) l i-lt (subst⁻¹ (λ (l : List Entry). Holds n r (s .bucket) (held n r (thr S) (s .bucket .bound) l)) own-due (law .holds))
+      level = level-set i (s .bucket) l i-lt (subst⁻¹ (λ (l : List Entry). Holds n r (s .bucket) (held (thr S) (s .bucket .bound) l)) own-due (law .holds))
           (λ j f. cond-false (e ∷ dueIn S m j es) (dueIn S m j es) f);
-      falls = new-bounds ∙ ap (set (bounds bs) i) (law .falls ∙ ap₂ (λ (t : ℕ) (ds : List Due). fall t (seen n r (thr S) e) ds) (sym here-bound) (sym (due-in S n r m i es)));
+      falls = new-bounds ∙ ap (set (bounds bs) i) (law .falls ∙ ap₂ (λ (t : ℕ) (ds : List Due). fall t (seen (thr S) e) ds) (sym here-bound) (sym (due-in S m i es)));
       leaves = leaves-after;
     }
 

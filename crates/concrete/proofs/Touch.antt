@@ -18,7 +18,7 @@ use Rattle.bucket.specs.declared.Bucket.{Bucket}
 use Rattle.bucket.specs.Bucket.{emptyBucket, change, withdraw}
 use Rattle.settle.specs.Settle.{planOf}
 use Rattle.settle.proofs.Hold.{Holds, holds-find, holds-withdraw, withdraw-bound, holds-change, change-bound}
-use Rattle.settle.proofs.Settle.{held}
+use Rattle.settle.proofs.Fall.{held}
 use Rattle.concrete.specs.Table.{bounds, thr, index, second, onSecond, nth, bucketOf, put, holds}
 use Rattle.concrete.proofs.Level.{bound-at, within, dueIn, HoldsDue, LevelHolds, level-set}
 
@@ -76,7 +76,7 @@ module _ (n r : ℕ) (S : ℕ → ℕ) where
     low : {t : Bool} → holds n r S bs v ≡ t → ltb (thr S v) (b .bound) ≡ t
     low t = ap (λ (c : Bucket). ltb (thr S v) (c .bound)) (sym here) ∙ t
 
-    find-here : holds n r S bs v ≡ true → find v (held n r (thr S) (b .bound) (dueIn S m i es)) ≡ find v es
+    find-here : holds n r S bs v ≡ true → find v (held (thr S) (b .bound) (dueIn S m i es)) ≡ find v es
     find-here t =
         find-keep (λ w. ltb (thr S w) (b .bound)) v (dueIn S m i es) (low t) ∙ find-keep (λ w. eqb (index S m w) i) v es (eq-eqb i i refl)
 
@@ -96,14 +96,14 @@ module _ (n r : ℕ) (S : ℕ → ℕ) where
         count = a .count;
         each = λ j h. subst⁻¹ (Holds n r (nth n r bs j))
             (cases (eqb i j)
-            (λ t. subst (λ (k : ℕ). held n r (thr S) (nth n r bs k .bound) (dueIn S m k (g v es)) ≡ held n r (thr S) (nth n r bs k .bound) (dueIn S m k es)) (eqb-true i j t)
-            (ap (held n r (thr S) (b .bound)) due-own ∙ edit .outside (λ w. ltb (thr S w) (b .bound)) v (dueIn S m i es) (low off)))
-            (λ t. ap (held n r (thr S) (nth n r bs j .bound)) (due-else j t)))
+            (λ t. subst (λ (k : ℕ). held (thr S) (nth n r bs k .bound) (dueIn S m k (g v es)) ≡ held (thr S) (nth n r bs k .bound) (dueIn S m k es)) (eqb-true i j t)
+            (ap (held (thr S) (b .bound)) due-own ∙ edit .outside (λ w. ltb (thr S w) (b .bound)) v (dueIn S m i es) (low off)))
+            (λ t. ap (held (thr S) (nth n r bs j .bound)) (due-else j t)))
             (a .each j h);
       }
 
       module _ (q : ℕ) (live : find v es ≡ some q) (on : holds n r S bs v ≡ true) where
-        there : find v (held n r (thr S) (b .bound) (dueIn S m i es)) ≡ some q
+        there : find v (held (thr S) (b .bound) (dueIn S m i es)) ≡ some q
         there = find-here on ∙ live
 
         same-bound : f v b .bound ≡ b .bound
@@ -112,7 +112,7 @@ module _ (n r : ℕ) (S : ℕ → ℕ) where
         own : HoldsDue n r S m i (g v es) (f v b)
         own =
             subst⁻¹ (Holds n r (f v b))
-            (ap₂ (λ (t : ℕ) (ds : List Entry). held n r (thr S) t ds) same-bound due-own ∙ edit .inside (λ w. ltb (thr S w) (b .bound)) v (dueIn S m i es) (low on))
+            (ap₂ (λ (t : ℕ) (ds : List Entry). held (thr S) t ds) same-bound due-own ∙ edit .inside (λ w. ltb (thr S w) (b .bound)) v (dueIn S m i es) (low on))
             (edit .bucket (a .each i i-lt) v q l there)
 
         same-put : put S bs v (f v (bucketOf n r S bs v)) ≡ set bs i (f v b)
