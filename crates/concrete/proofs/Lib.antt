@@ -3,3 +3,4 @@ pub mod Level
 pub mod Touch
 pub mod Stand
 pub mod Content
+pub mod Sound
