@@ -1,0 +1,6 @@
+-- The laws of the crate.
+pub mod Laws
+pub mod Found
+pub mod Free
+pub mod Skip
+pub mod Examples
