@@ -12,7 +12,7 @@ use lib.ListN.{length, getD, take, drop, length-map, length-drop, drop-of-length
 use lib.Seq.{drop-cons}
 use borrow.Author.Tests.{eq-eqb, ne-eqb}
 use Rattle.lists.specs.Lists.{keep}
-use Rattle.lists.specs.Entries.{Entry, words}
+use Rattle.lists.specs.Entries.{Entry}
 use Rattle.lists.proofs.Tests.{cases, by-test, cond-true, cond-false}
 use Rattle.lists.proofs.Keep.{length-sub}
 use Rattle.lists.proofs.Sorts.{sort-length}
@@ -20,9 +20,9 @@ use Rattle.gf2.specs.Select.{putIf, chosen}
 use Rattle.bucket.specs.declared.Bucket.{Bucket}
 use Rattle.bucket.specs.Bucket.{lookup, withdraw}
 use Rattle.settle.specs.declared.Outgoing.{Outgoing}
-use Rattle.settle.specs.Settle.{listed, withdrawAll}
+use Rattle.settle.specs.Settle.{withdrawAll}
 use Rattle.settle.specs.Outgoing.{outgoing, inserted, leavingOf, entered}
-use Rattle.settle.proofs.Arrays.{insert-law, part, past}
+use Rattle.settle.proofs.Arrays.{count-of, insert-law, part, past}
 
 -- ---- how many
 
@@ -71,28 +71,33 @@ module _ (thr : ℕ → ℕ) (t : ℕ) (b : Bucket) where
       (λ y. rw y (insert-law m (leavingOf thr t b ks) (record { word = v; plan = lookup b v }) (omega (arith, leaving-length ks))))
       (λ n. rw n)
 
-  -- what the loop has found among the rows from i on
-  abbrev pub found : ℕ → ℕ → List ℕ → List Entry
-  found mark i rows = leavingOf thr t b (chosen (mark / 2 ^ i) (drop i rows))
+  -- q has what leaves of the rows from i on
+  abbrev pub Found : ℕ → ℕ → List ℕ → ℕ → Outgoing → Type 0
+  Found m mark rows i q = q ≡ outgoing m (leavingOf thr t b (chosen (mark / 2 ^ i) (drop i rows)))
 
-  pub found-end : (mark i : ℕ) (rows : List ℕ) → length rows ≤ i → found mark i rows ≡ []
-  unfolding leavingOf
-  found-end mark i rows h = rw (drop-of-length-le rows h)
+  module _ (m mark : ℕ) (rows : List ℕ) where
+    few : (i : ℕ) → length (chosen (mark / 2 ^ i) (drop i rows)) ≤ length rows - i
+    few i = omega (arith, chosen-length (mark / 2 ^ i) (drop i rows), length-drop i rows)
 
-  pub found-all : (mark : ℕ) (rows : List ℕ) → found mark 0 rows ≡ leavingOf thr t b (chosen mark rows)
-  found-all mark rows = ap (λ (x : ℕ). leavingOf thr t b (chosen x rows)) (div-one mark)
+    pub found-count : (i : ℕ) {q : Outgoing} → Found m mark rows i q → q .count ≤ length rows - i
+    found-count i e =
+        let ks : List ℕ = chosen (mark / 2 ^ i) (drop i rows) in
+        omega (arith, ap (λ (q : Outgoing). q .count) e ∙ count-of m (leavingOf thr t b ks), leaving-length ks, few i)
 
-  few : (mark i : ℕ) (rows : List ℕ) → length (chosen (mark / 2 ^ i) (drop i rows)) ≤ length rows - i
-  few mark i rows = omega (arith, chosen-length (mark / 2 ^ i) (drop i rows), length-drop i rows)
+    pub found-none : (i : ℕ) {q : Outgoing} → length rows ≤ i → q ≡ outgoing m [] → Found m mark rows i q
+    unfolding leavingOf
+    found-none i h e = rw (drop-of-length-le rows h) e
 
-  pub found-few : (mark i : ℕ) (rows : List ℕ) → length (found mark i rows) ≤ length rows - i
-  found-few mark i rows = omega (arith, leaving-length (chosen (mark / 2 ^ i) (drop i rows)), few mark i rows)
+    pub found-down : (i : ℕ) {q q′ : Outgoing} → 0 < i → i ≤ length rows → length rows ≤ m → Found m mark rows i q
+        → q′ ≡ entered (mark / 2 ^ (i - 1) % 2) thr t b (getD rows (i - 1) 0) q → Found m mark rows (i - 1) q′
+    found-down zero p h l e f = absurd (omega arith)
+    found-down (suc i) p h l e f =
+        rw (sub-one, chosen-down mark i rows h)
+        (f ∙ rw (sub-one, e) (enter m (mark / 2 ^ i % 2) (getD rows i 0) (chosen (mark / 2 ^ suc i) (drop (suc i) rows)) (omega (arith, few (suc i)))))
 
-  pub found-down : (m mark i : ℕ) (rows : List ℕ) → 0 < i → i ≤ length rows → length rows ≤ m
-      → entered (mark / 2 ^ (i - 1) % 2) thr t b (getD rows (i - 1) 0) (outgoing m (found mark i rows)) ≡ outgoing m (found mark (i - 1) rows)
-  found-down m mark zero rows p h l = absurd (omega arith)
-  found-down m mark (suc i) rows p h l =
-      rw (sub-one, chosen-down mark i rows h) (enter m (mark / 2 ^ i % 2) (getD rows i 0) (chosen (mark / 2 ^ suc i) (drop (suc i) rows)) (omega (arith, few mark (suc i) rows)))
+    pub found-all : (i : ℕ) {q : Outgoing} → i ≤ 0 → Found m mark rows i q → q ≡ outgoing m (leavingOf thr t b (chosen mark rows))
+    found-all zero h e = e ∙ ap (λ (x : ℕ). outgoing m (leavingOf thr t b (chosen x rows))) (div-one mark)
+    found-all (suc i) h e = absurd (omega arith)
 
 -- ---- withdrawn one by one
 

@@ -7,18 +7,17 @@ use mathlib.Core.Path.{_≡_, refl, sym, ap, ap₂, _∙_, subst⁻¹}
 use mathlib.Core.Bool.{true, false}
 use mathlib.Core.List.{List, [], _∷_, _++_, append-assoc, append-nil}
 use lib.ListN.{length, take, length-append, length-map}
-use lib.Seq.{take-at}
 use borrow.Author.Tests.{lt-ltb, le-ltb}
-use Rattle.lists.specs.Entries.{Entry, words}
+use Rattle.lists.specs.Entries.{Entry}
 use Rattle.lists.proofs.Tests.{cond-true, cond-false}
 use Rattle.lists.proofs.Keep.{perm-length}
 use Rattle.gf2.specs.Select.{chosen}
 use Rattle.bucket.specs.declared.Bucket.{Bucket}
 use Rattle.bucket.specs.declared.Tried.{Tried}
-use Rattle.bucket.specs.Bucket.{largestBound, lookup, add}
+use Rattle.bucket.specs.Bucket.{lookup, add}
 use Rattle.settle.specs.declared.Outgoing.{Outgoing}
 use Rattle.settle.specs.declared.Settled.{Settled}
-use Rattle.settle.specs.Settle.{SoundBucket, contents, leaving, withdrawAll, atBound, lowered, Settlement, ahead, orElse, settle}
+use Rattle.settle.specs.Settle.{SoundBucket, contents, leaving, withdrawAll, atBound, lowered, Settlement, ahead, settle}
 use Rattle.settle.specs.Outgoing.{outgoing, putAt, joined, settledOf}
 use Rattle.settle.proofs.Arrays.{count-of, words-of, push-law, join-law}
 use Rattle.settle.proofs.Leave.{chosen-length}

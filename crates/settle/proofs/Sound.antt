@@ -1,14 +1,14 @@
 -- A sound bucket: what it holds and which words leave it when its bound falls, by the rows of K. What an add under the bound means.
 -- Assumes nothing.
-use Prim.Native.Nat.{ℕ, suc, _+_, _^_, _≤_, _<_}
+use Prim.Native.Nat.{ℕ, _+_, _^_, _≤_, _<_}
 use native.Mathlib.Omega.{arith}
 use mathlib.Core.Path.{_≡_, refl, sym, ap, _∙_, subst, subst⁻¹}
 use mathlib.Core.Bool.{Bool, true, false, not, _&&_}
-use mathlib.Core.List.{List, [], _∷_, _++_, map, Perm, Perm·refl, List·Permᴰ, Permᴰ·symm, List·Permᴰ·trans, Memᴰ·of-map}
+use mathlib.Core.List.{List, [], _∷_, _++_, map, Perm, Perm·refl, List·Permᴰ, Permᴰ·symm, Memᴰ·of-map}
 use lib.Dec.{T, eqb}
 use lib.ListN.{length, length-append}
 use Rattle.lists.specs.Lists.{keep}
-use Rattle.lists.specs.Entries.{Entry, words, sort, Distinct, Ascending}
+use Rattle.lists.specs.Entries.{Entry, words, Distinct, Ascending}
 use Rattle.lists.proofs.Tests.{and-l, and-r, T→true}
 use Rattle.lists.proofs.Keep.{keep-perm, keep-part, perm-length}
 use Rattle.lists.proofs.Entries.{none-find, sub-ascending}
@@ -20,6 +20,9 @@ use Rattle.gf2.proofs.Depend.{occupied-indep}
 use Rattle.gf2.proofs.Bound.{fall-bound}
 use Rattle.bucket.specs.declared.Bucket.{Bucket}
 use Rattle.bucket.specs.Bucket.{largestBound, lookup}
+use Rattle.eliminate.specs.declared.Rows.{Rows}
+use Rattle.eliminate.specs.Elimination.{soundRows}
+use Rattle.eliminate.proofs.Free.{found-is}
 use Rattle.settle.specs.Settle.{SoundBucket, listed, contents, leaving, lowered, Settlement, settle}
 use Rattle.settle.specs.Outgoing.{leavingOf}
 use Rattle.settle.proofs.Hold.{Holds, holds-perm, mem-elem, elem-sums}
@@ -71,12 +74,19 @@ module _ {n r : ℕ} {b : Bucket} where
 
 module _ {n r : ℕ} {b : Bucket} (thr : ℕ → ℕ) (t : ℕ) (h : SoundBucket n r b) where
   -- the words of threshold t, found among the rows of K
-  pub leaving-rows : leavingOf thr t b (chosen (b .mark) (h .matrix)) ≡ leaving n thr t b
+  leaving-rows : leavingOf thr t b (chosen (b .mark) (h .matrix)) ≡ leaving n thr t b
   unfolding leavingOf
   leaving-rows =
       let up : Ascending (leaving n thr t b) = sub-ascending (keep-within (λ e. eqb (thr (e .word)) t) (contents n b)) (rows-ascending n b) in
       let apart : Distinct (leaving n thr t b) = ascending-distinct (leaving n thr t b) up in
       sym (sort-order (keep-perm (λ e. eqb (thr (e .word)) t) (rows-of (sound-listed h))) apart) ∙ sort-same (leaving n thr t b) up apart
+
+  -- and the elimination gives these rows
+  pub leaving-found : {x : Rows} → x ≡ soundRows n (b .mark) (b .cols) → leavingOf thr t b (chosen (b .mark) (x .rows)) ≡ leaving n thr t b
+  leaving-found e =
+      ap (λ (x : Rows). leavingOf thr t b (chosen (b .mark) (x .rows)))
+      (e ∙ found-is n (b .mark) (b .cols) (h .matrix) (record { inverse = h .sound .inverse; free = h .sound .free }))
+      ∙ leaving-rows
 
   -- the words that stay
   abbrev staying : List Entry

@@ -204,7 +204,9 @@ pub(crate) fn leaving(b: Bucket, t: u64) -> Outgoing
     ensures { λ r. do ⌜ r ≡ outgoing (← ⟦Outgoing::MOST⟧ .entry) (leaving (← ⟦Bucket::ROWS⟧ .entry) thresholdOf t b) ⌝ }
 {
     let cols = b.cols;
-    leaving_of(b, cols, t)
+    let found = eliminate::rows_of(cols, b.mark);
+    let rows = found.rows;
+    leaving_of(b, rows, t)
 }
 
 // The word k with its plan comes to the bucket. While it depends there, the bound falls by one, and the words whose threshold equals

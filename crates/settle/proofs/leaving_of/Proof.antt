@@ -1,20 +1,18 @@
 -- `settle::leaving_of` meets its contract. The loop goes from the last row to the first, as the sort of a list inserts.
 -- Assumes nothing.
-use mathlib.Core.Path.{_≡_, sym, ap, _∙_}
-use Prim.Native.Nat.{ℕ, _-_, _/_, _%_, _^_, _≤_}
+use mathlib.Core.Path.{_≡_}
+use Prim.Native.Nat.{_-_, _≤_}
 use native.Mathlib.Omega.{arith}
 use Rattle.settle.specs.Settle.{thresholdOf}
-use lib.ListN.{length, getD}
-use Rattle.settle.specs.declared.Outgoing.{Outgoing}
-use Rattle.settle.specs.Outgoing.{outgoing, entered}
-use Rattle.settle.proofs.Arrays.{count-of}
-use Rattle.settle.proofs.Leave.{found, found-end, found-all, found-few, found-down}
+use lib.ListN.{length}
+use Rattle.settle.specs.Outgoing.{entered}
+use Rattle.settle.proofs.Leave.{Found, found-none, found-count, found-down, found-all}
 use borrow.Author.Needs.{needs}
 use Rattle.settle.proofs.leaving_of.Statement.{statement}
 use Rattle.settle.proofs.leaving_of.Tie as tie
 
 abbrev Inv-loop : tie.InvT-loop
-Inv-loop b t rows mark out₀ i₀ out i = (i ≤ 64) × (out ≡ outgoing 65 (found thresholdOf t b mark i rows))
+Inv-loop b t rows mark out₀ i₀ out i = (i ≤ 64) × Found thresholdOf t b 65 mark rows i out
 
 abbrev μ-loop : tie.MeasureT-loop
 μ-loop b t rows mark out₀ i₀ out i = i
@@ -26,7 +24,7 @@ loop-holds : tie.Need-loop-holds Inv-loop μ-loop
 loop-holds c =
     let a = c .before .args in
     let h : length (a .t2) ≤ 64 = search needs in
-    (search needs, c .none .ensures ∙ ap (outgoing 65) (sym (found-end thresholdOf (a .t) (a .b) (a .b .mark) 64 (a .t2) h)))
+    (search needs, found-none thresholdOf (a .t) (a .b) 65 (a .b .mark) (a .t2) 64 h (c .none .ensures))
 
 sub-i : tie.Need-sub-i Inv-loop μ-loop
 sub-i c = search needs
@@ -45,8 +43,7 @@ entered-requires c κs =
     let l = c .before .loop in
     let a = c .before .before .before .args in
     let h : length (a .t2) ≡ 64 = search needs in
-    let e = ap (λ (q : Outgoing). q .count) (l .inv .1) ∙ count-of 65 (found thresholdOf (a .t) (a .b) (a .b .mark) (l .i) (a .t2)) in
-    omega (arith, found-few thresholdOf (a .t) (a .b) (a .b .mark) (l .i) (a .t2))
+    omega (arith, found-count thresholdOf (a .t) (a .b) 65 (a .b .mark) (a .t2) (l .i) (l .inv .1))
 
 loop-less : tie.Need-loop-less Inv-loop μ-loop
 loop-less c = search needs
@@ -57,19 +54,13 @@ loop-again c =
     let a = c .before .before .before .before .args in
     let h : l .i ≤ length (a .t2) = search needs in
     let k : length (a .t2) ≤ 65 = search needs in
-    let d : ℕ = a .b .mark / 2 ^ (l .i - 1) % 2 in (
-      search needs,
-      c .entered .ensures
-          ∙ ap (entered d thresholdOf (a .t) (a .b) (getD (a .t2) (l .i - 1) 0)) (l .inv .1)
-          ∙ found-down thresholdOf (a .t) (a .b) 65 (a .b .mark) (l .i) (a .t2) (c .before .loop-test .taken) h k,
-    )
+    (search needs, found-down thresholdOf (a .t) (a .b) 65 (a .b .mark) (a .t2) (l .i) (c .before .loop-test .taken) h k (l .inv .1) (c .entered .ensures))
 
 returns : tie.Need-returns Inv-loop μ-loop
 returns c =
     let l = c .before .loop in
     let a = c .before .before .before .args in
-    let e : l .i ≡ 0 = omega arith in
-    l .inv .1 ∙ ap (outgoing 65) (ap (λ (i : ℕ). found thresholdOf (a .t) (a .b) (a .b .mark) i (a .t2)) e ∙ found-all thresholdOf (a .t) (a .b) (a .b .mark) (a .t2))
+    found-all thresholdOf (a .t) (a .b) 65 (a .b .mark) (a .t2) (l .i) (c .loop-test .left) (l .inv .1)
 
 pub leaving-of-spec : {M : Type 1} → statement M
 leaving-of-spec =

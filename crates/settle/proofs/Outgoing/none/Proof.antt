@@ -2,7 +2,6 @@
 -- Assumes nothing.
 use mathlib.Core.Path.{refl}
 use Rattle.settle.specs.Outgoing.{outgoing}
-use borrow.Author.Needs.{needs}
 use Rattle.settle.proofs.Outgoing.none.Statement.{statement}
 use Rattle.settle.proofs.Outgoing.none.Tie as tie
 
