@@ -3,3 +3,4 @@ pub mod Table
 pub mod Layout
 pub mod Content
 pub mod Sound
+pub mod Test
