@@ -4,3 +4,4 @@ pub mod Touch
 pub mod Stand
 pub mod Content
 pub mod Sound
+pub mod Test
