@@ -5,3 +5,4 @@ pub mod Stand
 pub mod Content
 pub mod Sound
 pub mod Test
+pub mod Calls
