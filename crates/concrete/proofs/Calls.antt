@@ -5,7 +5,7 @@ use native.Mathlib.Omega.{arith}
 use mathlib.Core.Path.{_≡_, refl, sym, ap, ap₂, _∙_, subst, subst⁻¹, subst₂}
 use mathlib.Core.Bool.{Bool, true, false, cond, _&&_}
 use mathlib.Core.Option.{Option, none, some}
-use mathlib.Core.List.{List}
+use mathlib.Core.List.{List, List·Permᴰ}
 use lib.Dec.{eqb, ltb, leb}
 use lib.ListN.{length, getD}
 use borrow.Author.Tests.{eqb-true, eq-eqb, leb-true, le-leb, ltb-false}
@@ -30,14 +30,14 @@ use Rattle.model.specs.Request.{subject, askOf, serveRead, serve}
 use Rattle.concrete.specs.Table as T
 use Rattle.concrete.specs.Table.{Table, nth}
 use Rattle.concrete.specs.Layout.{numbersOf, tableFrom, unusedIn, lengthOf}
-use Rattle.concrete.specs.Content.{stateOf}
+use Rattle.concrete.specs.Content.{entriesOf}
 use Rattle.concrete.specs.Sound.{SoundLevel, SoundTable}
 use Rattle.concrete.specs.Test.{inRange, shapeTest}
 use Rattle.concrete.specs.Calls.{rows, solutions, tableOf, planIn, shaped, sound, FlatSound, Outcome, turnedDown, openCall, joined, replaced, queried, served, callRead, call}
 use Rattle.concrete.specs.History.{PlanFits, Put, flatState}
 use Rattle.concrete.proofs.Numbers.{AllShaped, ShapedTable, Laid, length-levelFrom, back, laid, forth}
 use Rattle.concrete.proofs.Stand.{Stands, open-stands, look, change-stands, withdraw-stands, based-length, add-stands}
-use Rattle.concrete.proofs.Content.{table-live}
+use Rattle.concrete.proofs.Content.{table-entries, table-live}
 use Rattle.concrete.proofs.Sound.{one-to-one, sound-stands, stands-sound}
 use Rattle.concrete.proofs.Test.{test-sound, sound-test}
 
@@ -128,6 +128,10 @@ module _ (t : List ℕ) (s : State) (h : FlatStands t s) where
 
   pub stands-look : (w : ℕ) → w < 2 ^ rows → planIn t w ≡ find w (s .live)
   stands-look w l = look rows solutions mixOf keeps one T₀ s (h .stands) w l
+
+  -- its occupied rows and base entries are the live words
+  pub stands-entries : List·Permᴰ (entriesOf rows unmixOf T₀) (s .live)
+  stands-entries = table-entries rows solutions mixOf unmixOf keeps unmix-mix T₀ s (h .stands)
 
   module _ (w : ℕ) (l : w < 2 ^ rows) where
     -- the call goes as the model's does, by whether w is live

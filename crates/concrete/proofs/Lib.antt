@@ -6,3 +6,4 @@ pub mod Content
 pub mod Sound
 pub mod Test
 pub mod Calls
+pub mod History
