@@ -1,7 +1,7 @@
 -- Words that leave a bucket may go on at once or once the level is done: the levels share no storage, so the table is the same.
 -- Assumes nothing.
 use Prim.Native.Nat.{ℕ, zero, suc}
-use mathlib.Core.Path.{_≡_, refl, sym, ap, ap₂, _∙_}
+use mathlib.Core.Path.{_≡_, refl, sym, ap, _∙_}
 use mathlib.Core.Bool.{Bool, true, false, cond}
 use mathlib.Core.List.{List, [], _∷_, _++_, map}
 use lib.Dec.{ltb}
@@ -11,7 +11,7 @@ use Rattle.bucket.specs.declared.Tried.{Tried}
 use Rattle.bucket.specs.Bucket.{add}
 use Rattle.settle.specs.Settle.{leaving, withdrawAll, atBound, lowered, Settlement, ahead, orElse, settle}
 use Rattle.concrete.specs.Table.{Table, Placed, thr, onSecond, put, bucketOf, arriveAt, arriveAll, addedTo}
-use Rattle.concrete.specs.AtOnce.{leaveAll, enter, comeTo, comeTo1, comeTo2, addedAtOnce}
+use Rattle.concrete.specs.AtOnce.{leaveAll, enter, comeTo, comeTo2, addedAtOnce}
 
 cond-map : {A B : Type 0} (f : A → B) (b : Bool) (x y : A) → cond b (f x) (f y) ≡ f (cond b x y)
 cond-map f true x y = refl

@@ -2,20 +2,19 @@
 -- Assumes nothing.
 use Prim.Native.Nat.{ℕ, _+_, _^_, _<_}
 use native.Mathlib.Omega.{arith}
-use mathlib.Core.Path.{_≡_, refl, sym, ap, ap₂, _∙_, subst, subst⁻¹}
-use mathlib.Core.Bool.{Bool, true, false, not, cond, _||_, true≢false}
+use mathlib.Core.Path.{_≡_, refl, sym, ap, _∙_, subst, subst⁻¹}
+use mathlib.Core.Bool.{true, false, _||_, true≢false}
 use mathlib.Core.Logic.{_⊎_, ⊎-elim, _↔_}
 use mathlib.Core.Option.{Option, none, some}
-use mathlib.Core.List.{List, map, List·Permᴰ}
+use mathlib.Core.List.{List, map}
 use lib.Dec.{eqb, ltb}
 use lib.ListN.{length, getD}
-use borrow.Author.Tests.{eq-eqb}
 use Rattle.lists.specs.Entries.{Entry, words, find, insert}
-use Rattle.lists.proofs.Tests.{cases, by-test, cond-true, cond-false}
+use Rattle.lists.proofs.Tests.{by-test, cond-true}
 use Rattle.gf2.specs.Bound.{Largest}
-use Rattle.hash.specs.Mix.{mixOf, unmixOf}
+use Rattle.hash.specs.Mix.{mixOf}
 use Rattle.answer.specs.declared.Answer.{Answer}
-use Rattle.answer.specs.declared.Answer.the-variants.{Accepted, WrongBuckets, WrongTable, Full}
+use Rattle.answer.specs.declared.Answer.the-variants.{Accepted, NotLive, Full}
 use Rattle.answer.specs.Numbers.{numberOf}
 use Rattle.identifier.specs.Identifier.{sized, firstRefused, wordOf, readOf}
 use Rattle.identifier.specs.declared.Read.{Read}
@@ -24,7 +23,7 @@ use Rattle.identifier.proofs.Causes.{read-word}
 use Rattle.identifier.proofs.Words.{word-lt}
 use Rattle.model.specs.Levels.{firstLevel, secondLevel, passed, due}
 use Rattle.model.specs.Model as M
-use Rattle.model.specs.Model.{baseLimit, State, Call, add, change, withdraw, query, opened, settled, base, stepLive, step}
+use Rattle.model.specs.Model.{baseLimit, State, Call, add, change, withdraw, query, opened, settled, base, step}
 use Rattle.model.specs.Request.{subject, byWord, serveRead, serve}
 use Rattle.model.specs.History.{accepted, after, acceptedOf, Refines, Compares, addsIn, withdrawalsIn, told}
 use Rattle.model.proofs.Valid.{valid-opened}
@@ -33,13 +32,12 @@ use Rattle.model.proofs.Calls.{count-after, told-after}
 use Rattle.model.proofs.Requests.{serve-each}
 use Rattle.model.proofs.Statements as Model
 use Rattle.concrete.specs.Table as T
-use Rattle.concrete.specs.Table.{Table, bounds}
+use Rattle.concrete.specs.Table.{Table}
 use Rattle.concrete.specs.Layout.{numbersOf, tableFrom, lengthOf}
 use Rattle.concrete.specs.Test.{inRange}
-use Rattle.concrete.specs.Content.{entriesOf}
 use Rattle.concrete.specs.Calls.{rows, solutions, tableOf, planIn, shaped, sound, FlatSound, Outcome, turnedDown, openCall, joined, replaced, queried, served, callRead, call}
-use Rattle.concrete.specs.History.{PlanFits, Put, tables, states, Opened, acceptedCalls, flatState, Same}
-use Rattle.concrete.proofs.Calls.{FlatStands, Match, stands-flat, stands-test, stands-shows, stands-look, stands-entries, call-match, open-stands-flat, sound-stands-flat}
+use Rattle.concrete.specs.History.{Put, tables, states, Opened, acceptedCalls, flatState, Same}
+use Rattle.concrete.proofs.Calls.{FlatStands, Match, stands-test, stands-shows, stands-look, call-match, open-stands-flat, sound-stands-flat}
 
 -- ---- the table refines the model
 
@@ -184,8 +182,17 @@ module _ (t : List ℕ) (k : shaped t ≡ true) (h : FlatSound t) where
   st = sound-stands-flat t k h
 
   -- a query of a live word gives its plan, of any other word cause 7
-  pub query-is : (i : List ℕ) (w : ℕ) → readOf i ≡ Word w → call t (query i) .answer ≡ stepLive firstLevel secondLevel s (s .live) (find w (s .live)) .answer
-  query-is i w e = call-match t s st (query i) tt .says ∙ ap (λ (x : Read). serveRead s (query i) x .answer) e
+  query-is : (i : List ℕ) (w : ℕ) → readOf i ≡ Word w → call t (query i) ≡ queried t (find w (s .live))
+  unfolding call served
+  query-is i w e =
+      ap (callRead t (query i)) e ∙ cond-true _ _ k ∙ cond-true _ _ (stands-test t s st)
+      ∙ ap (queried t) (stands-look t s st w (subst⁻¹ (λ (x : ℕ). x < 2 ^ rows) (read-word i w .0 e .2) (word-lt i)))
+
+  pub query-live : (i : List ℕ) (w p : ℕ) → readOf i ≡ Word w → find w (s .live) ≡ some p → call t (query i) ≡ record { answer = Accepted p; table = t }
+  query-live i w p e f = query-is i w e ∙ ap (queried t) f
+
+  pub query-other : (i : List ℕ) (w : ℕ) → readOf i ≡ Word w → find w (s .live) ≡ none → call t (query i) ≡ record { answer = NotLive; table = t }
+  query-other i w e f = query-is i w e ∙ ap (queried t) f
 
   module _ (i : List ℕ) (p : ℕ) (l : p < 2 ^ solutions) where
     abbrev t′ : List ℕ

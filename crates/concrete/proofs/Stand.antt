@@ -7,7 +7,7 @@ use mathlib.Core.Path.{_≡_, refl, sym, ap, ap₂, _∙_, subst, subst⁻¹, su
 use mathlib.Core.Bool.{Bool, true, false, not}
 use mathlib.Core.Logic.{⊎-elim}
 use mathlib.Core.Option.{Option, none, some}
-use mathlib.Core.List.{List, [], _∷_, _++_, map, map-map, map-append, Sublistᴰ, Sublistᴰ·refl, List·Permᴰ, List·Permᴰ·trans, Permᴰ·symm, Permᴰ·map, Permᴰ·append-left, List·Memᴰ, List·Memᴰ·tail, List·Memᴰ·not-nil, List·Memᴰ·cases-cons, Memᴰ·of-map, Memᴰ·append-left}
+use mathlib.Core.List.{List, [], _∷_, _++_, map, map-map, map-append, Sublistᴰ, Sublistᴰ·refl, List·Permᴰ, List·Permᴰ·trans, Permᴰ·symm, Permᴰ·map, Permᴰ·append-left, List·Memᴰ·tail, List·Memᴰ·not-nil, List·Memᴰ·cases-cons, Memᴰ·of-map, Memᴰ·append-left}
 use lib.Dec.{eqb}
 use lib.ListN.{length, getD, set, replicate, length-replicate, getD-replicate, length-map}
 use Rattle.lists.specs.Lists.{keep, tabulate}
@@ -22,7 +22,7 @@ use Rattle.gf2.proofs.Bound.{fall}
 use Rattle.bucket.specs.declared.Bucket.{Bucket}
 use Rattle.bucket.specs.Bucket.{largestBound, emptyBucket}
 use Rattle.settle.proofs.Hold.{Holds, holds-empty}
-use Rattle.model.specs.Levels.{Level, dueAs, due, passed}
+use Rattle.model.specs.Levels.{dueAs, due, passed}
 use Rattle.model.specs.Model.{baseLimit, State, opened, withLive, settled, base}
 use Rattle.model.proofs.Levels.{passed-words}
 use Rattle.model.proofs.Arrivals.{arrive, arrives}
