@@ -27,10 +27,10 @@ use Rattle.model.specs.Model.{baseLimit, State, Call, add, change, withdraw, qu
 use Rattle.model.specs.Request.{subject, askOf, serveRead, serve}
 use Rattle.concrete.specs.Table as T
 use Rattle.concrete.specs.Table.{Table}
-use Rattle.concrete.specs.Layout.{numbersOf, unusedIn, lengthOf}
+use Rattle.concrete.specs.Layout.{mostBuckets1, inRange, numbersOf, unusedIn, lengthOf}
 use Rattle.concrete.specs.Content.{entriesOf}
 use Rattle.concrete.specs.Sound.{SoundLevel, SoundTable}
-use Rattle.concrete.specs.Test.{mostBuckets1, inRange, shapeTest}
+use Rattle.concrete.specs.Test.{shapeTest}
 use Rattle.concrete.specs.Calls.{rows, solutions, tableOf, planIn, shaped, sound, FlatSound, Outcome, turnedDown, joined, replaced, queried, served, callRead, call}
 use Rattle.concrete.specs.History.{PlanFits, flatState}
 use Rattle.concrete.proofs.Numbers.{AllShaped, ShapedTable, Laid, header-read, back, laid}

@@ -10,11 +10,11 @@ use mathlib.Core.List.{List, map}
 use lib.Dec.{eqb, ltb}
 use lib.ListN.{length, getD}
 use Rattle.lists.specs.Entries.{Entry, words, find, insert}
-use Rattle.lists.proofs.Tests.{by-test, cond-true}
+use Rattle.lists.proofs.Tests.{by-test, cond-true, cond-false}
 use Rattle.gf2.specs.Bound.{Largest}
 use Rattle.hash.specs.Mix.{mixOf}
 use Rattle.answer.specs.declared.Answer.{Answer}
-use Rattle.answer.specs.declared.Answer.the-variants.{Accepted, NotLive, Full}
+use Rattle.answer.specs.declared.Answer.the-variants.{Accepted, WrongTable, NotSound, NotLive, Full}
 use Rattle.answer.specs.Numbers.{numberOf}
 use Rattle.identifier.specs.Identifier.{sized, firstRefused, wordOf, readOf}
 use Rattle.identifier.specs.declared.Read.{Read}
@@ -33,8 +33,7 @@ use Rattle.model.proofs.Requests.{serve-each}
 use Rattle.model.proofs.Statements as Model
 use Rattle.concrete.specs.Table as T
 use Rattle.concrete.specs.Table.{Table}
-use Rattle.concrete.specs.Layout.{numbersOf, tableFrom, lengthOf}
-use Rattle.concrete.specs.Test.{inRange}
+use Rattle.concrete.specs.Layout.{inRange, numbersOf, tableFrom, lengthOf}
 use Rattle.concrete.specs.Calls.{rows, solutions, tableOf, planIn, shaped, sound, FlatSound, Outcome, turnedDown, openCall, joined, replaced, queried, served, callRead, call}
 use Rattle.concrete.specs.History.{Put, tables, states, Opened, acceptedCalls, flatState, Same}
 use Rattle.concrete.proofs.Calls.{FlatStands, Match, stands-test, stands-shows, stands-look, call-match, open-stands-flat, sound-stands-flat}
@@ -71,6 +70,25 @@ open-refused b1 b2 t =
     (λ r a. refl)
 
 -- ---- what each call leaves where it is refused, and which causes it can give
+
+module _ (t : List ℕ) (c : Call (List ℕ)) where
+  -- the causes in their order
+  pub by-identifier : (a : Answer) → readOf (subject c) ≡ Refused a → call t c ≡ turnedDown a t
+  unfolding call
+  by-identifier a e = ap (callRead t c) e
+
+  module _ (w : ℕ) (e : readOf (subject c) ≡ Word w) where
+    pub by-shape : shaped t ≡ false → call t c ≡ turnedDown (WrongTable (length t)) t
+    unfolding call
+    by-shape k = ap (callRead t c) e ∙ cond-false _ _ k
+
+    pub by-sound : shaped t ≡ true → sound t ≡ false → call t c ≡ turnedDown NotSound t
+    unfolding call
+    by-sound k h = ap (callRead t c) e ∙ cond-true _ _ k ∙ cond-false _ _ h
+
+    pub by-word : shaped t ≡ true → sound t ≡ true → call t c ≡ served t w c
+    unfolding call
+    by-word k h = ap (callRead t c) e ∙ cond-true _ _ k ∙ cond-true _ _ h
 
 module _ (t : List ℕ) where
   -- a property of what a call does, by the cases of the call
@@ -183,9 +201,9 @@ module _ (t : List ℕ) (k : shaped t ≡ true) (h : FlatSound t) where
 
   -- a query of a live word gives its plan, of any other word cause 7
   query-is : (i : List ℕ) (w : ℕ) → readOf i ≡ Word w → call t (query i) ≡ queried t (find w (s .live))
-  unfolding call served
+  unfolding served
   query-is i w e =
-      ap (callRead t (query i)) e ∙ cond-true _ _ k ∙ cond-true _ _ (stands-test t s st)
+      by-word t (query i) w e k (stands-test t s st)
       ∙ ap (queried t) (stands-look t s st w (subst⁻¹ (λ (x : ℕ). x < 2 ^ rows) (read-word i w .0 e .2) (word-lt i)))
 
   pub query-live : (i : List ℕ) (w p : ℕ) → readOf i ≡ Word w → find w (s .live) ≡ some p → call t (query i) ≡ record { answer = Accepted p; table = t }

@@ -11,14 +11,16 @@ use lib.ListN.{length, getD, set, take, drop}
 use Rattle.lists.specs.Entries.{Entry, words, find, insert}
 use Rattle.gf2.specs.Bound.{Largest}
 use Rattle.hash.specs.Mix.{mixOf, unmixOf}
-use Rattle.answer.specs.declared.Answer.the-variants.{Accepted, NotLive, Full}
+use Rattle.answer.specs.declared.Answer.{Answer}
+use Rattle.answer.specs.declared.Answer.the-variants.{Accepted, WrongTable, NotSound, NotLive, Full}
 use Rattle.answer.specs.Numbers.{numberOf}
 use Rattle.identifier.specs.Identifier.{readOf}
-use Rattle.identifier.specs.declared.Read.the-variants.{Word}
+use Rattle.identifier.specs.declared.Read.the-variants.{Word, Refused}
 use Rattle.bucket.specs.declared.Bucket.{Bucket}
-use Rattle.bucket.specs.Words.{bucketWords, wordsOf, bucketFrom}
+use Rattle.bucket.specs.Words.{bucketWords, wordsOf, bucketFrom, Shaped}
 use Rattle.model.specs.Levels.{firstLevel, secondLevel, passed, due}
 use Rattle.model.specs.Model.{State, Call, add, query, opened, settled, base}
+use Rattle.model.specs.Request.{subject}
 use Rattle.model.specs.History.{accepted, after, answers, Alike, Refines, addsIn, withdrawalsIn, told}
 use Rattle.model.proofs.Statements as Model
 use Rattle.concrete.specs.Table.{Table, bounds, nth, addedTo}
@@ -26,10 +28,10 @@ use Rattle.concrete.specs.Layout.{basePairs, numbersOf, bucketPlace}
 use Rattle.concrete.specs.Content.{entriesOf}
 use Rattle.concrete.specs.AtOnce.{addedAtOnce}
 use Rattle.concrete.specs.Sound.{SoundTable}
-use Rattle.concrete.specs.Calls.{rows, solutions, tableOf, planIn, shaped, sound, FlatSound, openCall, call}
+use Rattle.concrete.specs.Calls.{rows, solutions, tableOf, planIn, shaped, sound, FlatSound, turnedDown, openCall, served, call}
 use Rattle.concrete.specs.History.{Put, tables, states, Opened, acceptedCalls, flatState, Same}
 use Rattle.concrete.proofs.Numbers as Numbers
-use Rattle.concrete.proofs.Numbers.{ShapedTable}
+use Rattle.concrete.proofs.Numbers.{AllShaped, ShapedTable}
 use Rattle.concrete.proofs.AtOnce as AtOnce
 use Rattle.concrete.proofs.Calls as Calls
 use Rattle.concrete.proofs.Calls.{FlatStands}
@@ -90,6 +92,10 @@ module _ (T : Table) (h : ShapedTable rows solutions T) where
       ≡ set (take (bucketPlace rows solutions (length (T .level1) + length (T .level2))) (numbersOf T) ++ basePairs es) 2 (length es)
   write-base = Numbers.write-base rows solutions T h
 
+-- a level keeps its lengths where a bucket of the right lengths is written
+pub set-shaped : (bs : List Bucket) (i : ℕ) (b : Bucket) → AllShaped rows solutions bs → Shaped rows solutions b → AllShaped rows solutions (set bs i b)
+set-shaped = Numbers.set-shaped rows solutions
+
 -- the live count replaced
 pub write-count : (T : Table) (c : ℕ) → numbersOf (record { level1 = T .level1; level2 = T .level2; base = T .base; count = c }) ≡ set (numbersOf T) 3 c
 write-count = Numbers.write-count rows solutions
@@ -106,8 +112,23 @@ document-order = AtOnce.at-once rows solutions mixOf
 pub sound-exactly : (t : List ℕ) → shaped t ≡ true → ((i : ℕ) → getD t i 0 < 2 ^ 64) → (sound t ≡ true) ↔ FlatSound t
 sound-exactly = Calls.sound-exactly
 
--- ---- "When a call is turned down": kept as it was
+-- ---- "When a call is turned down"
 
+-- "Order is the table's order": causes 1 and 2, then 4, then 5, then those of the call itself (`served`)
+module _ (t : List ℕ) (c : Call (List ℕ)) where
+  pub cause-identifier : (a : Answer) → readOf (subject c) ≡ Refused a → call t c ≡ turnedDown a t
+  cause-identifier = History.by-identifier t c
+
+  pub cause-4 : (w : ℕ) → readOf (subject c) ≡ Word w → shaped t ≡ false → call t c ≡ turnedDown (WrongTable (length t)) t
+  cause-4 = History.by-shape t c
+
+  pub cause-5 : (w : ℕ) → readOf (subject c) ≡ Word w → shaped t ≡ true → sound t ≡ false → call t c ≡ turnedDown NotSound t
+  cause-5 = History.by-sound t c
+
+  pub causes-else : (w : ℕ) → readOf (subject c) ≡ Word w → shaped t ≡ true → sound t ≡ true → call t c ≡ served t w c
+  causes-else = History.by-word t c
+
+-- "Kept as it was"
 pub refused-keeps : (t : List ℕ) (c : Call (List ℕ)) → accepted (call t c .answer) ≡ false → call t c .table ≡ t
 refused-keeps = History.call-refused
 
