@@ -173,11 +173,12 @@ impl Bucket {
         ensures { λ r. do ⌜ r ≡ rowOf (← ⟦Bucket::ROWS⟧ .entry) k self ⌝ }
     {
         let cols = self.cols;
+        let mark = self.mark;
         let p = product(cols, k);
         let i = lowest(p);
         if i < Self::ROWS {
             if p == power(i) {
-                if (self.mark >> i) % 2 == 1 {
+                if (mark >> i) % 2 == 1 {
                     return i;
                 }
             }
