@@ -8,7 +8,7 @@ use mathlib.Core.Logic.{_↔_}
 use mathlib.Core.Option.{none, some}
 use mathlib.Core.List.{List, _++_, List·Permᴰ}
 use lib.ListN.{length, getD, set, take, drop}
-use Rattle.lists.specs.Entries.{Entry, words, find, insert}
+use Rattle.lists.specs.Entries.{Entry, words, find}
 use Rattle.gf2.specs.Bound.{Largest}
 use Rattle.hash.specs.Mix.{mixOf, unmixOf}
 use Rattle.answer.specs.declared.Answer.{Answer}
@@ -19,9 +19,10 @@ use Rattle.identifier.specs.declared.Read.the-variants.{Word, Refused}
 use Rattle.bucket.specs.declared.Bucket.{Bucket}
 use Rattle.bucket.specs.Words.{bucketWords, wordsOf, bucketFrom, Shaped}
 use Rattle.model.specs.Levels.{firstLevel, secondLevel, passed, due}
-use Rattle.model.specs.Model.{State, Call, add, query, opened, settled, base}
+use Rattle.model.specs.Model.{State, Call, add, query, opened, wouldLeave, base}
 use Rattle.model.specs.Request.{subject}
-use Rattle.model.specs.History.{accepted, after, answers, Alike, Refines, addsIn, withdrawalsIn, told}
+use Rattle.model.specs.Machine.{accepted, after, answers, Alike, Refines}
+use Rattle.model.specs.History.{addsIn, withdrawalsIn, told}
 use Rattle.model.proofs.Statements as Model
 use Rattle.concrete.specs.Table.{Table, bounds, nth, addedTo}
 use Rattle.concrete.specs.Layout.{basePairs, numbersOf, bucketPlace}
@@ -188,7 +189,7 @@ module _ (t : List ℕ) (k : shaped t ≡ true) (h : FlatSound t) where
     -- statement 3, the rule of the base list: refused as full exactly when more than 64 words would fall to the base list under the bounds
     -- that the add would so leave
     pub full-exactly : (w : ℕ) → readOf i ≡ Word w → find w (flatState t .live) ≡ none
-        → (call t (add i p) .answer ≡ Full) ↔ (64 < length (base firstLevel secondLevel (settled firstLevel secondLevel (flatState t) (insert (record { word = w; plan = p }) (flatState t .live)))))
+        → (call t (add i p) .answer ≡ Full) ↔ (64 < length (base firstLevel secondLevel (wouldLeave firstLevel secondLevel (flatState t) (record { word = w; plan = p }))))
     full-exactly = History.rule-full t k h i p l
 
 -- ---- "A list of calls": t is what an accepted opening left, ps any calls, refused ones included
@@ -211,8 +212,8 @@ module _ (t : List ℕ) (o : Opened t) (ps : List Put) where
   pub always-sound : (shaped (after tables t ps) ≡ true) × (sound (after tables t ps) ≡ true) × FlatSound (after tables t ps)
   always-sound = stands-sound (after tables t ps) _ (History.after-stands t o ps)
 
-  pub never : (c : Call (List ℕ)) → (numberOf (call (after tables t ps) c .answer) ≡ 4 → ⊥) × (numberOf (call (after tables t ps) c .answer) ≡ 5 → ⊥)
-  never = History.never (after tables t ps) (always-sound .0) (always-sound .1)
+  pub never-4-5 : (p : Put) → (numberOf (call (after tables t ps) (p .call) .answer) ≡ 4 → ⊥) × (numberOf (call (after tables t ps) (p .call) .answer) ≡ 5 → ⊥)
+  never-4-5 = History.never t o ps
 
   -- "After each call its occupied rows and base entries hold just the live words, and its stored bounds are these": the model's
   pub holds-live : List·Permᴰ (entriesOf rows unmixOf (tableOf (after tables t ps))) (after states (opened (o .buckets1) (o .buckets2)) ps .live)
