@@ -6,15 +6,15 @@ use mathlib.Core.Path.{_≡_, refl, sym, ap, _∙_, subst, subst⁻¹}
 use mathlib.Core.Bool.{true, false, true≢false}
 use mathlib.Core.Logic.{_⊎_, ⊎-elim, _↔_}
 use mathlib.Core.Option.{Option, none, some}
-use mathlib.Core.List.{List, map}
+use mathlib.Core.List.{List, map, List·Permᴰ}
 use lib.Dec.{eqb, ltb}
 use lib.ListN.{length, getD}
 use Rattle.lists.specs.Entries.{Entry, words, find}
 use Rattle.lists.proofs.Tests.{by-test, cond-true, cond-false}
 use Rattle.gf2.specs.Bound.{Largest}
-use Rattle.hash.specs.Mix.{mixOf}
+use Rattle.hash.specs.Mix.{mixOf, unmixOf}
 use Rattle.answer.specs.declared.Answer.{Answer}
-use Rattle.answer.specs.declared.Answer.the-variants.{Accepted, WrongTable, NotSound, NotLive, Full}
+use Rattle.answer.specs.declared.Answer.the-variants.{Accepted, WrongTable, NotSound, Full}
 use Rattle.answer.specs.Numbers.{numberOf}
 use Rattle.identifier.specs.Identifier.{wordOf, readOf}
 use Rattle.identifier.specs.declared.Read.{Read}
@@ -35,9 +35,10 @@ use Rattle.model.proofs.Statements as Model
 use Rattle.concrete.specs.Table as T
 use Rattle.concrete.specs.Table.{Table}
 use Rattle.concrete.specs.Layout.{inRange, numbersOf, tableFrom, lengthOf}
+use Rattle.concrete.specs.Content.{entriesOf}
 use Rattle.concrete.specs.Calls.{rows, solutions, tableOf, planIn, shaped, sound, FlatSound, Outcome, turnedDown, openCall, joined, replaced, queried, served, callRead, call}
 use Rattle.concrete.specs.History.{Put, tables, states, Opened, acceptedCalls, flatState, Same}
-use Rattle.concrete.proofs.Calls.{FlatStands, Match, stands-test, stands-shows, stands-look, call-match, open-stands-flat, sound-stands-flat}
+use Rattle.concrete.proofs.Calls.{FlatStands, Match, stands-test, stands-shows, stands-look, call-match, open-stands-flat, sound-stands-flat, stands-flat, stands-entries}
 
 -- ---- the table refines the model
 
@@ -163,6 +164,9 @@ module _ (t : List ℕ) (o : Opened t) (ps : List Put) where
       ∙ told-after firstLevel secondLevel states (λ p. byWord (p .call)) (λ s p. serve-each s (p .call)) v s₀ (valid-opened firstLevel secondLevel (o .buckets1) (o .buckets2)) false 0 refl ps
       ∙ ap (told v) same-calls
 
+word-lt-of : (i : List ℕ) (w : ℕ) → readOf i ≡ Word w → w < 2 ^ rows
+word-lt-of i w e = subst⁻¹ (λ (x : ℕ). x < 2 ^ rows) (read-word i w .0 e .2) (word-lt i)
+
 -- ---- a sound table, also one handed in from elsewhere
 
 module _ (t : List ℕ) (k : shaped t ≡ true) (h : FlatSound t) where
@@ -172,18 +176,23 @@ module _ (t : List ℕ) (k : shaped t ≡ true) (h : FlatSound t) where
   st : FlatStands t s
   st = sound-stands-flat t k h
 
+  -- the three tests find the plan of a live word, and nothing for any other
+  pub sound-look : (w : ℕ) → w < 2 ^ rows → planIn t w ≡ find w (s .live)
+  sound-look = stands-look t s st
+
+  -- the occupied rows and base entries are the live words, and are counted
+  pub sound-entries : List·Permᴰ (entriesOf rows unmixOf (tableOf t)) (s .live)
+  sound-entries = stands-entries t s st
+
+  pub sound-count : getD t 3 0 ≡ length (s .live)
+  unfolding tableFrom
+  sound-count = st .stands .counted
+
   -- a query of a live word gives its plan, of any other word cause 7
-  query-is : (i : List ℕ) (w : ℕ) → readOf i ≡ Word w → call t (query i) ≡ queried t (find w (s .live))
+  pub query-is : (i : List ℕ) (w : ℕ) → readOf i ≡ Word w → call t (query i) ≡ queried t (find w (s .live))
   unfolding served
   query-is i w e =
-      by-word t (query i) w e k (stands-test t s st)
-      ∙ ap (queried t) (stands-look t s st w (subst⁻¹ (λ (x : ℕ). x < 2 ^ rows) (read-word i w .0 e .2) (word-lt i)))
-
-  pub query-live : (i : List ℕ) (w p : ℕ) → readOf i ≡ Word w → find w (s .live) ≡ some p → call t (query i) ≡ record { answer = Accepted p; table = t }
-  query-live i w p e f = query-is i w e ∙ ap (queried t) f
-
-  pub query-other : (i : List ℕ) (w : ℕ) → readOf i ≡ Word w → find w (s .live) ≡ none → call t (query i) ≡ record { answer = NotLive; table = t }
-  query-other i w e f = query-is i w e ∙ ap (queried t) f
+      by-word t (query i) w e k (stands-test t s st) ∙ ap (queried t) (sound-look w (word-lt-of i w e))
 
   module _ (i : List ℕ) (p : ℕ) (l : p < 2 ^ solutions) where
     abbrev t′ : List ℕ
@@ -224,3 +233,13 @@ module _ (t : List ℕ) (k : shaped t ≡ true) (h : FlatSound t) where
         subst⁻¹ (λ (a : Answer). (a ≡ Full) ↔ (baseLimit < length (base firstLevel secondLevel (wouldLeave firstLevel secondLevel s (record { word = w; plan = p })))))
         (m .says ∙ ap (λ (x : Read). serveRead s (add i p) x .answer) q)
         (Model.full-exactly firstLevel secondLevel s (record { word = w; plan = p }) f)
+
+-- ---- what a query tells after any list of calls
+
+pub query-after : (t : List ℕ) (o : Opened t) (ps : List Put) (i : List ℕ) (w : ℕ) → readOf i ≡ Word w
+    → call (after tables t ps) (query i) ≡ queried (after tables t ps) (told w (acceptedCalls t ps))
+query-after t o ps i w e =
+    let h = after-stands t o ps in
+    let l : w < 2 ^ rows = word-lt-of i w e in
+    query-is (after tables t ps) (h .shape) (stands-flat (after tables t ps) _ h) i w e
+    ∙ ap (queried (after tables t ps)) (sym (sound-look (after tables t ps) (h .shape) (stands-flat (after tables t ps) _ h) w l) ∙ plan-after t o ps w l)

@@ -2,7 +2,7 @@
 -- t is the list of the table's numbers, `tableOf t` the table that it holds.
 -- Assumes nothing.
 use Prim.Native.Nat.{ℕ, _+_, _*_, _^_, _<_}
-use mathlib.Core.Path.{_≡_, _∙_, sym}
+use mathlib.Core.Path.{_≡_, ap, _∙_, sym}
 use mathlib.Core.Bool.{true, false}
 use mathlib.Core.Logic.{_↔_}
 use mathlib.Core.Option.{none, some}
@@ -29,7 +29,7 @@ use Rattle.concrete.specs.Layout.{basePairs, numbersOf, bucketPlace}
 use Rattle.concrete.specs.Content.{entriesOf}
 use Rattle.concrete.specs.AtOnce.{addedAtOnce}
 use Rattle.concrete.specs.Sound.{SoundTable}
-use Rattle.concrete.specs.Calls.{rows, solutions, tableOf, planIn, shaped, sound, FlatSound, turnedDown, openCall, served, call}
+use Rattle.concrete.specs.Calls.{rows, solutions, tableOf, planIn, shaped, sound, FlatSound, turnedDown, openCall, queried, served, call}
 use Rattle.concrete.specs.History.{Put, tables, states, Opened, acceptedCalls, flatState, Same}
 use Rattle.concrete.proofs.Numbers as Numbers
 use Rattle.concrete.proofs.Numbers.{AllShaped, ShapedTable}
@@ -161,13 +161,24 @@ stands-one = Calls.stands-shows
 -- ---- sound tables, also those handed in from elsewhere
 
 module _ (t : List ℕ) (k : shaped t ≡ true) (h : FlatSound t) where
-  -- "query the plan": a query of a live word gives its plan
-  pub query-live : (i : List ℕ) (w p : ℕ) → readOf i ≡ Word w → find w (flatState t .live) ≡ some p → call t (query i) ≡ record { answer = Accepted p; table = t }
-  query-live = History.query-live t k h
+  -- "In a sound table handed in from elsewhere the live words are those of its occupied rows and base entries"
+  pub live-entries : List·Permᴰ (entriesOf rows unmixOf (tableOf t)) (flatState t .live)
+  live-entries = History.sound-entries t k h
 
-  -- of any other word cause 7
+  -- the three tests find the plan of a live word, and nothing for any other
+  pub live-plans : (w : ℕ) → w < 2 ^ 64 → planIn t w ≡ find w (flatState t .live)
+  live-plans = History.sound-look t k h
+
+  -- "live count = occupied rows + base count"
+  pub live-count : getD t 3 0 ≡ length (flatState t .live)
+  live-count = History.sound-count t k h
+
+  -- "query the plan", and 7 where the word is not live
+  pub query-live : (i : List ℕ) (w p : ℕ) → readOf i ≡ Word w → find w (flatState t .live) ≡ some p → call t (query i) ≡ record { answer = Accepted p; table = t }
+  query-live i w p e f = History.query-is t k h i w e ∙ ap (queried t) f
+
   pub query-other : (i : List ℕ) (w : ℕ) → readOf i ≡ Word w → find w (flatState t .live) ≡ none → call t (query i) ≡ record { answer = NotLive; table = t }
-  query-other = History.query-other t k h
+  query-other i w e f = History.query-is t k h i w e ∙ ap (queried t) f
 
   module _ (i : List ℕ) (p : ℕ) (l : p < 256) where
     -- statement 3, the rule of the bounds: after an accepted add each is the largest number, not above the old one, under which no
@@ -231,3 +242,7 @@ module _ (t : List ℕ) (o : Opened t) (ps : List Put) where
   -- accepted add or change; every other word is not live
   pub plan : (v : ℕ) → v < 2 ^ 64 → planIn (after tables t ps) v ≡ told v (acceptedCalls t ps)
   plan = History.plan-after t o ps
+
+  -- so a query of an identifier gives the last accepted plan of its word (`queried`: Accepted), or says that it is not live
+  pub query-tells : (i : List ℕ) (w : ℕ) → readOf i ≡ Word w → call (after tables t ps) (query i) ≡ queried (after tables t ps) (told w (acceptedCalls t ps))
+  query-tells = History.query-after t o ps
