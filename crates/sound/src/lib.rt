@@ -1,0 +1,140 @@
+// Document 01's causes 4 and 5: the test of a table that is handed in, for any length and any contents; and what a table of the right
+// shape has where: the places of buckets, their bounds, which level holds a vector. Each function is an equation with a definition of
+// concrete (specs/Layout.antt, Table.antt, Test.antt). Cites concrete, bucket, eliminate (the rows of K), identifier and hash; table
+// and plane build on it.
+use bucket::Bucket;
+ghost use mathlib.Core.Path.{_≡_};
+ghost use mathlib.Core.Bool.{true};
+ghost use Prim.Native.Nat.{_+_, _*_, _<_, _≤_};
+ghost use lib.ListN.{length, getD, drop};
+ghost use Rattle.hash.specs.Mix.{mixOf};
+ghost use Rattle.bucket.specs.Words.{bucketFrom};
+ghost use Rattle.concrete.specs.Table.{index, holds};
+ghost use Rattle.concrete.specs.Layout.{bucketPlace, lengthOf, tableFrom};
+ghost use Rattle.concrete.specs.Test.{inRange, shapeTest};
+
+// The table of document 01: its limits and the places of its parts.
+pub struct Table {}
+
+impl Table {
+    // The numbers before the buckets: buckets of level 1, of level 2, base count, live count.
+    pub const HEADER: usize = 4;
+
+    // Level 1 has 1 to this many buckets.
+    pub const MOST_BUCKETS_1: u64 = 48;
+
+    // Level 2 has 1 to this many buckets.
+    pub const MOST_BUCKETS_2: u64 = 32;
+
+    pub const MOST_BUCKETS: usize = (Self::MOST_BUCKETS_1 + Self::MOST_BUCKETS_2) as usize;
+
+    // Entries of the base list, used or not.
+    pub const BASE_ENTRIES: usize = 64;
+
+    // A pair for each entry.
+    pub const BASE_NUMBERS: usize = 2 * Self::BASE_ENTRIES;
+
+    // The longest table.
+    pub const LONGEST: usize = Self::HEADER + Self::MOST_BUCKETS * Bucket::WORDS + Self::BASE_NUMBERS;
+}
+
+// The bucket numbers are in range.
+pub fn in_range(b1: u64, b2: u64) -> bool
+    ensures { λ r. ⌜ r ≡ inRange b1 b2 ⌝ }
+{
+    if b1 < 1 {
+        return false;
+    }
+    if Table::MOST_BUCKETS_1 < b1 {
+        return false;
+    }
+    if b2 < 1 {
+        return false;
+    }
+    b2 <= Table::MOST_BUCKETS_2
+}
+
+// The place of bucket i, level 1 first.
+pub fn bucket_place(i: usize) -> usize
+    requires { do ⌜ i ≤ (← ⟦Table::MOST_BUCKETS⟧) ⌝ }
+    ensures { λ r. ⌜ r ≡ bucketPlace 64 8 i ⌝ }
+{
+    Table::HEADER + i * Bucket::WORDS
+}
+
+// The length that the bucket numbers give.
+pub fn length_of(b1: u64, b2: u64) -> usize
+    requires { ⌜ inRange b1 b2 ≡ true ⌝ }
+    ensures { λ r. ⌜ r ≡ lengthOf 64 8 b1 b2 ⌝ }
+{
+    bucket_place((b1 + b2) as usize) + Table::BASE_NUMBERS
+}
+
+// Not cause 4.
+pub fn shaped(t: &[u64]) -> bool
+    ensures { λ r. ⌜ r ≡ shapeTest 64 8 (now (t .entry)) ⌝ }
+{
+    if t.len() < Table::HEADER {
+        return false;
+    }
+    if in_range(t[0], t[1]) {
+        return t.len() == length_of(t[0], t[1]);
+    }
+    false
+}
+
+// The bound of bucket i, level 1 first.
+pub fn bound_at(t: &[u64], i: usize) -> u64
+    requires { ⌜ (shapeTest 64 8 (now t) ≡ true) × (i < getD (now t) 0 0 + getD (now t) 1 0) ⌝ }
+    ensures { λ r. ⌜ r ≡ bucketFrom 64 8 (drop (bucketPlace 64 8 i) (now (t .entry))) .bound ⌝ }
+{
+    t[bucket_place(i) + Bucket::BOUND_AT]
+}
+
+// The number of the bucket of v at level 1.
+pub fn first_index(t: &[u64], v: u64) -> usize
+    requires { ⌜ shapeTest 64 8 (now t) ≡ true ⌝ }
+    ensures { λ r. ⌜ r ≡ index mixOf (getD (now (t .entry)) 0 0) v ⌝ }
+{
+    identifier::bucket(v, t[0]) as usize
+}
+
+// The number of the bucket of v at level 2, after those of level 1.
+pub fn second_index(t: &[u64], v: u64) -> usize
+    requires { ⌜ shapeTest 64 8 (now t) ≡ true ⌝ }
+    ensures { λ r. ⌜ r ≡ getD (now (t .entry)) 0 0 + index mixOf (getD (now (t .entry)) 1 0) v ⌝ }
+{
+    (t[0] + identifier::bucket(v, t[1])) as usize
+}
+
+// The place of v's bucket at level 1.
+pub fn first_place(t: &[u64], v: u64) -> usize
+    requires { ⌜ shapeTest 64 8 (now t) ≡ true ⌝ }
+    ensures { λ r. ⌜ r ≡ bucketPlace 64 8 (index mixOf (getD (now (t .entry)) 0 0) v) ⌝ }
+{
+    bucket_place(first_index(t, v))
+}
+
+// The place of v's bucket at level 2.
+pub fn second_place(t: &[u64], v: u64) -> usize
+    requires { ⌜ shapeTest 64 8 (now t) ≡ true ⌝ }
+    ensures { λ r. ⌜ r ≡ bucketPlace 64 8 (getD (now (t .entry)) 0 0 + index mixOf (getD (now (t .entry)) 1 0) v) ⌝ }
+{
+    bucket_place(second_index(t, v))
+}
+
+// Level 1 holds v.
+pub fn holds_first(t: &[u64], v: u64) -> bool
+    requires { ⌜ shapeTest 64 8 (now t) ≡ true ⌝ }
+    ensures { λ r. ⌜ r ≡ holds 64 8 mixOf (tableFrom 64 8 (now (t .entry)) .level1) v ⌝ }
+{
+    identifier::threshold(v) < bound_at(t, first_index(t, v))
+}
+
+// Level 2 holds v.
+pub fn holds_second(t: &[u64], v: u64) -> bool
+    requires { ⌜ shapeTest 64 8 (now t) ≡ true ⌝ }
+    ensures { λ r. ⌜ r ≡ holds 64 8 mixOf (tableFrom 64 8 (now (t .entry)) .level2) v ⌝ }
+{
+    identifier::threshold(v) < bound_at(t, second_index(t, v))
+}
