@@ -5,3 +5,5 @@ pub mod Stand
 pub mod Content
 pub mod Sound
 pub mod Test
+pub mod Calls
+pub mod History

@@ -3,7 +3,7 @@
 use Prim.Native.Nat.{ℕ, zero, suc, _+_, _*_, _^_, _≤_, _<_}
 use native.Mathlib.Nat.{lt-trans, not-suc-le-zero, le-of-suc-le-suc, add-mul, add-zero, zero-add}
 use native.Mathlib.Omega.{arith}
-use mathlib.Core.Path.{_≡_, refl, sym, ap, ap₂, _∙_, subst, subst⁻¹}
+use mathlib.Core.Path.{_≡_, refl, sym, ap, _∙_, subst, subst⁻¹}
 use mathlib.Core.Bool.{Bool, true, false, not, _&&_, true≢false}
 use mathlib.Core.Logic.{_⊎_, inl, inr, ⊎-elim}
 use mathlib.Core.List.{List, [], _∷_, List·Memᴰ, List·Memᴰ·head, List·Memᴰ·tail, List·Memᴰ·not-nil, List·Memᴰ·cases-cons}
@@ -13,7 +13,7 @@ use lib.Pow.{pow-pos}
 use lib.Seq.{getD-drop}
 use borrow.Author.Tests.{eqb-true, eq-eqb, ltb-true, lt-ltb, leb-true, le-leb, not-true}
 use Rattle.lists.specs.Entries.{Entry, Above, Ascending}
-use Rattle.lists.proofs.Tests.{true→T, T→true, or-l, or-r, or-cases}
+use Rattle.lists.proofs.Tests.{true→T, T→true, and-one, and-two, and-both, or-l, or-r, or-cases}
 use Rattle.lists.proofs.Entries.{above-up}
 use Rattle.gf2.specs.Select.{elem, chosen}
 use Rattle.gf2.proofs.Chosen.{Row, elem→row}
@@ -37,24 +37,13 @@ use Rattle.concrete.proofs.Numbers.{length-levelFrom}
 
 -- ---- tests one after the other
 
-and-one : (a b : Bool) → (a && b) ≡ true → a ≡ true
-and-one true b e = refl
-and-one false b e = e
-
-and-two : (a b : Bool) → (a && b) ≡ true → b ≡ true
-and-two true b e = e
-and-two false b e = absurd (true≢false (sym e))
-
-both : {a b : Bool} → a ≡ true → b ≡ true → (a && b) ≡ true
-both p q = ap₂ (λ (x y : Bool). x && y) p q
-
 all-out : {A : Type 0} (p : A → Bool) (xs : List A) → allOf p xs ≡ true → (x : A) → List·Memᴰ x xs → p x ≡ true
 all-out p [] t x m = absurd (List·Memᴰ·not-nil m)
 all-out p (y ∷ ys) t x m = ⊎-elim (λ (e : x ≡ y). ap p e ∙ and-one (p y) _ t) (all-out p ys (and-two (p y) _ t) x) (List·Memᴰ·cases-cons m)
 
 all-in : {A : Type 0} (p : A → Bool) (xs : List A) → ((x : A) → List·Memᴰ x xs → p x ≡ true) → allOf p xs ≡ true
 all-in p [] h = refl
-all-in p (y ∷ ys) h = both (h y (List·Memᴰ·head refl)) (all-in p ys (λ x m. h x (List·Memᴰ·tail m)))
+all-in p (y ∷ ys) h = and-both (h y (List·Memᴰ·head refl)) (all-in p ys (λ x m. h x (List·Memᴰ·tail m)))
 
 -- the same of numbers, by whether the list has them
 elem-out : (p : ℕ → Bool) (xs : List ℕ) → allOf p xs ≡ true → (x : ℕ) → elem x xs ≡ true → p x ≡ true
@@ -64,7 +53,7 @@ elem-out p (y ∷ ys) t x e =
 
 elem-in : (p : ℕ → Bool) (xs : List ℕ) → ((x : ℕ) → T (elem x xs) → p x ≡ true) → allOf p xs ≡ true
 elem-in p [] h = refl
-elem-in p (y ∷ ys) h = both (h y (or-l (eqb y y) (elem y ys) (true→T (eq-eqb y y refl)))) (elem-in p ys (λ x m. h x (or-r (eqb x y) (elem x ys) m)))
+elem-in p (y ∷ ys) h = and-both (h y (or-l (eqb y y) (elem y ys) (true→T (eq-eqb y y refl)))) (elem-in p ys (λ x m. h x (or-r (eqb x y) (elem x ys) m)))
 
 -- and of the numbers at all places
 zeros-out : (xs : List ℕ) → allOf (λ x. eqb x 0) xs ≡ true → (i : ℕ) → getD xs i 0 ≡ 0
@@ -74,7 +63,7 @@ zeros-out (x ∷ xs) t (suc i) = zeros-out xs (and-two (eqb x 0) _ t) i
 
 zeros-in : (xs : List ℕ) → ((i : ℕ) → getD xs i 0 ≡ 0) → allOf (λ x. eqb x 0) xs ≡ true
 zeros-in [] h = refl
-zeros-in (x ∷ xs) h = both (eq-eqb x 0 (h 0)) (zeros-in xs (λ i. h (suc i)))
+zeros-in (x ∷ xs) h = and-both (eq-eqb x 0 (h 0)) (zeros-in xs (λ i. h (suc i)))
 
 ascends-out : (es : List Entry) → ascends es ≡ true → Ascending es
 ascends-out [] t = tt
@@ -86,7 +75,7 @@ ascends-out (e ∷ es) t = (go es (and-one (before (e .word) es) _ t) (ascends-o
 
 ascends-in : (es : List Entry) → Ascending es → ascends es ≡ true
 ascends-in [] a = refl
-ascends-in (e ∷ es) a = both (go es (a .0)) (ascends-in es (a .1))
+ascends-in (e ∷ es) a = and-both (go es (a .0)) (ascends-in es (a .1))
   where
     go : (xs : List Entry) → Above (e .word) xs → before (e .word) xs ≡ true
     go [] b = refl
@@ -125,7 +114,7 @@ bucket-out n r row b h t = go (decides-free n (b .mark) (b .cols) (h .shaped .co
 bucket-in : (n r : ℕ) (row : ℕ → Bool) (b : Bucket) → SoundBucket n r b → Each n row b → bucketTest n row b ≡ true
 unfolding bucketTest Row
 bucket-in n r row b h each =
-    both (le-leb (b .bound) largestBound (h .low))
+    and-both (le-leb (b .bound) largestBound (h .low))
     (subst⁻¹ (λ (f : Rows). (f .ok && allOf row (chosen (b .mark) (f .rows))) ≡ true)
     (found-is n (b .mark) (b .cols) (h .matrix) (record { inverse = h .sound .inverse; free = h .sound .free }))
     (elem-in row (chosen (b .mark) (h .matrix)) (λ v m.
@@ -150,7 +139,7 @@ level-in : (n r : ℕ) (row : ℕ → Bucket → ℕ → Bool) (i : ℕ) (bs : L
 level-in n r row i [] h = refl
 level-in n r row i (b ∷ bs) h =
     let q = subst (λ (k : ℕ). SoundBucket n r b × Each n (row k b) b) (add-zero i) (h 0 (omega arith)) in
-    both (bucket-in n r (row i b) b (q .0) (q .1))
+    and-both (bucket-in n r (row i b) b (q .0) (q .1))
     (level-in n r row (suc i) bs (λ j l.
     let e : i + suc j ≡ suc i + j = omega arith in
     subst (λ (k : ℕ). SoundBucket n r (nth n r bs j) × Each n (row k (nth n r bs j)) (nth n r bs j)) e (h (suc j) (omega arith))))
@@ -202,14 +191,14 @@ module _ (n r : ℕ) (S U : ℕ → ℕ) (T : Table) where
 
   table-in : SoundTable n r S U T → tableTest n r S U T ≡ true
   table-in h =
-      both (le-leb _ baseLimit (h .fits)) (both (eq-eqb _ _ (h .counts))
-      (both (level-in n r (row1 n r S U T) 0 (T .level1) (λ j l. (h .level1 .buckets j l, λ v k t.
+      and-both (le-leb _ baseLimit (h .fits)) (and-both (eq-eqb _ _ (h .counts))
+      (and-both (level-in n r (row1 n r S U T) 0 (T .level1) (λ j l. (h .level1 .buckets j l, λ v k t.
       let q : D.Row n r (T .level1) j v = record { bucket-lt = l; vector-lt = k; is-live = t } in
-      both (eq-eqb _ _ (h .level1 .here j v q ∙ sym (zero-add j))) (lt-ltb _ _ (h .level1 .low j v q)))))
-      (both (level-in n r (row2 n r S U T) 0 (T .level2) (λ j l. (h .level2 .buckets j l, λ v k t.
+      and-both (eq-eqb _ _ (h .level1 .here j v q ∙ sym (zero-add j))) (lt-ltb _ _ (h .level1 .low j v q)))))
+      (and-both (level-in n r (row2 n r S U T) 0 (T .level2) (λ j l. (h .level2 .buckets j l, λ v k t.
       let q : D.Row n r (T .level2) j v = record { bucket-lt = l; vector-lt = k; is-live = t } in
-      both (eq-eqb _ _ (h .level2 .here j v q ∙ sym (zero-add j))) (both (lt-ltb _ _ (h .level2 .low j v q)) (ap not (h .passed j v q))))))
-      (both (all-in (row0 n r S U T) (T .base) (λ e m. let p = h .base-words e m in both (lt-ltb _ _ (h .base-plans e m)) (both (ap not (p .1)) (ap not (p .2)))))
+      and-both (eq-eqb _ _ (h .level2 .here j v q ∙ sym (zero-add j))) (and-both (lt-ltb _ _ (h .level2 .low j v q)) (ap not (h .passed j v q))))))
+      (and-both (all-in (row0 n r S U T) (T .base) (λ e m. let p = h .base-words e m in and-both (lt-ltb _ _ (h .base-plans e m)) (and-both (ap not (p .1)) (ap not (p .2)))))
       (ascends-in (T .base) (h .ascending))))))
 
 -- ---- numbers of n bits
@@ -279,4 +268,4 @@ module _ (n r : ℕ) where
 
     pub sound-test : FlatSound n r S U xs → soundTest n r S U xs ≡ true
     unfolding soundTest
-    sound-test h = both (table-in n r S U (tableFrom n r xs) (h .table)) (zeros-in (unusedIn n r xs) (h .unused))
+    sound-test h = and-both (table-in n r S U (tableFrom n r xs) (h .table)) (zeros-in (unusedIn n r xs) (h .unused))

@@ -4,3 +4,5 @@ pub mod Layout
 pub mod Content
 pub mod Sound
 pub mod Test
+pub mod Calls
+pub mod History
