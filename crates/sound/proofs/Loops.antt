@@ -23,6 +23,14 @@ use Rattle.concrete.specs.Layout.{levelFrom, pairsFrom}
 use Rattle.concrete.specs.Content.{occupied}
 use Rattle.concrete.specs.Test.{allOf, ascends, bucketTest, levelTest}
 
+-- ---- a test q, then the others: x is what the loop has left to test, b what was to be tested
+
+pub go-on : {x q a b : Bool} → x ≡ (q && a) → q ≡ true → x ≡ b → a ≡ b
+go-on {a = a} e h i = sym (e ∙ ap (λ (c : Bool). c && a) h) ∙ i
+
+pub stop : {x q b : Bool} (a : Bool) → x ≡ (q && a) → q ≡ false → x ≡ b → false ≡ b
+stop a e h i = sym (e ∙ ap (λ (c : Bool). c && a) h) ∙ i
+
 -- ---- the rows that a mark names
 
 swap : (a b c : Bool) → (a && (b && c)) ≡ (b && (a && c))

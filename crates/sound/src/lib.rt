@@ -16,7 +16,7 @@ ghost use Rattle.concrete.specs.Layout.{bucketPlace, lengthOf, levelFrom, pairs
 ghost use Rattle.concrete.specs.Content.{occupied};
 ghost use Rattle.concrete.specs.Test.{inRange, allOf, ascends};
 ghost use Rattle.concrete.specs.Calls.{rows, solutions, tableOf, shaped, sound};
-ghost use Rattle.sound.specs.Held.{rowTest, bucketSound, levelSound, pairTest};
+ghost use Rattle.sound.specs.Held.{rowTest, bucketSound, levelSound, pairTest, countsSound, baseSound};
 
 // The table of document 01: its limits and the places of its parts.
 pub struct Table {}
@@ -236,12 +236,12 @@ pub(crate) fn level_sound(t: &[u64], second: bool, m: u64, place: usize) -> bool
     true
 }
 
-// The occupied rows of m buckets, from a place on.
-pub(crate) fn occupied(t: &[u64], m: u64, place: usize) -> u64
-    requires { do ⌜ place + m * (← ⟦Bucket::WORDS⟧) ≤ length (now t) ⌝ }
-    ensures { λ r. ⌜ r ≡ occupied (levelFrom rows solutions m (drop place (now (t .entry)))) ⌝ }
+// The occupied rows of m buckets, from a place on, and the base entries.
+pub(crate) fn live_count(t: &[u64], m: u64, place: usize, base: u64) -> u64
+    requires { do ⌜ (place + m * (← ⟦Bucket::WORDS⟧) ≤ length (now t)) × (base ≤ (← ⟦Table::BASE_ENTRIES⟧)) ⌝ }
+    ensures { λ r. ⌜ r ≡ occupied (levelFrom rows solutions m (drop place (now (t .entry)))) + base ⌝ }
 {
-    let mut sum: u64 = 0;
+    let mut sum = base;
     let mut i: u64 = 0;
     let mut at = place;
     while i < m {
@@ -318,32 +318,44 @@ pub(crate) fn zero_from(t: &[u64], place: usize) -> bool
     true
 }
 
+// The base count is in range, and the live count is right.
+pub(crate) fn counts_sound(t: &[u64]) -> bool
+    requires { ⌜ shaped (now t) ≡ true ⌝ }
+    ensures { λ r. ⌜ r ≡ countsSound (now (t .entry)) ⌝ }
+{
+    let count = t[2];
+    if Table::BASE_ENTRIES < count {
+        return false;
+    }
+    t[3] == live_count(t, t[0] + t[1], Table::HEADER, count)
+}
+
+// The base list is sound.
+pub(crate) fn base_sound(t: &[u64]) -> bool
+    requires { do ⌜ (shaped (now t) ≡ true) × (getD (now t) 2 0 ≤ (← ⟦Table::BASE_ENTRIES⟧)) ⌝ }
+    ensures { λ r. ⌜ r ≡ baseSound (now (t .entry)) ⌝ }
+{
+    let count = t[2];
+    let place = bucket_place((t[0] + t[1]) as usize);
+    if pairs_ascend(t, count, place) {
+        if zero_from(t, place + 2 * (count as usize)) {
+            return pairs_held(t, count, place);
+        }
+    }
+    false
+}
+
 // Not cause 5. What is cheap is tested first.
 pub fn sound(t: &[u64]) -> bool
     requires { ⌜ shaped (now t) ≡ true ⌝ }
     ensures { λ r. ⌜ r ≡ sound (now (t .entry)) ⌝ }
 {
-    let first = t[0];
-    let second = t[1];
-    let count = t[2];
-    if Table::BASE_ENTRIES < count {
-        return false;
+    if counts_sound(t) {
+        if base_sound(t) {
+            if level_sound(t, false, t[0], Table::HEADER) {
+                return level_sound(t, true, t[1], bucket_place(t[0] as usize));
+            }
+        }
     }
-    if t[3] != occupied(t, first + second, Table::HEADER) + count {
-        return false;
-    }
-    let base = bucket_place((first + second) as usize);
-    if !pairs_ascend(t, count, base) {
-        return false;
-    }
-    if !zero_from(t, base + 2 * (count as usize)) {
-        return false;
-    }
-    if !pairs_held(t, count, base) {
-        return false;
-    }
-    if !level_sound(t, false, first, Table::HEADER) {
-        return false;
-    }
-    level_sound(t, true, second, bucket_place(first as usize))
+    false
 }

@@ -1,3 +1,11 @@
+use borrow.Author.Tests.{lt-ltb, le-ltb}
+use Rattle.sound.proofs.Loops.{go-on, stop, ascends-next, ascends-end}
+use Prim.Native.Nat.{ℕ, _+_, _-_, _*_, _^_, _≤_, _<_}
+use native.Mathlib.Omega.{arith}
+use mathlib.Core.Path.{_≡_, refl, sym, ap, _∙_}
+use lib.ListN.{length, drop}
+use Rattle.concrete.specs.Layout.{pairsFrom}
+use Rattle.concrete.specs.Test.{ascends}
 use borrow.Author.Needs.{needs}
 use Rattle.sound.proofs.pairs_ascend.Statement.{statement}
 use Rattle.sound.proofs.pairs_ascend.Tie as tie
@@ -5,54 +13,51 @@ use Rattle.sound.proofs.pairs_ascend.Reads as reads
 use Rattle.sound.proofs.pairs_ascend.Lts as lts
 
 abbrev Inv-loop : tie.InvT-loop
-Inv-loop t count place left₀ at₀ left at = ?
+Inv-loop t count place left₀ at₀ left at = (at + 2 * left ≤ length t) × (ascends (pairsFrom left (drop at t)) ≡ ascends (pairsFrom count (drop place t)))
 
 abbrev μ-loop : tie.MeasureT-loop
-μ-loop t count place left₀ at₀ left at = ?
+μ-loop t count place left₀ at₀ left at = left
 
--- src/lib.rt:294:5
 loop-holds : tie.Need-loop-holds Inv-loop μ-loop
 loop-holds c = search needs
 
--- src/lib.rt:295:20
 add-next : tie.Need-add-next Inv-loop μ-loop
 add-next c = search needs
 
--- src/lib.rt:296:12
 mul-if1 : tie.Need-mul-if1 Inv-loop μ-loop
 mul-if1 c = search needs
 
--- src/lib.rt:296:12
 shared-slice-read-if1 : tie.Need-shared-slice-read-if1 Inv-loop μ-loop
 shared-slice-read-if1 c = search needs
 
--- src/lib.rt:296:20
 mul-if1-2 : tie.Need-mul-if1-2 Inv-loop μ-loop
 mul-if1-2 c = search needs
 
--- src/lib.rt:296:20
 shared-slice-read-if1-2 : tie.Need-shared-slice-read-if1-2 Inv-loop μ-loop
 shared-slice-read-if1-2 c = search needs
 
--- src/lib.rt:297:13
 sub-left : tie.Need-sub-left Inv-loop μ-loop
 sub-left c = search needs
 
--- src/lib.rt:294:5
 loop-less : tie.Need-loop-less Inv-loop μ-loop
-loop-less c = search needs
+loop-less c = omega arith
 
--- src/lib.rt:294:5
 loop-again : tie.Need-loop-again Inv-loop μ-loop
-loop-again c = search needs
+loop-again c =
+    let b = c .before .before .before .before in
+    let a = b .before .args in
+    (omega arith, go-on (ascends-next (a .t .now) (b .loop .at) (b .loop .left) (c .before .before .before .loop-test .taken)) (lt-ltb _ _ (c .if1 .taken)) (b .loop .inv .1))
 
--- src/lib.rt:300:13
 returns : tie.Need-returns Inv-loop μ-loop
-returns c = search needs
+returns c =
+    let b = c .before .before .before .before in
+    let a = b .before .args in
+    stop _ (ascends-next (a .t .now) (b .loop .at) (b .loop .left) (c .before .before .before .loop-test .taken)) (le-ltb _ _ (c .if1 .left)) (b .loop .inv .1)
 
--- src/lib.rt:288:1
 returns-2 : tie.Need-returns-2 Inv-loop μ-loop
-returns-2 c = search needs
+returns-2 c =
+    let b = c .before in
+    sym (ascends-end (b .before .args .t .now) (b .loop .at) (b .loop .left) (c .loop-test .left)) ∙ b .loop .inv .1
 
 pub pairs-ascend-spec : {M : Type 1} → statement M
 pairs-ascend-spec =
