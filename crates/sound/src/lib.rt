@@ -316,12 +316,12 @@ pub(crate) fn zero_from(t: &[u64], place: usize) -> bool
     requires { ⌜ place ≤ length (now t) ⌝ }
     ensures { λ r. ⌜ r ≡ allOf (λ x. eqb x 0) (drop place (now (t .entry))) ⌝ }
 {
-    let mut at = place;
-    while at < t.len() {
-        if t[at] != 0 {
+    let mut i = place;
+    while i < t.len() {
+        if t[i] != 0 {
             return false;
         }
-        at += 1;
+        i += 1;
     }
     true
 }
