@@ -35,7 +35,9 @@ impl Table {
     pub const BASE_NUMBERS: usize = 2 * Self::BASE_ENTRIES;
 
     // The longest table.
-    pub const LONGEST: usize = Self::HEADER + Self::MOST_BUCKETS * Bucket::WORDS + Self::BASE_NUMBERS;
+    pub const LONGEST: usize = Self::HEADER
+        + Self::MOST_BUCKETS * Bucket::WORDS
+        + Self::BASE_NUMBERS;
 }
 
 // The bucket numbers are in range.
