@@ -64,12 +64,12 @@ pub(crate) fn put_in(words: &mut [u64], at: usize, x: u64) -> u64
     carried
 }
 
-// Element `at` goes, and is returned; x comes after the last.
-pub(crate) fn take_out(words: &mut [u64], at: usize, x: u64) -> u64
+// Element `at` goes, and is returned; 0 comes after the last.
+pub(crate) fn take_out(words: &mut [u64], at: usize) -> u64
     requires { ⌜ at ≤ length (now words) ⌝ }
-    ensures { λ r. ⌜ putAt at r (now (words .exit)) ≡ now (words .entry) ++ x ∷ [] ⌝ }
+    ensures { λ r. ⌜ putAt at r (now (words .exit)) ≡ now (words .entry) ++ 0 ∷ [] ⌝ }
 {
-    let mut carried = x;
+    let mut carried: u64 = 0;
     let mut i = words.len();
     while at < i {
         i -= 1;
@@ -110,8 +110,9 @@ pub fn remove(pairs: &mut [u64], count: usize, v: u64) -> usize
 {
     let i = before_equal(pairs, count, v);
     if i < count {
-        take_out(pairs, 2 * i, 0);
-        take_out(pairs, 2 * i, 0);
+        let at = 2 * i;
+        take_out(pairs, at);
+        take_out(pairs, at);
         return count - 1;
     }
     count

@@ -11,14 +11,11 @@ use Rattle.base.proofs.remove.Tie as tie
 before-equal-requires : tie.Need-before-equal-requires
 before-equal-requires c κs = room (c .before .before .pre)
 
-mul-take-out : tie.Need-mul-take-out
-mul-take-out c = search needs
+mul-at : tie.Need-mul-at
+mul-at c = search needs
 
 take-out-requires : tie.Need-take-out-requires
 take-out-requires c κs = omega (arith, room (c .before .before .before .before .before .pre))
-
-mul-take-out-2 : tie.Need-mul-take-out-2
-mul-take-out-2 c = search needs
 
 take-out-requires-2 : tie.Need-take-out-requires-2
 take-out-requires-2 c κs = omega (arith, room (c .before .before .before .before .before .before .before .before .before .pre))
@@ -56,9 +53,8 @@ remove-spec =
     tie.close
     (tie.spec
     before-equal-requires
-    mul-take-out
+    mul-at
     take-out-requires
-    mul-take-out-2
     take-out-requires-2
     sub-result
     same-length

@@ -13,15 +13,15 @@ use Rattle.base.proofs.take_out.Statement.{statement}
 use Rattle.base.proofs.take_out.Tie as tie
 
 abbrev Inv-loop : tie.InvT-loop
-Inv-loop words₀ at x carried₀ i₀ words carried i = (length words ≡ length words₀) × (at ≤ i) × (i ≤ length words₀) × (putAt i carried words ≡ words₀ ++ x ∷ [])
+Inv-loop words₀ at carried₀ i₀ words carried i = (length words ≡ length words₀) × (at ≤ i) × (i ≤ length words₀) × (putAt i carried words ≡ words₀ ++ 0 ∷ [])
 
 abbrev μ-loop : tie.MeasureT-loop
-μ-loop words₀ at x carried₀ i₀ words carried i = i
+μ-loop words₀ at carried₀ i₀ words carried i = i
 
 loop-holds : tie.Need-loop-holds Inv-loop μ-loop
 loop-holds c =
     let a = c .args in
-    (refl, c .pre, search needs, put-last (length (a .words .now)) (a .x) (a .words .now) (le-refl _))
+    (refl, c .pre, search needs, put-last (length (a .words .now)) 0 (a .words .now) (le-refl _))
 
 sub-i : tie.Need-sub-i Inv-loop μ-loop
 sub-i c = search needs
