@@ -10,8 +10,9 @@ ghost use lib.ListN.{length, getD, drop};
 ghost use Rattle.hash.specs.Mix.{mixOf};
 ghost use Rattle.bucket.specs.Words.{bucketFrom};
 ghost use Rattle.concrete.specs.Table.{index, holds};
-ghost use Rattle.concrete.specs.Layout.{bucketPlace, lengthOf, tableFrom};
-ghost use Rattle.concrete.specs.Test.{inRange, shapeTest};
+ghost use Rattle.concrete.specs.Layout.{bucketPlace, lengthOf};
+ghost use Rattle.concrete.specs.Test.{inRange};
+ghost use Rattle.concrete.specs.Calls.{rows, solutions, tableOf, shaped};
 
 // The table of document 01: its limits and the places of its parts.
 pub struct Table {}
@@ -59,7 +60,7 @@ pub fn in_range(b1: u64, b2: u64) -> bool
 // The place of bucket i, level 1 first.
 pub fn bucket_place(i: usize) -> usize
     requires { do ⌜ i ≤ (← ⟦Table::MOST_BUCKETS⟧) ⌝ }
-    ensures { λ r. ⌜ r ≡ bucketPlace 64 8 i ⌝ }
+    ensures { λ r. ⌜ r ≡ bucketPlace rows solutions i ⌝ }
 {
     Table::HEADER + i * Bucket::WORDS
 }
@@ -67,14 +68,14 @@ pub fn bucket_place(i: usize) -> usize
 // The length that the bucket numbers give.
 pub fn length_of(b1: u64, b2: u64) -> usize
     requires { ⌜ inRange b1 b2 ≡ true ⌝ }
-    ensures { λ r. ⌜ r ≡ lengthOf 64 8 b1 b2 ⌝ }
+    ensures { λ r. ⌜ r ≡ lengthOf rows solutions b1 b2 ⌝ }
 {
     bucket_place((b1 + b2) as usize) + Table::BASE_NUMBERS
 }
 
 // Not cause 4.
 pub fn shaped(t: &[u64]) -> bool
-    ensures { λ r. ⌜ r ≡ shapeTest 64 8 (now (t .entry)) ⌝ }
+    ensures { λ r. ⌜ r ≡ shaped (now (t .entry)) ⌝ }
 {
     if t.len() < Table::HEADER {
         return false;
@@ -87,15 +88,15 @@ pub fn shaped(t: &[u64]) -> bool
 
 // The bound of bucket i, level 1 first.
 pub fn bound_at(t: &[u64], i: usize) -> u64
-    requires { ⌜ (shapeTest 64 8 (now t) ≡ true) × (i < getD (now t) 0 0 + getD (now t) 1 0) ⌝ }
-    ensures { λ r. ⌜ r ≡ bucketFrom 64 8 (drop (bucketPlace 64 8 i) (now (t .entry))) .bound ⌝ }
+    requires { ⌜ (shaped (now t) ≡ true) × (i < getD (now t) 0 0 + getD (now t) 1 0) ⌝ }
+    ensures { λ r. ⌜ r ≡ bucketFrom rows solutions (drop (bucketPlace rows solutions i) (now (t .entry))) .bound ⌝ }
 {
     t[bucket_place(i) + Bucket::BOUND_AT]
 }
 
 // The number of the bucket of v at level 1.
 pub fn first_index(t: &[u64], v: u64) -> usize
-    requires { ⌜ shapeTest 64 8 (now t) ≡ true ⌝ }
+    requires { ⌜ shaped (now t) ≡ true ⌝ }
     ensures { λ r. ⌜ r ≡ index mixOf (getD (now (t .entry)) 0 0) v ⌝ }
 {
     identifier::bucket(v, t[0]) as usize
@@ -103,7 +104,7 @@ pub fn first_index(t: &[u64], v: u64) -> usize
 
 // The number of the bucket of v at level 2, after those of level 1.
 pub fn second_index(t: &[u64], v: u64) -> usize
-    requires { ⌜ shapeTest 64 8 (now t) ≡ true ⌝ }
+    requires { ⌜ shaped (now t) ≡ true ⌝ }
     ensures { λ r. ⌜ r ≡ getD (now (t .entry)) 0 0 + index mixOf (getD (now (t .entry)) 1 0) v ⌝ }
 {
     (t[0] + identifier::bucket(v, t[1])) as usize
@@ -111,32 +112,41 @@ pub fn second_index(t: &[u64], v: u64) -> usize
 
 // The place of v's bucket at level 1.
 pub fn first_place(t: &[u64], v: u64) -> usize
-    requires { ⌜ shapeTest 64 8 (now t) ≡ true ⌝ }
-    ensures { λ r. ⌜ r ≡ bucketPlace 64 8 (index mixOf (getD (now (t .entry)) 0 0) v) ⌝ }
+    requires { ⌜ shaped (now t) ≡ true ⌝ }
+    ensures { λ r. ⌜ r ≡ bucketPlace rows solutions (index mixOf (getD (now (t .entry)) 0 0) v) ⌝ }
 {
     bucket_place(first_index(t, v))
 }
 
 // The place of v's bucket at level 2.
 pub fn second_place(t: &[u64], v: u64) -> usize
-    requires { ⌜ shapeTest 64 8 (now t) ≡ true ⌝ }
-    ensures { λ r. ⌜ r ≡ bucketPlace 64 8 (getD (now (t .entry)) 0 0 + index mixOf (getD (now (t .entry)) 1 0) v) ⌝ }
+    requires { ⌜ shaped (now t) ≡ true ⌝ }
+    ensures { λ r. ⌜ r ≡ bucketPlace rows solutions (getD (now (t .entry)) 0 0 + index mixOf (getD (now (t .entry)) 1 0) v) ⌝ }
 {
     bucket_place(second_index(t, v))
 }
 
 // Level 1 holds v.
 pub fn holds_first(t: &[u64], v: u64) -> bool
-    requires { ⌜ shapeTest 64 8 (now t) ≡ true ⌝ }
-    ensures { λ r. ⌜ r ≡ holds 64 8 mixOf (tableFrom 64 8 (now (t .entry)) .level1) v ⌝ }
+    requires { ⌜ shaped (now t) ≡ true ⌝ }
+    ensures { λ r. ⌜ r ≡ holds rows solutions mixOf (tableOf (now (t .entry)) .level1) v ⌝ }
 {
     identifier::threshold(v) < bound_at(t, first_index(t, v))
 }
 
 // Level 2 holds v.
 pub fn holds_second(t: &[u64], v: u64) -> bool
-    requires { ⌜ shapeTest 64 8 (now t) ≡ true ⌝ }
-    ensures { λ r. ⌜ r ≡ holds 64 8 mixOf (tableFrom 64 8 (now (t .entry)) .level2) v ⌝ }
+    requires { ⌜ shaped (now t) ≡ true ⌝ }
+    ensures { λ r. ⌜ r ≡ holds rows solutions mixOf (tableOf (now (t .entry)) .level2) v ⌝ }
 {
     identifier::threshold(v) < bound_at(t, second_index(t, v))
+}
+
+// The bucket whose words start at a place.
+pub fn bucket_at(t: &[u64], place: usize) -> Bucket
+    requires { do ⌜ place + (← ⟦Bucket::WORDS⟧) ≤ length (now t) ⌝ }
+    ensures { λ r. ⌜ r ≡ bucketFrom rows solutions (drop place (now (t .entry))) ⌝ }
+{
+    let end = place + Bucket::WORDS;
+    bucket::load(&t[place..end])
 }
