@@ -192,18 +192,12 @@ module _ (n r : ℕ) (S U : ℕ → ℕ) (T : Table) where
   table-in : SoundTable n r S U T → tableTest n r S U T ≡ true
   table-in h =
       and-both (le-leb _ baseLimit (h .fits)) (and-both (eq-eqb _ _ (h .counts))
-      (and-both (level-in n r (row1 n r S U T) 0 (T .level1) (λ j l. (
-        h .level1 .buckets j l,
-        λ v k t.
-            let q : D.Row n r (T .level1) j v = record { bucket-lt = l; vector-lt = k; is-live = t } in
-            and-both (eq-eqb _ _ (h .level1 .here j v q ∙ sym (zero-add j))) (lt-ltb _ _ (h .level1 .low j v q)),
-      )))
-      (and-both (level-in n r (row2 n r S U T) 0 (T .level2) (λ j l. (
-        h .level2 .buckets j l,
-        λ v k t.
-            let q : D.Row n r (T .level2) j v = record { bucket-lt = l; vector-lt = k; is-live = t } in
-            and-both (eq-eqb _ _ (h .level2 .here j v q ∙ sym (zero-add j))) (and-both (lt-ltb _ _ (h .level2 .low j v q)) (ap not (h .passed j v q))),
-      )))
+      (and-both (level-in n r (row1 n r S U T) 0 (T .level1) (λ j l. (h .level1 .buckets j l, λ v k t.
+      let q : D.Row n r (T .level1) j v = record { bucket-lt = l; vector-lt = k; is-live = t } in
+      and-both (eq-eqb _ _ (h .level1 .here j v q ∙ sym (zero-add j))) (lt-ltb _ _ (h .level1 .low j v q)))))
+      (and-both (level-in n r (row2 n r S U T) 0 (T .level2) (λ j l. (h .level2 .buckets j l, λ v k t.
+      let q : D.Row n r (T .level2) j v = record { bucket-lt = l; vector-lt = k; is-live = t } in
+      and-both (eq-eqb _ _ (h .level2 .here j v q ∙ sym (zero-add j))) (and-both (lt-ltb _ _ (h .level2 .low j v q)) (ap not (h .passed j v q))))))
       (and-both (all-in (row0 n r S U T) (T .base) (λ e m. let p = h .base-words e m in and-both (lt-ltb _ _ (h .base-plans e m)) (and-both (ap not (p .1)) (ap not (p .2)))))
       (ascends-in (T .base) (h .ascending))))))
 
