@@ -1,10 +1,10 @@
 -- The test says true exactly of sound tables, in numbers that have the length of the layout and are below 2 ^ n.
 -- Assumes nothing.
 use Prim.Native.Nat.{ℕ, zero, suc, _+_, _*_, _^_, _≤_, _<_}
-use native.Mathlib.Nat.{lt-trans, not-suc-le-zero, le-of-suc-le-suc, add-mul, add-zero, zero-add}
+use native.Mathlib.Nat.{not-suc-le-zero, le-of-suc-le-suc, add-mul, add-zero, zero-add}
 use native.Mathlib.Omega.{arith}
 use mathlib.Core.Path.{_≡_, refl, sym, ap, _∙_, subst, subst⁻¹}
-use mathlib.Core.Bool.{Bool, true, false, not, _&&_, true≢false}
+use mathlib.Core.Bool.{Bool, true, not, _&&_, true≢false}
 use mathlib.Core.Logic.{_⊎_, inl, inr, ⊎-elim}
 use mathlib.Core.List.{List, [], _∷_, List·Memᴰ, List·Memᴰ·head, List·Memᴰ·tail, List·Memᴰ·not-nil, List·Memᴰ·cases-cons}
 use lib.Dec.{T, eqb, ltb, leb, eqb→eq}
@@ -18,9 +18,9 @@ use Rattle.lists.proofs.Entries.{above-up}
 use Rattle.gf2.specs.Select.{elem, chosen}
 use Rattle.gf2.proofs.Chosen.{Row, elem→row}
 use Rattle.eliminate.specs.declared.Rows.{Rows}
-use Rattle.eliminate.specs.Exact.{Rowed, FoundFree}
+use Rattle.eliminate.specs.Exact.{FoundFree}
 use Rattle.eliminate.specs.Elimination.{soundRows}
-use Rattle.eliminate.proofs.Free.{decides-free, found-is}
+use Rattle.eliminate.proofs.Exact.{decides-free, found-is}
 use Rattle.bucket.specs.declared.Bucket.{Bucket}
 use Rattle.bucket.specs.Bucket.{Sound, largestBound, live}
 use Rattle.bucket.specs.Words.{bucketWords, bucketFrom, Shaped}
@@ -192,12 +192,18 @@ module _ (n r : ℕ) (S U : ℕ → ℕ) (T : Table) where
   table-in : SoundTable n r S U T → tableTest n r S U T ≡ true
   table-in h =
       and-both (le-leb _ baseLimit (h .fits)) (and-both (eq-eqb _ _ (h .counts))
-      (and-both (level-in n r (row1 n r S U T) 0 (T .level1) (λ j l. (h .level1 .buckets j l, λ v k t.
-      let q : D.Row n r (T .level1) j v = record { bucket-lt = l; vector-lt = k; is-live = t } in
-      and-both (eq-eqb _ _ (h .level1 .here j v q ∙ sym (zero-add j))) (lt-ltb _ _ (h .level1 .low j v q)))))
-      (and-both (level-in n r (row2 n r S U T) 0 (T .level2) (λ j l. (h .level2 .buckets j l, λ v k t.
-      let q : D.Row n r (T .level2) j v = record { bucket-lt = l; vector-lt = k; is-live = t } in
-      and-both (eq-eqb _ _ (h .level2 .here j v q ∙ sym (zero-add j))) (and-both (lt-ltb _ _ (h .level2 .low j v q)) (ap not (h .passed j v q))))))
+      (and-both (level-in n r (row1 n r S U T) 0 (T .level1) (λ j l. (
+        h .level1 .buckets j l,
+        λ v k t.
+            let q : D.Row n r (T .level1) j v = record { bucket-lt = l; vector-lt = k; is-live = t } in
+            and-both (eq-eqb _ _ (h .level1 .here j v q ∙ sym (zero-add j))) (lt-ltb _ _ (h .level1 .low j v q)),
+      )))
+      (and-both (level-in n r (row2 n r S U T) 0 (T .level2) (λ j l. (
+        h .level2 .buckets j l,
+        λ v k t.
+            let q : D.Row n r (T .level2) j v = record { bucket-lt = l; vector-lt = k; is-live = t } in
+            and-both (eq-eqb _ _ (h .level2 .here j v q ∙ sym (zero-add j))) (and-both (lt-ltb _ _ (h .level2 .low j v q)) (ap not (h .passed j v q))),
+      )))
       (and-both (all-in (row0 n r S U T) (T .base) (λ e m. let p = h .base-words e m in and-both (lt-ltb _ _ (h .base-plans e m)) (and-both (ap not (p .1)) (ap not (p .2)))))
       (ascends-in (T .base) (h .ascending))))))
 
