@@ -149,6 +149,14 @@ pub fn holds_second(t: &[u64], v: u64) -> bool
     identifier::threshold(v) < bound_at(t, second_index(t, v))
 }
 
+// The place of the base list.
+pub fn base_place(t: &[u64]) -> usize
+    requires { ⌜ shaped (now t) ≡ true ⌝ }
+    ensures { λ r. ⌜ r ≡ bucketPlace rows solutions (getD (now (t .entry)) 0 0 + getD (now (t .entry)) 1 0) ⌝ }
+{
+    bucket_place((t[0] + t[1]) as usize)
+}
+
 // The bucket whose words start at a place.
 pub fn bucket_at(t: &[u64], place: usize) -> Bucket
     requires { do ⌜ place + (← ⟦Bucket::WORDS⟧) ≤ length (now t) ⌝ }
@@ -336,7 +344,7 @@ pub(crate) fn base_sound(t: &[u64]) -> bool
     ensures { λ r. ⌜ r ≡ baseSound (now (t .entry)) ⌝ }
 {
     let count = t[2];
-    let place = bucket_place((t[0] + t[1]) as usize);
+    let place = base_place(t);
     if pairs_ascend(t, count, place) {
         if zero_from(t, place + 2 * (count as usize)) {
             return pairs_held(t, count, place);
