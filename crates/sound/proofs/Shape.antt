@@ -14,8 +14,8 @@ use Rattle.lists.proofs.Tests.{and-one, and-two}
 use Rattle.bucket.specs.declared.Bucket.{Bucket}
 use Rattle.bucket.specs.Words.{bucketWords, bucketFrom}
 use Rattle.concrete.specs.Table.{nth, thr, index, bucketOf, holds}
-use Rattle.concrete.specs.Layout.{header, baseNumbers, bucketPlace, lengthOf, tableFrom}
-use Rattle.concrete.specs.Test.{mostBuckets1, mostBuckets2, inRange, shapeTest}
+use Rattle.concrete.specs.Layout.{header, mostBuckets1, mostBuckets2, inRange, baseNumbers, bucketPlace, lengthOf, tableFrom}
+use Rattle.concrete.specs.Test.{shapeTest}
 use Rattle.concrete.proofs.Numbers.{length-levelFrom, read-first, read-second}
 
 -- bucket numbers in range

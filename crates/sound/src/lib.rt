@@ -12,9 +12,9 @@ ghost use Rattle.gf2.specs.Select.{chosen};
 ghost use Rattle.hash.specs.Mix.{mixOf};
 ghost use Rattle.bucket.specs.Words.{bucketFrom};
 ghost use Rattle.concrete.specs.Table.{index, holds};
-ghost use Rattle.concrete.specs.Layout.{bucketPlace, lengthOf, levelFrom, pairsFrom};
+ghost use Rattle.concrete.specs.Layout.{bucketPlace, inRange, lengthOf, levelFrom, pairsFrom};
 ghost use Rattle.concrete.specs.Content.{occupied};
-ghost use Rattle.concrete.specs.Test.{inRange, allOf, ascends};
+ghost use Rattle.concrete.specs.Test.{allOf, ascends};
 ghost use Rattle.concrete.specs.Calls.{rows, solutions, tableOf, shaped, sound};
 ghost use Rattle.sound.specs.Held.{rowTest, bucketSound, levelSound, pairTest, countsSound, baseSound};
 

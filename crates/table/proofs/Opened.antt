@@ -16,8 +16,7 @@ use Rattle.bucket.specs.Bucket.{emptyBucket}
 use Rattle.bucket.specs.Words.{bucketWords, wordsOf, Shaped}
 use Rattle.bucket.proofs.Words.{length-words, empty-shaped}
 use Rattle.concrete.specs.Table.{openTable}
-use Rattle.concrete.specs.Layout.{header, baseNumbers, levelNumbers, basePairs, numbersOf, bucketPlace, lengthOf}
-use Rattle.concrete.specs.Test.{inRange}
+use Rattle.concrete.specs.Layout.{header, baseNumbers, levelNumbers, basePairs, numbersOf, bucketPlace, inRange, lengthOf}
 use Rattle.concrete.specs.Calls.{rows, solutions, turnedDown, openCall}
 use Rattle.concrete.proofs.Numbers.{length-level}
 

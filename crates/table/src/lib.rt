@@ -18,8 +18,7 @@ ghost use Rattle.bucket.specs.Words.{bucketFrom, wordsOf};
 ghost use Rattle.settle.specs.Settle.{planOf};
 ghost use Rattle.base.specs.Base.{foundOf};
 ghost use Rattle.concrete.specs.Table.{openTable, changedIn};
-ghost use Rattle.concrete.specs.Layout.{header, levelNumbers, numbersOf, bucketPlace, lengthOf};
-ghost use Rattle.concrete.specs.Test.{inRange};
+ghost use Rattle.concrete.specs.Layout.{header, levelNumbers, numbersOf, bucketPlace, inRange, lengthOf};
 ghost use Rattle.concrete.specs.Calls.{rows, solutions, tableOf, planIn, shaped, openCall};
 
 // 0 in each number.
