@@ -1,3 +1,5 @@
 -- The laws of the crate.
 pub mod Stretch
 pub mod Opened
+pub mod Touched
+pub mod Word

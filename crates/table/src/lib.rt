@@ -19,7 +19,8 @@ ghost use Rattle.settle.specs.Settle.{planOf};
 ghost use Rattle.base.specs.Base.{foundOf};
 ghost use Rattle.concrete.specs.Table.{openTable, changedIn};
 ghost use Rattle.concrete.specs.Layout.{header, levelNumbers, numbersOf, bucketPlace, inRange, lengthOf};
-ghost use Rattle.concrete.specs.Calls.{rows, solutions, tableOf, planIn, shaped, openCall};
+ghost use Rattle.concrete.specs.Calls.{rows, solutions, tableOf, planIn, openCall};
+ghost use Rattle.table.specs.Ready.{Ready, withoutIn};
 
 // 0 in each number.
 pub(crate) fn clear(words: &mut [u64])
@@ -85,4 +86,99 @@ pub fn open(t: &mut [u64], b1: u64, b2: u64) -> Answer
         return Answer::WrongTable(size as u64);
     }
     Answer::WrongBuckets
+}
+
+// The plan of v in a bucket, if it is live there.
+pub(crate) fn plan_of(b: Bucket, v: u64) -> Found
+    ensures { λ r. ⌜ r ≡ foundOf (planOf rows v b) ⌝ }
+{
+    if b.row_of(v) < Bucket::ROWS {
+        return Found::Plan(b.lookup(v));
+    }
+    Found::Nothing
+}
+
+// The plan of w, if it is live: at level 1 if that holds it, else at level 2 if that holds it, else in the base list.
+pub(crate) fn plan_in(t: &[u64], w: u64) -> Found
+    requires { ⌜ Ready (now t) ⌝ }
+    ensures { λ r. ⌜ r ≡ foundOf (planIn (now (t .entry)) w) ⌝ }
+{
+    if sound::holds_first(t, w) {
+        return plan_of(sound::bucket_at(t, sound::first_place(t, w)), w);
+    }
+    let v = identifier::second(w);
+    if sound::holds_second(t, v) {
+        return plan_of(sound::bucket_at(t, sound::second_place(t, v)), v);
+    }
+    let a = sound::base_place(t);
+    let count = t[2] as usize;
+    base::find(&t[a..], count, v)
+}
+
+// The bucket of a stretch of the table: v, if it is live there, gets this plan.
+pub(crate) fn change_in(part: &mut [u64], v: u64, plan: u64)
+    requires { do ⌜ length (now part) ≡ (← ⟦Bucket::WORDS⟧) ⌝ }
+    ensures { λ _. ⌜ now (part .exit) ≡ wordsOf (change rows v plan (bucketFrom rows solutions (now (part .entry))) .bucket) ⌝ }
+{
+    let b = bucket::load(part);
+    let tried = b.change(v, plan);
+    let after = tried.bucket;
+    bucket::store(part, after);
+}
+
+// The bucket of a stretch of the table without v.
+pub(crate) fn withdraw_in(part: &mut [u64], v: u64)
+    requires { do ⌜ length (now part) ≡ (← ⟦Bucket::WORDS⟧) ⌝ }
+    ensures { λ _. ⌜ now (part .exit) ≡ wordsOf (withdraw rows v (bucketFrom rows solutions (now (part .entry))) .bucket) ⌝ }
+{
+    let b = bucket::load(part);
+    let tried = b.withdraw(v);
+    let after = tried.bucket;
+    bucket::store(part, after);
+}
+
+// w, if it is live, gets this plan, wherever the three tests send it.
+pub(crate) fn change_at(t: &mut [u64], w: u64, plan: u64)
+    requires { ⌜ Ready (now t) ⌝ }
+    ensures { λ _. ⌜ now (t .exit) ≡ numbersOf (changedIn rows solutions mixOf (tableOf (now (t .entry))) w plan) ⌝ }
+{
+    if sound::holds_first(t, w) {
+        let a = sound::first_place(t, w);
+        let e = a + Bucket::WORDS;
+        change_in(&mut t[a..e], w, plan);
+        return;
+    }
+    let v = identifier::second(w);
+    if sound::holds_second(t, v) {
+        let a = sound::second_place(t, v);
+        let e = a + Bucket::WORDS;
+        change_in(&mut t[a..e], v, plan);
+        return;
+    }
+    let a = sound::base_place(t);
+    let count = t[2] as usize;
+    base::update(&mut t[a..], count, v, plan);
+}
+
+// w goes, wherever the three tests send it. The live count stays.
+pub(crate) fn withdraw_at(t: &mut [u64], w: u64)
+    requires { ⌜ Ready (now t) ⌝ }
+    ensures { λ _. ⌜ now (t .exit) ≡ numbersOf (withoutIn (tableOf (now (t .entry))) w) ⌝ }
+{
+    if sound::holds_first(t, w) {
+        let a = sound::first_place(t, w);
+        let e = a + Bucket::WORDS;
+        withdraw_in(&mut t[a..e], w);
+        return;
+    }
+    let v = identifier::second(w);
+    if sound::holds_second(t, v) {
+        let a = sound::second_place(t, v);
+        let e = a + Bucket::WORDS;
+        withdraw_in(&mut t[a..e], v);
+        return;
+    }
+    let a = sound::base_place(t);
+    let count = t[2] as usize;
+    t[2] = base::remove(&mut t[a..], count, v) as u64;
 }

@@ -1,0 +1,34 @@
+-- `table::withdraw_in` meets its contract.
+-- Assumes nothing.
+use mathlib.Core.Path.{ap, _∙_}
+use borrow.Author.Needs.{needs}
+use Rattle.bucket.specs.declared.Bucket.{Bucket}
+use Rattle.bucket.specs.declared.Tried.{Tried}
+use Rattle.bucket.specs.Bucket.{withdraw}
+use Rattle.bucket.specs.Words.{wordsOf}
+use Rattle.concrete.specs.Calls.{rows}
+use Rattle.table.proofs.withdraw_in.Statement.{statement}
+use Rattle.table.proofs.withdraw_in.Tie as tie
+
+load-requires : tie.Need-load-requires
+load-requires c κs = search needs
+
+withdraw-requires : tie.Need-withdraw-requires
+withdraw-requires c κs = search needs
+
+store-requires : tie.Need-store-requires
+store-requires c κs = search needs
+
+same-length : tie.Need-same-length
+same-length c = search needs
+
+returns : tie.Need-returns
+returns c =
+    let stored = c .before .before in
+    let step = stored .before .before .before in
+    let s = step .before .before .before .before in
+    stored .store .ensures ∙ ap (λ (r : Tried). wordsOf (r .bucket)) (step .withdraw .ensures ∙ ap (λ (b : Bucket). withdraw rows (s .args .v) b) (step .before .load .ensures))
+
+pub withdraw-in-spec : {M : Type 1} → statement M
+withdraw-in-spec =
+    tie.close (tie.spec load-requires withdraw-requires store-requires same-length returns)
