@@ -7,8 +7,8 @@ use mathlib.Core.Path.{_≡_, refl, sym, ap, ap₂, _∙_, subst, subst⁻¹}
 use mathlib.Core.Bool.{Bool, true, false, cond}
 use mathlib.Core.List.{List, [], _∷_, _++_, append-nil}
 use mathlib.Core.Option.{Option}
-use lib.ListN.{length, getD, set, take, drop, length-drop, length-append, drop-of-length-le, List·getD-append}
-use lib.Seq.{length-take-le, take-all, drop-at, drop-drop, drop-set-lt, set-getD, getD-take}
+use lib.ListN.{length, getD, set, take, drop, length-drop, length-append, drop-of-length-le}
+use lib.Seq.{length-take-le, take-all, drop-at, drop-drop, drop-set-lt}
 use borrow.Rule.Slice.PartMut.{putMid, post-is}
 use Rattle.lists.specs.Entries.{Entry, find}
 use Rattle.lists.proofs.Tests.{cases, cond-true, cond-false}
@@ -116,11 +116,6 @@ module _ (n r : ℕ) (S : ℕ → ℕ) (xs : List ℕ) (s : Shape n r xs) where
           ap (λ (l : List ℕ). take p xs ++ (ys ++ l)) (drop-of-length-le (drop p xs) {i = length xs - p} (omega (arith, length-drop p xs)))
           ∙ ap₂ (λ (j : ℕ) (l : List ℕ). take j xs ++ l) e (append-nil ys)
 
-      count-stays : (ys : List ℕ) → getD (putMid p (length xs - p) xs ys) 2 0 ≡ k
-      count-stays ys =
-          let l : length (take p xs) ≡ p = length-take-le p xs (omega (arith, s .size)) in
-          List·getD-append (take p xs) _ 0 2 (omega arith) ∙ getD-take p xs 2 0 (omega arith)
-
     -- a stretch that is one bucket's is written
     written : (U : Table) (b : Bucket) (i p : ℕ) (ys : List ℕ) → p ≡ bucketPlace n r i → ys ≡ wordsOf b
         → numbersOf U ≡ take (bucketPlace n r i) numbers ++ (wordsOf b ++ drop (bucketPlace n r i + W) numbers) → putMid p (p + W - p) xs ys ≡ numbersOf U
@@ -180,9 +175,3 @@ module _ (n r : ℕ) (S : ℕ → ℕ) (xs : List ℕ) (s : Shape n r xs) where
               ap₂ (λ (l : List ℕ) (j : ℕ). set l 2 j) (put-tail p e ys) m
               ∙ ap₂ (λ (l : List ℕ) (es : List Entry). set (take (bucketPlace n r (b1 + b2)) xs ++ l) 2 (length es)) (q ∙ ap basePairs own) own
               ∙ sym (ap numbersOf (passing-is ∙ cond-false _ _ out) ∙ based (g v (T .base)))
-
-          -- or the base list alone, where its count stays
-          pub touched-pairs : (ys : List ℕ) → ys ≡ basePairs after → length after ≡ k → putMid p (length xs - p) xs ys ≡ numbersOf touched
-          touched-pairs ys q m =
-              let l : List ℕ = putMid p (length xs - p) xs ys in
-              sym (set-getD l 2 0) ∙ touched-base ys (getD l 2 0) q (count-stays p e ys ∙ sym m)

@@ -8,11 +8,7 @@ use lib.ListN.{length}
 use Rattle.answer.specs.declared.Answer.the-variants.{WrongTable, NotSound}
 use Rattle.identifier.specs.declared.Read.{Read}
 use Rattle.identifier.specs.declared.Read.the-variants.{Word, Refused}
-use Rattle.lists.specs.Entries.{remove}
-use Rattle.hash.specs.Mix.{mixOf}
-use Rattle.bucket.specs.Bucket.{withdraw}
-use Rattle.concrete.specs.Table.{Table, touch}
-use Rattle.concrete.specs.Calls.{rows, solutions, shaped, sound, FlatSound}
+use Rattle.concrete.specs.Calls.{shaped, sound, FlatSound}
 
 -- a table that meets neither cause 4 nor cause 5
 pub record Ready (t : List ℕ) : Type 0 where
@@ -23,7 +19,3 @@ pub record Ready (t : List ℕ) : Type 0 where
 abbrev pub admitted : List ℕ → Read → Read
 admitted t (Refused a) = Refused a
 admitted t (Word w) = cond (shaped t) (cond (sound t) (Word w) (Refused NotSound)) (Refused (WrongTable (length t)))
-
--- the table with w withdrawn wherever the three tests send it; the live count stays
-abbrev pub withoutIn : Table → ℕ → Table
-withoutIn T w = touch rows solutions mixOf T w (λ v b. withdraw rows v b .bucket) (λ v es. remove v es) (T .count)
