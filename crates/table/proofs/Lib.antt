@@ -3,3 +3,4 @@ pub mod Stretch
 pub mod Opened
 pub mod Touched
 pub mod Word
+pub mod Calls

@@ -31,6 +31,12 @@ touch-count n r S T w f g c =
     cases (holds n r S (T .level1) w) (λ t. rw t refl)
     (λ t. rw t (cases (holds n r S (T .level2) (second S w)) (λ u. rw u refl) (λ u. rw u refl)))
 
+pub count-kept : (n r : ℕ) (S : ℕ → ℕ) (T : Table) (w : ℕ) (f : ℕ → Bucket → Bucket) (g : ℕ → List Entry → List Entry) (c : ℕ) → getD (numbersOf (touch n r S T w f g c)) 3 0 ≡ c
+unfolding numbersOf
+count-kept n r S T w f g c =
+    cases (holds n r S (T .level1) w) (λ t. rw t refl)
+    (λ t. rw t (cases (holds n r S (T .level2) (second S w)) (λ u. rw u refl) (λ u. rw u refl)))
+
 module _ (n r : ℕ) (S : ℕ → ℕ) (xs : List ℕ) (s : Shape n r xs) where
   abbrev T : Table
   T = tableFrom n r xs
