@@ -1,13 +1,12 @@
 -- The calls: what each does where its word is live or not, and where a cause before that is met.
 -- Assumes nothing.
-use Prim.Native.Nat.{ℕ, suc, _-_, _^_, _≤_, _<_}
+use Prim.Native.Nat.{ℕ, _-_, _^_, _≤_, _<_}
 use native.Mathlib.Omega.{arith}
-use mathlib.Core.Path.{_≡_, refl, sym, ap, ap₂, _∙_, subst}
+use mathlib.Core.Path.{_≡_, refl, sym, ap, ap₂, _∙_}
 use mathlib.Core.Bool.{true, false}
 use mathlib.Core.List.{List, []}
 use mathlib.Core.Option.{Option, none, some}
 use lib.ListN.{length, getD, set}
-use Rattle.lists.specs.Entries.{find}
 use Rattle.lists.proofs.Tests.{cases, cond-true, cond-false}
 use Rattle.lists.proofs.Entries.{remove-length}
 use Rattle.hash.specs.Mix.{mixOf}
@@ -18,11 +17,11 @@ use Rattle.identifier.specs.declared.Read.{Read}
 use Rattle.identifier.specs.declared.Read.the-variants.{Word, Refused}
 use Rattle.model.specs.Model.{Call, add, change, withdraw, query}
 use Rattle.model.specs.Request.{subject, askOf}
-use Rattle.concrete.specs.Table.{second, holds, changedIn, withdrawnFrom, touch}
+use Rattle.concrete.specs.Table.{changedIn, withdrawnFrom}
 use Rattle.concrete.specs.Layout.{numbersOf}
 use Rattle.concrete.specs.Calls.{rows, solutions, tableOf, planIn, shaped, sound, Outcome, turnedDown, queried, replaced, served, callRead, call}
 use Rattle.concrete.specs.History.{flatState}
-use Rattle.concrete.proofs.Calls.{FlatStands, stands-look, sound-stands-flat, sound-exactly}
+use Rattle.concrete.proofs.Calls.{stands-look, sound-stands-flat, sound-exactly}
 use Rattle.base.specs.declared.Found.{Found}
 use Rattle.base.specs.declared.Found.the-variants.{Plan, Nothing}
 use Rattle.base.specs.Base.{foundOf}

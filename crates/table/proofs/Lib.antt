@@ -2,5 +2,5 @@
 pub mod Stretch
 pub mod Opened
 pub mod Touched
-pub mod Word
+pub mod Places
 pub mod Calls

@@ -1,24 +1,23 @@
 -- One bucket, or the base list, of a table is read or written where it lies: what that does to the numbers. At every number n of rows and r of
 -- solution words and for any mix S.
 -- Assumes nothing.
-use Prim.Native.Nat.{ℕ, suc, _+_, _-_, _*_, _≤_, _<_}
+use Prim.Native.Nat.{ℕ, _+_, _-_, _<_}
 use native.Mathlib.Omega.{arith}
-use mathlib.Core.Path.{_≡_, refl, sym, ap, ap₂, _∙_, subst, subst⁻¹}
-use mathlib.Core.Bool.{Bool, true, false, cond}
-use mathlib.Core.List.{List, [], _∷_, _++_, append-nil}
+use mathlib.Core.Path.{_≡_, refl, sym, ap, ap₂, _∙_, subst⁻¹}
+use mathlib.Core.Bool.{true, false, cond}
+use mathlib.Core.List.{List, _++_, append-nil}
 use mathlib.Core.Option.{Option}
-use lib.ListN.{length, getD, set, take, drop, length-drop, length-append, drop-of-length-le}
-use lib.Seq.{length-take-le, take-all, drop-at, drop-drop, drop-set-lt}
+use lib.ListN.{length, getD, set, take, drop, length-drop, drop-of-length-le}
+use lib.Seq.{length-take-le, take-all, drop-at, drop-set-lt}
 use borrow.Rule.Slice.PartMut.{putMid, post-is}
 use Rattle.lists.specs.Entries.{Entry, find}
 use Rattle.lists.proofs.Tests.{cases, cond-true, cond-false}
 use Rattle.bucket.specs.declared.Bucket.{Bucket}
 use Rattle.bucket.specs.Words.{bucketWords, wordsOf, bucketFrom}
 use Rattle.settle.specs.Settle.{planOf}
-use Rattle.model.specs.Model.{baseLimit}
 use Rattle.concrete.specs.Table.{Table, second, index, put, bucketOf, holds, planIn, touch}
-use Rattle.concrete.specs.Layout.{header, baseNumbers, basePairs, pairsFrom, numbersOf, tableFrom, bucketPlace}
-use Rattle.concrete.proofs.Numbers.{ShapedTable, Laid, from-part, length-pairsFrom, write-first, write-second, write-base, write-count, forth}
+use Rattle.concrete.specs.Layout.{basePairs, pairsFrom, numbersOf, tableFrom, bucketPlace}
+use Rattle.concrete.proofs.Numbers.{ShapedTable, Laid, from-part, write-first, write-second, write-base, forth}
 use Rattle.sound.proofs.Shape.{Shape, length-first, length-second, first-lt, second-lt, first-bucket, second-bucket}
 use Rattle.base.specs.Base.{Pairs}
 use Rattle.table.proofs.Stretch.{stretch}

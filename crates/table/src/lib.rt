@@ -13,8 +13,7 @@ ghost use mathlib.Core.Path.{_≡_};
 ghost use mathlib.Core.Bool.{true};
 ghost use mathlib.Core.List.{[], _∷_};
 ghost use Prim.Native.Nat.{_+_, _*_, _<_, _≤_};
-ghost use lib.ListN.{length, getD, drop, replicate};
-ghost use Rattle.hash.specs.Mix.{mixOf};
+ghost use lib.ListN.{length, drop, replicate};
 ghost use Rattle.bucket.specs.Bucket.{emptyBucket};
 ghost use Rattle.bucket.specs.Words.{bucketFrom, wordsOf};
 ghost use Rattle.settle.specs.Settle.{planOf};
@@ -185,7 +184,7 @@ pub(crate) fn touch(t: &mut [u64], w: u64, edit: Edit)
 // A query for the word w.
 pub fn query_word(t: &[u64], w: u64) -> Answer
     requires { ⌜ Ready (now t) ⌝ }
-    ensures { λ r. ⌜ r ≡ served (now (t .entry)) w (query []) .answer ⌝ }
+    ensures { λ r. ⌜ (r ≡ served (now (t .entry)) w (query []) .answer) × (now (t .exit) ≡ served (now (t .entry)) w (query []) .table) ⌝ }
 {
     let found = plan_in(t, w);
     match found {
@@ -246,7 +245,7 @@ pub(crate) fn admit(t: &[u64], id: &[u8]) -> Read
 
 // Query: accepted, the plan.
 pub fn query(t: &[u64], id: &[u8]) -> Answer
-    ensures { λ r. ⌜ r ≡ call (now (t .entry)) (query (now (id .entry))) .answer ⌝ }
+    ensures { λ r. ⌜ (r ≡ call (now (t .entry)) (query (now (id .entry))) .answer) × (now (t .exit) ≡ call (now (t .entry)) (query (now (id .entry))) .table) ⌝ }
 {
     let admitted = admit(t, id);
     match admitted {

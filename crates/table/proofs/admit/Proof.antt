@@ -2,7 +2,6 @@
 -- Assumes nothing.
 use mathlib.Core.Path.{sym, ap, _∙_}
 use borrow.Author.Needs.{needs}
-use Rattle.identifier.specs.declared.Read.{Read}
 use Rattle.table.specs.Ready.{admitted}
 use Rattle.table.proofs.Calls.{admits, not-sound, not-shaped}
 use Rattle.table.proofs.admit.Statement.{statement}

@@ -1,13 +1,10 @@
 -- `table::edit_base` meets its contract.
 -- Assumes nothing.
-use mathlib.Core.Path.{sym, ap, _∙_}
-use lib.ListN.{length}
+use mathlib.Core.Path.{sym, _∙_}
 use borrow.Author.Needs.{needs}
 use Rattle.lists.proofs.Entries.{update-length}
-use Rattle.concrete.specs.Layout.{pairsFrom, basePairs}
+use Rattle.concrete.specs.Layout.{pairsFrom}
 use Rattle.concrete.proofs.Numbers.{length-pairsFrom}
-use Rattle.table.specs.declared.Edit.{Edit}
-use Rattle.table.specs.Edit.{onBase}
 use Rattle.table.proofs.edit_base.Statement.{statement}
 use Rattle.table.proofs.edit_base.Tie as tie
 

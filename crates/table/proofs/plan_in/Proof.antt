@@ -8,7 +8,7 @@ use Rattle.bucket.specs.declared.Bucket.{Bucket}
 use Rattle.settle.specs.Settle.{planOf}
 use Rattle.base.specs.Base.{foundOf}
 use Rattle.concrete.specs.Calls.{rows, solutions}
-use Rattle.table.proofs.Word.{shape-of, laid-of, shaped-of, long, first-end, second-end, base-end}
+use Rattle.table.proofs.Places.{shape-of, laid-of, shaped-of, long, first-end, second-end, base-end}
 use Rattle.table.proofs.Touched.{plan-first, plan-second, plan-base, base-pairs}
 use Rattle.table.proofs.plan_in.Statement.{statement}
 use Rattle.table.proofs.plan_in.Tie as tie

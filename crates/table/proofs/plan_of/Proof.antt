@@ -4,7 +4,7 @@ use mathlib.Core.Path.{sym, ap, _∙_}
 use borrow.Author.Needs.{needs}
 use Rattle.base.specs.Base.{foundOf}
 use Rattle.base.specs.declared.Found.the-variants.{Plan}
-use Rattle.table.proofs.Word.{plan-live, plan-gone}
+use Rattle.table.proofs.Places.{plan-live, plan-gone}
 use Rattle.table.proofs.plan_of.Statement.{statement}
 use Rattle.table.proofs.plan_of.Tie as tie
 

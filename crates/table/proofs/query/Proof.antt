@@ -1,5 +1,6 @@
 -- `table::query` meets its contract.
 -- Assumes nothing.
+use mathlib.Core.Path.{refl}
 use borrow.Author.Needs.{needs}
 use Rattle.identifier.specs.Identifier.{readOf}
 use Rattle.model.specs.Model.{query}
@@ -35,7 +36,7 @@ returns-2 c =
     let m = c .before in
     let d = m .before .before in
     let a = d .before .before .before .args in
-    rw (call-refused (a .t .now) (query (a .id .now)) (d .admit .result) (d .admit .ensures) (m .admitted2 .given .0 .0) (m .admitted2 .given .1))
+    rw (call-refused (a .t .now) (query (a .id .now)) (d .admit .result) (d .admit .ensures) (m .admitted2 .given .0 .0) (m .admitted2 .given .1)) (refl, refl)
 
 pub query-spec : {M : Type 1} → statement M
 query-spec =

@@ -1,5 +1,6 @@
 -- `table::query_word` meets its contract.
 -- Assumes nothing.
+use mathlib.Core.Path.{refl}
 use mathlib.Core.List.{[]}
 use borrow.Author.Needs.{needs}
 use Rattle.table.proofs.Calls.{query-live, query-gone}
@@ -20,13 +21,13 @@ returns c =
     let m = c .before in
     let r = m .before .before in
     let a = r .before .before .args in
-    rw (query-live (a .t .now) (a .w) [] (r .plan-in .result) (r .plan-in .ensures) (m .found .given .0 .0) (m .found .given .1))
+    rw (query-live (a .t .now) (a .w) [] (r .plan-in .result) (r .plan-in .ensures) (m .found .given .0 .0) (m .found .given .1)) (refl, refl)
 
 returns-2 : tie.Need-returns-2
 returns-2 c =
     let r = c .before .before in
     let a = r .before .before .args in
-    rw (query-gone (a .t .now) (a .w) [] (r .plan-in .result) (r .plan-in .ensures) (c .enum-told .given .1))
+    rw (query-gone (a .t .now) (a .w) [] (r .plan-in .result) (r .plan-in .ensures) (c .enum-told .given .1)) (refl, refl)
 
 pub query-word-spec : {M : Type 1} → statement M
 query-word-spec =

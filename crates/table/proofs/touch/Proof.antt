@@ -9,7 +9,7 @@ use borrow.Rule.Slice.PartMut.{same-len-mid}
 use Rattle.hash.specs.Mix.{mixOf}
 use Rattle.concrete.specs.Calls.{rows, solutions}
 use Rattle.table.specs.Edit.{onBucket, onBase}
-use Rattle.table.proofs.Word.{shape-of, laid-of, shaped-of, long, first-end, second-end, base-end}
+use Rattle.table.proofs.Places.{shape-of, laid-of, shaped-of, long, first-end, second-end, base-end}
 use Rattle.table.proofs.Touched.{touched-first, touched-second, touched-base, base-pairs}
 use Rattle.table.proofs.touch.Statement.{statement}
 use Rattle.table.proofs.touch.Tie as tie

@@ -4,7 +4,7 @@ use mathlib.Core.Path.{refl}
 use mathlib.Core.List.{[]}
 use native.Mathlib.Omega.{arith}
 use borrow.Author.Needs.{needs}
-use Rattle.table.proofs.Word.{long}
+use Rattle.table.proofs.Places.{long}
 use Rattle.table.proofs.Calls.{withdraw-live, withdraw-gone, counted}
 use Rattle.table.proofs.withdraw_word.Statement.{statement}
 use Rattle.table.proofs.withdraw_word.Tie as tie
