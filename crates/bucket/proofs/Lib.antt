@@ -1,2 +1,5 @@
 -- The laws of the crate.
 pub mod Steps
+pub mod Laws
+pub mod Words
+pub mod Parts

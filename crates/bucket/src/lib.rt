@@ -3,7 +3,12 @@
 // at every number of rows and of solution words; proofs/Steps.antt has what the steps keep (K and its inverse, live vectors, plans).
 // Cites gf2 (vectors) and codec (parts of a slice). settle and table build on it.
 ghost use mathlib.Core.Path.{_≡_};
-ghost use Rattle.bucket.specs.Bucket.{emptyBucket};
+ghost use Prim.Native.Nat.{_<_, _≤_, _^_};
+ghost use lib.Count.{trailingZeros};
+ghost use lib.ListN.{length};
+ghost use Rattle.gf2.specs.Vectors.{dot, product, flipIf, colStep, solStep, exchange, units};
+ghost use Rattle.bucket.specs.Bucket.{emptyBucket, rowOf, lookup, add, change, withdraw};
+ghost use Rattle.bucket.specs.Words.{bucketFrom, wordsOf};
 
 // The bucket by value. The columns travel as one array.
 pub struct Bucket {
@@ -17,6 +22,110 @@ pub struct Bucket {
 pub struct Tried {
     pub done: bool,
     pub bucket: Bucket,
+}
+
+// The parity of ones in (k AND c).
+pub(crate) fn dot(k: u64, c: u64) -> u64
+    ensures { λ r. ⌜ r ≡ dot k c ⌝ }
+{
+    (u64::count_ones(k & c) % 2) as u64
+}
+
+// Bit i is the parity of ones in (k AND word i), for at most 64 words.
+pub(crate) fn product_in(words: &[u64], k: u64) -> u64
+    requires { ⌜ length (now words) ≤ 64 ⌝ }
+    ensures { λ r. ⌜ r ≡ product (now (words .entry)) k ⌝ }
+{
+    let mut p: u64 = 0;
+    let mut i = words.len();
+    while 0 < i {
+        i -= 1;
+        p = dot(k, words[i]) + 2 * p;
+    }
+    p
+}
+
+// Bit i is the parity of ones in (k AND column i).
+pub(crate) fn product(cols: [u64; Bucket::ROWS], k: u64) -> u64
+    ensures { λ r. ⌜ r ≡ product cols k ⌝ }
+{
+    product_in(&cols, k)
+}
+
+// a with u XORed into it where d is set.
+pub(crate) fn flip_if(d: u64, u: u64, a: u64) -> u64
+    ensures { λ r. ⌜ r ≡ flipIf d u a ⌝ }
+{
+    if d == 0 { a } else { a ^ u }
+}
+
+// u is XORed into each column a for which (v AND a) has odd parity.
+pub(crate) fn col_step(u: u64, v: u64, cols: [u64; Bucket::ROWS]) -> [u64; Bucket::ROWS]
+    ensures { λ r. ⌜ r ≡ colStep u v cols ⌝ }
+{
+    let mut out = cols;
+    let mut i: usize = 0;
+    while i < Bucket::ROWS {
+        let a = out[i];
+        out[i] = flip_if(dot(v, a), u, a);
+        i += 1;
+    }
+    out
+}
+
+// u is XORed into each solution word whose bit of d is set.
+pub(crate) fn sol_step(u: u64, d: u64, sols: [u64; Bucket::SOLUTIONS]) -> [u64; Bucket::SOLUTIONS]
+    ensures { λ r. ⌜ r ≡ solStep u d sols ⌝ }
+{
+    let mut out = sols;
+    let mut left = d;
+    let mut i: usize = 0;
+    while i < Bucket::SOLUTIONS {
+        out[i] = flip_if(left % 2, u, out[i]);
+        left = left / 2;
+        i += 1;
+    }
+    out
+}
+
+// Columns i and j change places.
+pub(crate) fn exchanged(i: usize, j: usize, cols: [u64; Bucket::ROWS]) -> [u64; Bucket::ROWS]
+    requires { do ⌜ (i < (← ⟦Bucket::ROWS⟧)) × (j < (← ⟦Bucket::ROWS⟧)) ⌝ }
+    ensures { λ r. ⌜ r ≡ exchange i j cols ⌝ }
+{
+    let mut out = cols;
+    let a = out[i];
+    out[i] = out[j];
+    out[j] = a;
+    out
+}
+
+// The unit vector of row i.
+pub(crate) fn power(i: usize) -> u64
+    requires { do ⌜ i < (← ⟦Bucket::ROWS⟧) ⌝ }
+    ensures { λ r. ⌜ r ≡ 2 ^ i ⌝ }
+{
+    1 << i
+}
+
+// The lowest set bit of x; `ROWS` where x is 0.
+pub(crate) fn lowest(x: u64) -> usize
+    ensures { λ r. do ⌜ r ≡ trailingZeros (← ⟦Bucket::ROWS⟧ .entry) x ⌝ }
+{
+    u64::trailing_zeros(x) as usize
+}
+
+// The unit vectors.
+pub(crate) fn unit_cols() -> [u64; Bucket::ROWS]
+    ensures { λ r. do ⌜ r ≡ units (← ⟦Bucket::ROWS⟧ .entry) ⌝ }
+{
+    let mut out = [0u64; Bucket::ROWS];
+    let mut i: usize = 0;
+    while i < Bucket::ROWS {
+        out[i] = power(i);
+        i += 1;
+    }
+    out
 }
 
 impl Bucket {
@@ -37,4 +146,182 @@ impl Bucket {
     pub const BOUND_AT: usize = Self::SOLUTIONS_AT + Self::SOLUTIONS;
 
     pub const WORDS: usize = Self::BOUND_AT + 1;
+
+    pub fn empty() -> Self
+        ensures { λ r. do ⌜ r ≡ emptyBucket (← ⟦Bucket::ROWS⟧ .entry) (← ⟦Bucket::SOLUTIONS⟧ .entry) ⌝ }
+    {
+        let cols = unit_cols();
+        Self {
+            cols,
+            mark: 0,
+            sols: [0; Self::SOLUTIONS],
+            bound: Self::LARGEST_BOUND,
+        }
+    }
+
+    // The plan that the solutions give for k.
+    pub fn lookup(self, k: u64) -> u64
+        ensures { λ r. ⌜ r ≡ lookup self k ⌝ }
+    {
+        let sols = self.sols;
+        product_in(&sols, k)
+    }
+
+    // The row of a live k; `ROWS` where k is not live.
+    pub fn row_of(self, k: u64) -> usize
+        ensures { λ r. do ⌜ r ≡ rowOf (← ⟦Bucket::ROWS⟧ .entry) k self ⌝ }
+    {
+        let cols = self.cols;
+        let p = product(cols, k);
+        let i = lowest(p);
+        if i < Self::ROWS {
+            if p == power(i) {
+                if (self.mark >> i) % 2 == 1 {
+                    return i;
+                }
+            }
+        }
+        Self::ROWS
+    }
+
+    // k with its plan in the lowest free row whose product bit is 1; not done where there is none: k depends on the live vectors.
+    pub fn add(self, k: u64, plan: u64) -> Tried
+        ensures { λ r. do ⌜ r ≡ add (← ⟦Bucket::ROWS⟧ .entry) k plan self ⌝ }
+    {
+        let cols = self.cols;
+        let mark = self.mark;
+        let p = product(cols, k);
+        let i = lowest(p ^ (p & mark));
+        if i < Self::ROWS {
+            let unit = power(i);
+            let next = col_step(cols[i], k ^ unit, cols);
+            let sols = self.sols;
+            let solved = sol_step(next[i], self.lookup(k) ^ plan, sols);
+            return Tried {
+                done: true,
+                bucket: Self {
+                    cols: next,
+                    mark: mark | unit,
+                    sols: solved,
+                    bound: self.bound,
+                },
+            };
+        }
+        Tried {
+            done: false,
+            bucket: self,
+        }
+    }
+
+    // k with another plan; not done where k is not live.
+    pub fn change(self, k: u64, plan: u64) -> Tried
+        ensures { λ r. do ⌜ r ≡ change (← ⟦Bucket::ROWS⟧ .entry) k plan self ⌝ }
+    {
+        let i = self.row_of(k);
+        if i < Self::ROWS {
+            let cols = self.cols;
+            let sols = self.sols;
+            let solved = sol_step(cols[i], self.lookup(k) ^ plan, sols);
+            return Tried {
+                done: true,
+                bucket: Self {
+                    cols,
+                    mark: self.mark,
+                    sols: solved,
+                    bound: self.bound,
+                },
+            };
+        }
+        Tried {
+            done: false,
+            bucket: self,
+        }
+    }
+
+    // The bucket without k: the row freed is the lowest set bit of k's column; not done where k is not live.
+    pub fn withdraw(self, k: u64) -> Tried
+        ensures { λ r. do ⌜ r ≡ withdraw (← ⟦Bucket::ROWS⟧ .entry) k self ⌝ }
+    {
+        let i = self.row_of(k);
+        if i < Self::ROWS {
+            let cols = self.cols;
+            let mark = self.mark;
+            let u = cols[i];
+            let j = lowest(u);
+            let unit = power(j);
+            let next = exchanged(i, j, col_step(u, k ^ unit, cols));
+            let sols = self.sols;
+            return Tried {
+                done: true,
+                bucket: Self {
+                    cols: next,
+                    mark: mark ^ (mark & unit),
+                    sols,
+                    bound: self.bound,
+                },
+            };
+        }
+        Tried {
+            done: false,
+            bucket: self,
+        }
+    }
+}
+
+// The words of `from` into `to`.
+pub(crate) fn put(to: &mut [u64], from: &[u64])
+    requires { ⌜ length (now to) ≡ length (now from) ⌝ }
+    ensures { λ _. ⌜ now (to .exit) ≡ now (from .entry) ⌝ }
+{
+    let mut i: usize = 0;
+    while i < from.len() {
+        to[i] = from[i];
+        i += 1;
+    }
+}
+
+pub(crate) fn cols_in(part: &[u64]) -> [u64; Bucket::ROWS]
+    requires { do ⌜ length (now part) ≡ (← ⟦Bucket::ROWS⟧) ⌝ }
+    ensures { λ r. ⌜ r ≡ now (part .entry) ⌝ }
+{
+    let mut out = [0u64; Bucket::ROWS];
+    put(&mut out, part);
+    out
+}
+
+pub(crate) fn sols_in(part: &[u64]) -> [u64; Bucket::SOLUTIONS]
+    requires { do ⌜ length (now part) ≡ (← ⟦Bucket::SOLUTIONS⟧) ⌝ }
+    ensures { λ r. ⌜ r ≡ now (part .entry) ⌝ }
+{
+    let mut out = [0u64; Bucket::SOLUTIONS];
+    put(&mut out, part);
+    out
+}
+
+// The bucket that the words of a part of a table stand for.
+pub fn load(part: &[u64]) -> Bucket
+    requires { do ⌜ length (now part) ≡ (← ⟦Bucket::WORDS⟧) ⌝ }
+    ensures { λ r. do ⌜ r ≡ bucketFrom (← ⟦Bucket::ROWS⟧ .entry) (← ⟦Bucket::SOLUTIONS⟧ .entry) (now (part .entry)) ⌝ }
+{
+    let cols = cols_in(&part[0..Bucket::ROWS]);
+    let sols = sols_in(&part[Bucket::SOLUTIONS_AT..Bucket::BOUND_AT]);
+    Bucket {
+        cols,
+        mark: part[Bucket::MARK_AT],
+        sols,
+        bound: part[Bucket::BOUND_AT],
+    }
+}
+
+// The words of a bucket into a part of a table.
+pub fn store(part: &mut [u64], b: Bucket)
+    requires { do ⌜ length (now part) ≡ (← ⟦Bucket::WORDS⟧) ⌝ }
+    ensures { λ _. ⌜ now (part .exit) ≡ wordsOf b ⌝ }
+{
+    let cols = b.cols;
+    let sols = b.sols;
+    put(&mut part[0..Bucket::ROWS], &cols);
+    part[Bucket::MARK_AT] = b.mark;
+    put(&mut part[Bucket::SOLUTIONS_AT..Bucket::BOUND_AT], &sols);
+    part[Bucket::BOUND_AT] = b.bound;
 }

@@ -1,0 +1,77 @@
+-- `bucket::col_step` meets its contract. The loop rewrites the columns from the front: those before i are done, the others are to come.
+-- Assumes nothing.
+use mathlib.Core.Path.{_≡_, refl, sym, _∙_}
+use mathlib.Core.List.{_++_}
+use Prim.Native.Nat.{_-_, _≤_, _<_}
+use native.Mathlib.Omega.{arith}
+use borrow.Author.Needs.{needs}
+use lib.ListN.{length, take, drop, length-set}
+use Rattle.gf2.specs.Vectors.{colStep}
+use Rattle.gf2.proofs.Loops.{front-end, colStep-at}
+use Rattle.bucket.proofs.col_step.Statement.{statement}
+use Rattle.bucket.proofs.col_step.Tie as tie
+
+abbrev Inv-loop : tie.InvT-loop
+Inv-loop u v out₀ i₀ out i = (i ≤ 64) × (length out ≡ 64) × (take i out ++ colStep u v (drop i out) ≡ colStep u v out₀)
+
+abbrev μ-loop : tie.MeasureT-loop
+μ-loop u v out₀ i₀ out i = 64 - i
+
+loop-holds : tie.Need-loop-holds Inv-loop μ-loop
+loop-holds c = search needs
+
+mul-a : tie.Need-mul-a Inv-loop μ-loop
+mul-a c = search needs
+
+array-read-a : tie.Need-array-read-a Inv-loop μ-loop
+array-read-a c = search needs
+
+dot-requires : tie.Need-dot-requires Inv-loop μ-loop
+dot-requires c κs = search needs
+
+flip-if-requires : tie.Need-flip-if-requires Inv-loop μ-loop
+flip-if-requires c κs = search needs
+
+mul-out : tie.Need-mul-out Inv-loop μ-loop
+mul-out c = search needs
+
+array-write-out : tie.Need-array-write-out Inv-loop μ-loop
+array-write-out c = search needs
+
+add-i : tie.Need-add-i Inv-loop μ-loop
+add-i c = search needs
+
+loop-less : tie.Need-loop-less Inv-loop μ-loop
+loop-less c = search needs
+
+loop-again : tie.Need-loop-again Inv-loop μ-loop
+loop-again c =
+    let b = c .before .before .before in
+    let h : b .loop .i < length (b .loop .out) = omega arith in (
+      omega arith,
+      simp length-set (b .loop .inv .1),
+      colStep-at _ _ _ _ _ h (cc) ∙ b .loop .inv .2,
+    )
+
+returns : tie.Need-returns Inv-loop μ-loop
+returns c =
+    let b = c .before in
+    sym (front-end (colStep (b .before .args .u) (b .before .args .v)) (b .loop .out) (b .loop .i) refl (omega arith)) ∙ b .loop .inv .2
+
+pub col-step-spec : {M : Type 1} → statement M
+col-step-spec =
+    tie.close
+    (tie.spec
+    Inv-loop
+    μ-loop
+    loop-holds
+    mul-a
+    array-read-a
+    dot-requires
+    flip-if-requires
+    mul-out
+    array-write-out
+    add-i
+    loop-less
+    loop-again
+    returns)

@@ -1,0 +1,24 @@
+-- A bucket as words, at every number n of rows and r of solution words; document 01, "Layout": columns, mark, solutions, bound.
+-- Assumes nothing.
+use mathlib.Core.List.{List, [], _∷_, _++_}
+use mathlib.Core.Path.{_≡_}
+use Prim.Native.Nat.{ℕ, _+_}
+use lib.ListN.{length, getD, take, drop}
+use Rattle.bucket.specs.declared.Bucket.{Bucket}
+
+-- how many words a bucket has
+abbrev pub bucketWords : ℕ → ℕ → ℕ
+bucketWords n r = n + 1 + r + 1
+
+-- the words of a bucket
+unfoldable pub wordsOf : Bucket → List ℕ
+wordsOf b = b .cols ++ b .mark ∷ b .sols ++ b .bound ∷ []
+
+-- the bucket that the first words of a list stand for
+unfoldable pub bucketFrom : ℕ → ℕ → List ℕ → Bucket
+bucketFrom n r xs = record { cols = take n xs; mark = getD xs n 0; sols = take r (drop (n + 1) xs); bound = getD xs (n + 1 + r) 0 }
+
+-- a bucket of n rows and r solution words
+pub record Shaped (n r : ℕ) (b : Bucket) : Type 0 where
+  pub cols : length (b .cols) ≡ n
+  pub sols : length (b .sols) ≡ r
