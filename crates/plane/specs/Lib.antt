@@ -1,4 +1,4 @@
 -- The definitions that the contracts of the crate cite.
 pub mod Record
 pub mod Plane
-pub mod Calls
+pub mod Lookup

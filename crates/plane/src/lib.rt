@@ -1,3 +1,274 @@
-// The plane: the file of XOR words that every post reads. The writer makes it of a table; the lookup checks it whole and answers an
-// identifier's plan. specs/Record.antt has the records by kind, specs/Plane.antt the plane of a table and what a plane file means,
-// specs/Calls.antt what the two calls answer. Cites codec, identifier, answer, bucket, concrete and table; limgoshi exports it.
+// The plane: the small file that every post reads to find the plan of an identifier. Reader and lookup for any bytes.
+// Definitions: specs/Record.antt and specs/Plane.antt (the bytes, which planes are wrong, what the bytes say), specs/Lookup.antt (the
+// call), in document 01's words. Laws: proofs/.
+// Cites codec, identifier, bucket and concrete (the table). The library for C cites it.
+use answer::Answer;
+use bucket::Bucket;
+use identifier::Identifier;
+use identifier::Read;
+
+ghost use mathlib.Core.Path.{_≡_};
+ghost use Prim.Native.Nat.{suc, _+_, _*_, _≤_};
+ghost use lib.ListN.{length, drop};
+ghost use Rattle.lists.specs.Entries.{find};
+ghost use Rattle.gf2.specs.Vectors.{product};
+ghost use Rattle.concrete.specs.Test.{inRange};
+ghost use Rattle.plane.specs.declared.Wrong.the-variants.{Nowhere};
+ghost use Rattle.plane.specs.Record.{readAll, bucketFrom, entryFrom};
+ghost use Rattle.plane.specs.Plane.{whole, headerFits, bucketFits, bucketsWrong, entriesWrong, endFits, endWrong, recordsWrong, wrongAt, planeFrom};
+ghost use Rattle.plane.specs.Lookup.{orStranger, planFrom, looked, lookupCall};
+
+// Where a plane is wrong first.
+pub enum Wrong {
+    Nowhere,
+    // The offset.
+    At(usize),
+}
+
+// The records of a plane: the kind byte of each, and how many bytes follow it.
+pub struct Record {}
+
+impl Record {
+    pub const HEADER: u8 = 1;
+
+    pub const HEADER_BODY: usize = 4;
+
+    pub const BUCKET: u8 = 2;
+
+    pub const BUCKET_BODY: usize = 1 + 8 * Bucket::SOLUTIONS;
+
+    pub const ENTRY: u8 = 3;
+
+    pub const ENTRY_BODY: usize = 9;
+
+    pub const END: u8 = 4;
+
+    pub const END_BODY: usize = 4;
+
+    // The format of the planes.
+    pub const FORMAT: u8 = 1;
+
+    // Where the buckets start.
+    pub const BUCKETS_AT: usize = 1 + Record::HEADER_BODY;
+
+    // With the kind byte.
+    pub const BUCKET_LEN: usize = 1 + Record::BUCKET_BODY;
+
+    pub const ENTRY_LEN: usize = 1 + Record::ENTRY_BODY;
+
+    pub const END_LEN: usize = 1 + Record::END_BODY;
+}
+
+const MOST_BUCKETS_1: u8 = 48;
+
+const MOST_BUCKETS_2: u8 = 32;
+
+const BASE_LIMIT: u8 = 64;
+
+const LARGEST_BOUND: u8 = 8;
+
+// A record of this kind, not cut, stands in front.
+pub(crate) fn whole(p: &[u8], kind: u8, body: usize) -> bool
+    ensures { λ r. ⌜ r ≡ whole kind body (now (p .entry)) ⌝ }
+{
+    if p.len() <= body {
+        return false;
+    }
+    p[0] == kind
+}
+
+pub(crate) fn in_range(buckets1: u8, buckets2: u8) -> bool
+    ensures { λ r. ⌜ r ≡ inRange buckets1 buckets2 ⌝ }
+{
+    if buckets1 < 1 {
+        return false;
+    }
+    if MOST_BUCKETS_1 < buckets1 {
+        return false;
+    }
+    if buckets2 < 1 {
+        return false;
+    }
+    buckets2 <= MOST_BUCKETS_2
+}
+
+pub(crate) fn header_fits(p: &[u8]) -> bool
+    ensures { λ r. ⌜ r ≡ headerFits (now (p .entry)) ⌝ }
+{
+    if !whole(p, Record::HEADER, Record::HEADER_BODY) {
+        return false;
+    }
+    if p[1] != Record::FORMAT {
+        return false;
+    }
+    if !in_range(p[2], p[3]) {
+        return false;
+    }
+    p[4] <= BASE_LIMIT
+}
+
+pub(crate) fn bucket_fits(p: &[u8]) -> bool
+    ensures { λ r. do ⌜ r ≡ bucketFits (← ⟦Bucket::SOLUTIONS⟧ .entry) (now (p .entry)) ⌝ }
+{
+    if !whole(p, Record::BUCKET, Record::BUCKET_BODY) {
+        return false;
+    }
+    p[1] <= LARGEST_BOUND
+}
+
+// m buckets from the offset first on.
+pub(crate) fn buckets_wrong(plane: &[u8], first: usize, m: usize) -> Wrong
+    requires { ⌜ first ≤ length (now plane) ⌝ }
+    ensures { λ r. do ⌜ r ≡ bucketsWrong (← ⟦Bucket::SOLUTIONS⟧ .entry) m first (drop first (now (plane .entry))) ⌝ }
+{
+    let mut at = first;
+    let mut left = m;
+    while 0 < left {
+        if !bucket_fits(&plane[at..]) {
+            return Wrong::At(at);
+        }
+        at += Record::BUCKET_LEN;
+        left -= 1;
+    }
+    Wrong::Nowhere
+}
+
+// The word of the base entry in front.
+pub(crate) fn entry_word(p: &[u8]) -> u64
+    requires { ⌜ 9 ≤ length (now p) ⌝ }
+    ensures { λ r. ⌜ r ≡ entryFrom (now (p .entry)) .word ⌝ }
+{
+    codec::word(&p[1..])
+}
+
+// k base entries from the offset first on, after one of the word before.
+pub(crate) fn entries_after(plane: &[u8], first: usize, k: usize, before: u64) -> Wrong
+    requires { ⌜ first ≤ length (now plane) ⌝ }
+    ensures { λ r. ⌜ r ≡ entriesWrong (suc before) k first (drop first (now (plane .entry))) ⌝ }
+{
+    let mut at = first;
+    let mut left = k;
+    let mut last = before;
+    while 0 < left {
+        let p = &plane[at..];
+        if !whole(p, Record::ENTRY, Record::ENTRY_BODY) {
+            return Wrong::At(at);
+        }
+        let word = entry_word(p);
+        if word <= last {
+            return Wrong::At(at);
+        }
+        last = word;
+        at += Record::ENTRY_LEN;
+        left -= 1;
+    }
+    Wrong::Nowhere
+}
+
+// k base entries from the offset first on.
+pub(crate) fn entries_wrong(plane: &[u8], first: usize, k: usize) -> Wrong
+    requires { ⌜ first ≤ length (now plane) ⌝ }
+    ensures { λ r. ⌜ r ≡ entriesWrong 0 k first (drop first (now (plane .entry))) ⌝ }
+{
+    if k == 0 {
+        return Wrong::Nowhere;
+    }
+    let p = &plane[first..];
+    if !whole(p, Record::ENTRY, Record::ENTRY_BODY) {
+        return Wrong::At(first);
+    }
+    entries_after(plane, first + Record::ENTRY_LEN, k - 1, entry_word(p))
+}
+
+pub(crate) fn end_fits(p: &[u8]) -> bool
+    ensures { λ r. ⌜ r ≡ endFits (now (p .entry)) ⌝ }
+{
+    if !whole(p, Record::END, Record::END_BODY) {
+        return false;
+    }
+    codec::same(&p[1..Record::END_LEN], b"END\n")
+}
+
+// The end at the offset at, and nothing after it.
+pub(crate) fn end_wrong(plane: &[u8], at: usize) -> Wrong
+    requires { ⌜ at ≤ length (now plane) ⌝ }
+    ensures { λ r. ⌜ r ≡ endWrong at (drop at (now (plane .entry))) ⌝ }
+{
+    let p = &plane[at..];
+    if !end_fits(p) {
+        return Wrong::At(at);
+    }
+    if p.len() != Record::END_LEN {
+        return Wrong::At(at + Record::END_LEN);
+    }
+    Wrong::Nowhere
+}
+
+// The records after the header.
+pub(crate) fn records_wrong(plane: &[u8], buckets: usize, entries: usize) -> Wrong
+    requires { ⌜ (5 ≤ length (now plane)) × (buckets ≤ 80) × (entries ≤ 64) ⌝ }
+    ensures { λ r. do ⌜ r ≡ recordsWrong (← ⟦Bucket::SOLUTIONS⟧ .entry) buckets entries (now (plane .entry)) ⌝ }
+{
+    let entries_at = Record::BUCKETS_AT + buckets * Record::BUCKET_LEN;
+    let end_at = entries_at + entries * Record::ENTRY_LEN;
+    let b = buckets_wrong(plane, Record::BUCKETS_AT, buckets);
+    match b {
+        Wrong::At(at) => Wrong::At(at),
+        Wrong::Nowhere => {
+            let e = entries_wrong(plane, entries_at, entries);
+            match e {
+                Wrong::At(at) => Wrong::At(at),
+                Wrong::Nowhere => end_wrong(plane, end_at),
+            }
+        }
+    }
+}
+
+fn size(b: u8) -> usize
+    ensures { λ r. ⌜ r ≡ b ⌝ }
+{
+    b as usize
+}
+
+// The whole plane, in one pass.
+pub(crate) fn wrong_at(plane: &[u8]) -> Wrong
+    ensures { λ r. do ⌜ r ≡ wrongAt (← ⟦Bucket::SOLUTIONS⟧ .entry) (now (plane .entry)) ⌝ }
+{
+    if !header_fits(plane) {
+        return Wrong::At(0);
+    }
+    records_wrong(plane, size(plane[2]) + size(plane[3]), size(plane[4]))
+}
+
+// The plan that the bucket in front gives for the vector k.
+pub(crate) fn bucket_plan(p: &[u8], k: u64) -> u64
+    requires { do ⌜ 2 + 8 * (← ⟦Bucket::SOLUTIONS⟧) ≤ length (now p) ⌝ }
+    ensures { λ r. do ⌜ r ≡ product (bucketFrom (← ⟦Bucket::SOLUTIONS⟧ .entry) (now (p .entry)) .sols) k ⌝ }
+{
+    let mut plan: u64 = 0;
+    let mut i = Bucket::SOLUTIONS;
+    while 0 < i {
+        i -= 1;
+        let at = 2 + 8 * i;
+        plan = bucket::dot(k, codec::word(&p[at..])) + 2 * plan;
+    }
+    plan
+}
+
+// The plan of the word v among the k base entries in front.
+pub(crate) fn base_plan(p: &[u8], k: usize, v: u64) -> u64
+    requires { ⌜ k * 10 ≤ length (now p) ⌝ }
+    ensures { λ r. ⌜ r ≡ orStranger (find v (readAll 10 entryFrom k (now (p .entry)))) ⌝ }
+{
+    let mut at = 0;
+    let mut left = k;
+    while 0 < left {
+        let e = &p[at..];
+        if entry_word(e) == v {
+            return e[9] as u64;
+        }
+        at += Record::ENTRY_LEN;
+        left -= 1;
+    }
+    0
+}
