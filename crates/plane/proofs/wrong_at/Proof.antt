@@ -1,11 +1,13 @@
+-- `plane::wrong_at` meets its contract.
+-- Assumes nothing.
+use mathlib.Core.Path.{_≡_}
+use mathlib.Core.Bool.{true}
+use native.Mathlib.Omega.{arith}
 use borrow.Author.Needs.{needs}
+use Rattle.plane.specs.Plane.{headerFits, wrongAt}
+use Rattle.plane.proofs.Scan.{refused, passed, Header, header}
 use Rattle.plane.proofs.wrong_at.Statement.{statement}
 use Rattle.plane.proofs.wrong_at.Tie as tie
-use Rattle.plane.proofs.wrong_at.Reads as reads
-use Rattle.plane.proofs.wrong_at.Lts as lts
-use Rattle.plane.proofs.header_fits.Reads as header-fits-reads
-use Rattle.plane.proofs.records_wrong.Reads as records-wrong-reads
-use Rattle.plane.proofs.size.Reads as size-reads
 
 -- src/lib.rt:237:9
 header-fits-requires : tie.Need-header-fits-requires
@@ -13,11 +15,18 @@ header-fits-requires c κs = search needs
 
 -- src/lib.rt:238:9
 returns : tie.Need-returns
-returns c = ?
+unfolding wrongAt
+returns c = rw (refused _ (c .before .header-fits .ensures) (c .if1 .taken))
+
+fits : (c : tie.Else1) → headerFits (c .before .before .before .args .plane .now) ≡ true
+fits c = passed (c .before .header-fits .result) (c .before .header-fits .ensures) (c .if1 .left)
+
+known : (c : tie.Else1) → Header (c .before .before .before .args .plane .now)
+known c = header _ (fits c)
 
 -- src/lib.rt:240:31
 shared-slice-read-size : tie.Need-shared-slice-read-size
-shared-slice-read-size c = ?
+shared-slice-read-size c = omega (arith, known (c .before))
 
 -- src/lib.rt:240:26
 size-requires : tie.Need-size-requires
@@ -25,7 +34,7 @@ size-requires c κs = search needs
 
 -- src/lib.rt:240:48
 shared-slice-read-size-2 : tie.Need-shared-slice-read-size-2
-shared-slice-read-size-2 c = ?
+shared-slice-read-size-2 c = omega (arith, known (c .before .before .before))
 
 -- src/lib.rt:240:43
 size-requires-2 : tie.Need-size-requires-2
@@ -33,11 +42,11 @@ size-requires-2 c κs = search needs
 
 -- src/lib.rt:240:26
 add-records-wrong : tie.Need-add-records-wrong
-add-records-wrong c = ?
+add-records-wrong c = omega (arith, known (c .before .before .before .before))
 
 -- src/lib.rt:240:64
 shared-slice-read-size-3 : tie.Need-shared-slice-read-size-3
-shared-slice-read-size-3 c = ?
+shared-slice-read-size-3 c = omega (arith, known (c .before .before .before .before .before))
 
 -- src/lib.rt:240:59
 size-requires-3 : tie.Need-size-requires-3
@@ -45,11 +54,14 @@ size-requires-3 c κs = search needs
 
 -- src/lib.rt:240:5
 records-wrong-requires : tie.Need-records-wrong-requires
-records-wrong-requires c κs = ?
+records-wrong-requires c κs = omega (arith, known (c .before .before .before .before .before .before))
 
 -- src/lib.rt:234:1
 returns-2 : tie.Need-returns-2
-returns-2 c = ?
+unfolding wrongAt
+returns-2 c =
+    rw (fits (c .before .before .before .before .before .before .before), ← c .before .before .before .before .before .size .ensures, ← c .before .before .before .size2 .ensures, ← c .before .size3 .ensures)
+    (c .records-wrong .ensures)
 
 pub wrong-at-spec : {M : Type 1} → statement M
 wrong-at-spec =
