@@ -62,15 +62,18 @@ whole-next kind body at p e =
 module _ (r : ℕ) where
   pub buckets-step : (left at : ℕ) (p : List ℕ) → 0 < left → bucketFits r (drop at p) ≡ true
       → bucketsWrong r left at (drop at p) ≡ bucketsWrong r (left - 1) (at + (1 + bucketBody r)) (drop (at + (1 + bucketBody r)) p)
+  unfolding bucketsWrong
   buckets-step zero at p h e = absurd (omega arith)
   buckets-step (suc m) at p h e = rw (e, drop-drop, sub-one)
 
   pub buckets-here : (left at : ℕ) (p : List ℕ) → 0 < left → bucketFits r p ≡ false → bucketsWrong r left at p ≡ At at
+  unfolding bucketsWrong
   buckets-here zero at p h e = absurd (omega arith)
   buckets-here (suc m) at p h e = rw e
 
   -- m buckets that fit are there
   pub buckets-room : (m at : ℕ) (p : List ℕ) → bucketsWrong r m at p ≡ Nowhere → m * (1 + bucketBody r) ≤ length p
+  unfolding bucketsWrong
   buckets-room zero at p e = omega arith
   buckets-room (suc m) at p e =
       let f : (bucketFits r p ≡ true) × (bucketsWrong r m (at + (1 + bucketBody r)) (drop (1 + bucketBody r) p) ≡ Nowhere) = right (bucketFits r p) _ at e in
@@ -80,20 +83,24 @@ module _ (r : ℕ) where
 
 -- a base entry that is cut, one whose word w is too small, and one that fits
 pub entries-cut : (least left at : ℕ) (p : List ℕ) → 0 < left → whole entryKind entryBody p ≡ false → entriesWrong least left at p ≡ At at
+unfolding entriesWrong
 entries-cut least zero at p h e = absurd (omega arith)
 entries-cut least (suc k) at p h e = rw e
 
 pub entries-low : (least left at w : ℕ) (p : List ℕ) → 0 < left → whole entryKind entryBody p ≡ true → w ≡ entryFrom p .word → w < least
     → entriesWrong least left at p ≡ At at
+unfolding entriesWrong
 entries-low least zero at w p h e i l = absurd (omega arith)
 entries-low least (suc k) at w p h e i l = rw (e, ← i, lt-leb least w l)
 
 pub entries-step : (least left at w : ℕ) (p : List ℕ) → 0 < left → whole entryKind entryBody (drop at p) ≡ true → w ≡ entryFrom (drop at p) .word → least ≤ w
     → entriesWrong least left at (drop at p) ≡ entriesWrong (suc w) (left - 1) (at + (1 + entryBody)) (drop (at + (1 + entryBody)) p)
+unfolding entriesWrong
 entries-step least zero at w p h e i l = absurd (omega arith)
 entries-step least (suc k) at w p h e i l = rw (e, ← i, le-leb least w l, drop-drop (1 + entryBody) at p, sub-one)
 
 pub entries-room : (least k at : ℕ) (p : List ℕ) → entriesWrong least k at p ≡ Nowhere → k * (1 + entryBody) ≤ length p
+unfolding entriesWrong
 entries-room least zero at p e = omega arith
 entries-room least (suc k) at p e =
     let f = right (entryFits least p) (entriesWrong (suc (entryFrom p .word)) k (at + (1 + entryBody)) (drop (1 + entryBody) p)) at e in

@@ -56,7 +56,7 @@ abbrev pub bucketFits : ℕ → List ℕ → Bool
 bucketFits r p = whole bucketKind (bucketBody r) p && leb (getD p 1 0) largestBound
 
 -- m buckets
-abbrev pub bucketsWrong : ℕ → ℕ → ℕ → List ℕ → Wrong
+unfoldable pub bucketsWrong : ℕ → ℕ → ℕ → List ℕ → Wrong
 bucketsWrong r zero at p = Nowhere
 bucketsWrong r (suc m) at p = cond (bucketFits r p) (bucketsWrong r m (at + (1 + bucketBody r)) (drop (1 + bucketBody r) p)) (At at)
 
@@ -65,7 +65,7 @@ abbrev pub entryFits : ℕ → List ℕ → Bool
 entryFits least p = whole entryKind entryBody p && leb least (entryFrom p .word)
 
 -- k base entries: each must exceed the one before
-abbrev pub entriesWrong : ℕ → ℕ → ℕ → List ℕ → Wrong
+unfoldable pub entriesWrong : ℕ → ℕ → ℕ → List ℕ → Wrong
 entriesWrong least zero at p = Nowhere
 entriesWrong least (suc k) at p =
     cond (entryFits least p) (entriesWrong (suc (entryFrom p .word)) k (at + (1 + entryBody)) (drop (1 + entryBody) p)) (At at)

@@ -7,12 +7,12 @@ use Rattle.codec.specs.Bytes.{fromBytes, toBytes}
 use Rattle.lists.specs.Entries.{Entry}
 
 -- the bytes of things, one after the other
-abbrev pub bytesOf : {A : Type 0} → (A → List ℕ) → List A → List ℕ
+unfoldable pub bytesOf : {A : Type 0} → (A → List ℕ) → List A → List ℕ
 bytesOf f [] = []
 bytesOf f (x ∷ xs) = f x ++ bytesOf f xs
 
 -- m things of `size` bytes each, one after the other; `read` gives the one at the front of the bytes
-abbrev pub readAll : {A : Type 0} → ℕ → (List ℕ → A) → ℕ → List ℕ → List A
+unfoldable pub readAll : {A : Type 0} → ℕ → (List ℕ → A) → ℕ → List ℕ → List A
 readAll size read zero p = []
 readAll size read (suc m) p = read p ∷ readAll size read m (drop size p)
 

@@ -8,10 +8,12 @@ use identifier::Identifier;
 use identifier::Read;
 
 ghost use mathlib.Core.Path.{_≡_};
-ghost use Prim.Native.Nat.{suc, _+_, _*_, _≤_};
-ghost use lib.ListN.{length, drop};
+ghost use Prim.Native.Nat.{suc, _+_, _*_, _≤_, _<_};
+ghost use lib.ListN.{length, getD, drop};
 ghost use Rattle.lists.specs.Entries.{find};
 ghost use Rattle.gf2.specs.Vectors.{product};
+ghost use Rattle.hash.specs.Mix.{mixOf};
+ghost use Rattle.identifier.specs.Place.{bucketAt};
 ghost use Rattle.concrete.specs.Test.{inRange};
 ghost use Rattle.plane.specs.declared.Wrong.the-variants.{Nowhere};
 ghost use Rattle.plane.specs.Record.{readAll, bucketFrom, entryFrom};
@@ -66,6 +68,9 @@ const MOST_BUCKETS_2: u8 = 32;
 const BASE_LIMIT: u8 = 64;
 
 const LARGEST_BOUND: u8 = 8;
+
+// The plan of a word due to the base list and not in it.
+const STRANGER_PLAN: u64 = 0;
 
 // A record of this kind, not cut, stands in front.
 pub(crate) fn whole(p: &[u8], kind: u8, body: usize) -> bool
@@ -230,6 +235,12 @@ fn size(b: u8) -> usize
     b as usize
 }
 
+fn wide(b: u8) -> u64
+    ensures { λ r. ⌜ r ≡ b ⌝ }
+{
+    b as u64
+}
+
 // The whole plane, in one pass.
 pub(crate) fn wrong_at(plane: &[u8]) -> Wrong
     ensures { λ r. do ⌜ r ≡ wrongAt (← ⟦Bucket::SOLUTIONS⟧ .entry) (now (plane .entry)) ⌝ }
@@ -240,35 +251,95 @@ pub(crate) fn wrong_at(plane: &[u8]) -> Wrong
     records_wrong(plane, size(plane[2]) + size(plane[3]), size(plane[4]))
 }
 
-// The plan that the bucket in front gives for the vector k.
-pub(crate) fn bucket_plan(p: &[u8], k: u64) -> u64
-    requires { do ⌜ 2 + 8 * (← ⟦Bucket::SOLUTIONS⟧) ≤ length (now p) ⌝ }
-    ensures { λ r. do ⌜ r ≡ product (bucketFrom (← ⟦Bucket::SOLUTIONS⟧ .entry) (now (p .entry)) .sols) k ⌝ }
+// Solution word i of the bucket in front.
+pub(crate) fn solution(p: &[u8], i: usize) -> u64
+    requires { do ⌜ (i < (← ⟦Bucket::SOLUTIONS⟧)) × ((← ⟦Record::BUCKET_LEN⟧) ≤ length (now p)) ⌝ }
+    ensures { λ r. do ⌜ r ≡ getD (bucketFrom (← ⟦Bucket::SOLUTIONS⟧ .entry) (now (p .entry)) .sols) i 0 ⌝ }
+{
+    let at = 2 + i * 8;
+    codec::word(&p[at..])
+}
+
+// The plan that the bucket in front gives for the vector v.
+pub(crate) fn bucket_plan(p: &[u8], v: u64) -> u64
+    requires { do ⌜ (← ⟦Record::BUCKET_LEN⟧) ≤ length (now p) ⌝ }
+    ensures { λ r. do ⌜ r ≡ product (bucketFrom (← ⟦Bucket::SOLUTIONS⟧ .entry) (now (p .entry)) .sols) v ⌝ }
 {
     let mut plan: u64 = 0;
     let mut i = Bucket::SOLUTIONS;
     while 0 < i {
         i -= 1;
-        let at = 2 + 8 * i;
-        plan = bucket::dot(k, codec::word(&p[at..])) + 2 * plan;
+        plan = bucket::dot(v, solution(p, i)) + 2 * plan;
     }
     plan
 }
 
 // The plan of the word v among the k base entries in front.
 pub(crate) fn base_plan(p: &[u8], k: usize, v: u64) -> u64
-    requires { ⌜ k * 10 ≤ length (now p) ⌝ }
-    ensures { λ r. ⌜ r ≡ orStranger (find v (readAll 10 entryFrom k (now (p .entry)))) ⌝ }
+    requires { do ⌜ k * (← ⟦Record::ENTRY_LEN⟧) ≤ length (now p) ⌝ }
+    ensures { λ r. do ⌜ r ≡ orStranger (find v (readAll (← ⟦Record::ENTRY_LEN⟧ .entry) entryFrom k (now (p .entry)))) ⌝ }
 {
     let mut at = 0;
     let mut left = k;
     while 0 < left {
         let e = &p[at..];
         if entry_word(e) == v {
-            return e[9] as u64;
+            return wide(e[Record::ENTRY_BODY]);
         }
         at += Record::ENTRY_LEN;
         left -= 1;
     }
-    0
+    STRANGER_PLAN
+}
+
+// The offset of the bucket of the vector v, of m buckets from the offset first on.
+pub(crate) fn bucket_offset(first: usize, m: u8, v: u64) -> usize
+    requires { ⌜ (0 < m) × (first < 65536) ⌝ }
+    ensures { λ r. do ⌜ r ≡ first + bucketAt m (mixOf v) * (← ⟦Record::BUCKET_LEN⟧ .entry) ⌝ }
+{
+    let i = identifier::bucket(v, wide(m)) as usize;
+    first + i * Record::BUCKET_LEN
+}
+
+// The plan of the word w in a plane that is right.
+pub(crate) fn plan_in(plane: &[u8], w: u64) -> u64
+    requires { do ⌜ wrongAt (← ⟦Bucket::SOLUTIONS⟧) (now plane) ≡ Nowhere ⌝ }
+    ensures { λ r. do ⌜ r ≡ planFrom (planeFrom (← ⟦Bucket::SOLUTIONS⟧ .entry) (now (plane .entry))) w ⌝ }
+{
+    let at = bucket_offset(Record::BUCKETS_AT, plane[2], w);
+    let b = &plane[at..];
+    if identifier::threshold(w) < wide(b[1]) {
+        return bucket_plan(b, w);
+    }
+    let v = identifier::second(w);
+    let first2 = Record::BUCKETS_AT + size(plane[2]) * Record::BUCKET_LEN;
+    let at2 = bucket_offset(first2, plane[3], v);
+    let b2 = &plane[at2..];
+    if identifier::threshold(v) < wide(b2[1]) {
+        return bucket_plan(b2, v);
+    }
+    let entries_at = first2 + size(plane[3]) * Record::BUCKET_LEN;
+    base_plan(&plane[entries_at..], size(plane[4]), v)
+}
+
+// The lookup from the word on.
+pub(crate) fn lookup_word(w: u64, plane: &[u8]) -> Answer
+    ensures { λ r. do ⌜ r ≡ looked (now (plane .entry)) w (wrongAt (← ⟦Bucket::SOLUTIONS⟧ .entry) (now (plane .entry))) ⌝ }
+{
+    let wrong = wrong_at(plane);
+    match wrong {
+        Wrong::At(at) => Answer::WrongPlane(at as u64),
+        Wrong::Nowhere => Answer::Accepted(plan_in(plane, w)),
+    }
+}
+
+// The plan that the plane gives for the identifier: causes 1, 2, 10.
+pub fn lookup(id: &[u8], plane: &[u8]) -> Answer
+    ensures { λ r. ⌜ r ≡ lookupCall (now (id .entry)) (now (plane .entry)) ⌝ }
+{
+    let read = Identifier::read(id);
+    match read {
+        Read::Word(w) => lookup_word(w, plane),
+        Read::Refused(a) => a,
+    }
 }

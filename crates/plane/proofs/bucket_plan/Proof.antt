@@ -1,72 +1,72 @@
+-- `plane::bucket_plan` meets its contract. The loop counts down: it has the product of the solution words from i on.
+-- Assumes nothing.
+use mathlib.Core.Path.{_≡_, sym}
+use mathlib.Core.List.{List}
+use Prim.Native.Nat.{ℕ, _-_, _^_, _≤_, _<_}
+use native.Mathlib.Omega.{arith}
 use borrow.Author.Needs.{needs}
+use lib.ListN.{length, getD, drop}
+use Rattle.gf2.specs.Vectors.{product}
+use Rattle.gf2.proofs.Bit.{dot-lt}
+use Rattle.gf2.proofs.Loops.{product-down, product-end, product-part}
+use Rattle.plane.specs.Record.{wordBytes, wordFrom, bucketFrom}
+use Rattle.plane.proofs.Read.{length-readAll}
 use Rattle.plane.proofs.bucket_plan.Statement.{statement}
 use Rattle.plane.proofs.bucket_plan.Tie as tie
-use Rattle.plane.proofs.bucket_plan.Reads as reads
-use Rattle.plane.proofs.bucket_plan.Lts as lts
-use Rattle.bucket.proofs.dot.Reads as dot-reads
-use Rattle.codec.proofs.word.Reads as word-reads
+
+abbrev sols : List ℕ → List ℕ
+sols p = bucketFrom 8 p .sols
+
+eight : (p : List ℕ) → length (sols p) ≡ 8
+eight p = length-readAll wordBytes wordFrom 8 (drop 2 p)
 
 abbrev Inv-loop : tie.InvT-loop
-Inv-loop p k plan₀ i₀ plan i = ?
+Inv-loop p v plan₀ i₀ plan i = (i ≤ 8) × (plan ≡ product (drop i (sols p)) v)
 
 abbrev μ-loop : tie.MeasureT-loop
-μ-loop p k plan₀ i₀ plan i = ?
+μ-loop p v plan₀ i₀ plan i = i
 
--- src/lib.rt:229:5
 loop-holds : tie.Need-loop-holds Inv-loop μ-loop
-loop-holds c = search needs
+loop-holds c =
+    let p = c .before .args .p .now in
+    (search needs, sym (product-end (sols p) (c .before .args .v) 8 (omega (arith, eight p))))
 
--- src/lib.rt:230:9
 sub-i : tie.Need-sub-i Inv-loop μ-loop
 sub-i c = search needs
 
--- src/lib.rt:231:22
-mul-at : tie.Need-mul-at Inv-loop μ-loop
-mul-at c = search needs
+solution-requires : tie.Need-solution-requires Inv-loop μ-loop
+solution-requires c κs = search needs
 
--- src/lib.rt:231:18
-add-at : tie.Need-add-at Inv-loop μ-loop
-add-at c = search needs
-
--- src/lib.rt:232:43
-sub-word : tie.Need-sub-word Inv-loop μ-loop
-sub-word c = search needs
-
--- src/lib.rt:232:43
-part-word-start : tie.Need-part-word-start Inv-loop μ-loop
-part-word-start c = search needs
-
--- src/lib.rt:232:43
-part-word-end : tie.Need-part-word-end Inv-loop μ-loop
-part-word-end c = search needs
-
--- src/lib.rt:232:31
-word-requires : tie.Need-word-requires Inv-loop μ-loop
-word-requires c κs = search needs
-
--- src/lib.rt:232:16
 dot-requires : tie.Need-dot-requires Inv-loop μ-loop
 dot-requires c κs = search needs
 
--- src/lib.rt:232:56
+small : (c : tie.After-dot Inv-loop μ-loop) → (c .before .before .before .loop .plan < 2 ^ 63) × (c .dot .result < 2)
+small c =
+    let b = c .before .before .before in
+    let a = b .before .before .args in (
+      rw (b .loop .inv .1) (product-part (sols (a .p .now)) (a .v) (b .loop .i) 63 (omega arith) (omega (arith, eight (a .p .now)))),
+      rw (c .dot .ensures) (dot-lt _ _),
+    )
+
 mul-plan : tie.Need-mul-plan Inv-loop μ-loop
-mul-plan c = search needs
+mul-plan c = omega (arith, small c)
 
--- src/lib.rt:232:16
 add-plan : tie.Need-add-plan Inv-loop μ-loop
-add-plan c = search needs
+add-plan c = omega (arith, small c)
 
--- src/lib.rt:229:5
 loop-less : tie.Need-loop-less Inv-loop μ-loop
 loop-less c = search needs
 
--- src/lib.rt:229:5
 loop-again : tie.Need-loop-again Inv-loop μ-loop
-loop-again c = search needs
+loop-again c =
+    let b = c .before .before .before in
+    let a = b .before .before .args in
+    (omega arith, cc (product-down (sols (a .p .now)) (a .v) (b .loop .i) (omega arith) (omega (arith, eight (a .p .now)))))
 
--- src/lib.rt:223:1
 returns : tie.Need-returns Inv-loop μ-loop
-returns c = search needs
+returns c =
+    let z : c .before .loop .i ≡ 0 = omega arith in
+    rw z at (c .before .loop .inv .1)
 
 pub bucket-plan-spec : {M : Type 1} → statement M
 bucket-plan-spec =
@@ -76,12 +76,7 @@ bucket-plan-spec =
     μ-loop
     loop-holds
     sub-i
-    mul-at
-    add-at
-    sub-word
-    part-word-start
-    part-word-end
-    word-requires
+    solution-requires
     dot-requires
     mul-plan
     add-plan

@@ -70,6 +70,7 @@ loop-again c =
 
 -- src/lib.rt:118:1
 returns-2 : tie.Need-returns-2 Inv-loop μ-loop
+unfolding bucketsWrong
 returns-2 c =
     let b = c .before in
     let z : b .loop .left ≡ 0 = omega arith in

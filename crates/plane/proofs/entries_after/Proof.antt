@@ -96,6 +96,7 @@ loop-again c =
 
 -- src/lib.rt:143:1
 returns-3 : tie.Need-returns-3 Inv-loop μ-loop
+unfolding entriesWrong
 returns-3 c =
     let z : c .before .loop .left ≡ 0 = omega arith in
     sym (rw z at (c .before .loop .inv .1))

@@ -7,7 +7,7 @@ use native.Mathlib.Omega.{arith}
 use borrow.Author.Needs.{needs}
 use lib.ListN.{drop}
 use Rattle.plane.specs.Record.{entryKind, entryBody}
-use Rattle.plane.specs.Plane.{whole}
+use Rattle.plane.specs.Plane.{whole, entriesWrong}
 use Rattle.plane.proofs.Scan.{rest, refused, passed, whole-length, whole-next, entries-cut, entries-step}
 use Rattle.plane.proofs.entries_wrong.Statement.{statement}
 use Rattle.plane.proofs.entries_wrong.Tie as tie
@@ -19,6 +19,7 @@ use Rattle.plane.proofs.whole.Reads as whole-reads
 
 -- src/lib.rt:174:9
 returns : tie.Need-returns
+unfolding entriesWrong
 returns c = rw (c .if1 .taken)
 
 -- src/lib.rt:176:13

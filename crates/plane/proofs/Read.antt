@@ -1,0 +1,45 @@
+-- Things read from bytes one after the other: how many, each by its place, and the loops that look for one.
+-- Assumes nothing.
+use mathlib.Core.Path.{_≡_, refl, sym, ap, _∙_}
+use mathlib.Core.List.{List, []}
+use mathlib.Core.Option.{Option, some}
+use Prim.Native.Nat.{ℕ, zero, suc, _+_, _-_, _*_, _≤_, _<_}
+use native.Mathlib.Nat.{suc-mul, add-comm, not-suc-le-zero, le-of-suc-le-suc}
+use native.Mathlib.Numerals.{sub-one}
+use native.Mathlib.Omega.{arith}
+use borrow.Author.Tests.{eq-eqb, ne-eqb}
+use lib.ListN.{length, getD, drop}
+use lib.Seq.{drop-drop}
+use Rattle.lists.specs.Entries.{find}
+use Rattle.plane.specs.Record.{readAll, wordBytes, wordFrom, bucketFrom, entryBody, entryFrom}
+
+module _ {A : Type 0} (size : ℕ) (read : List ℕ → A) where
+  pub length-readAll : (m : ℕ) (p : List ℕ) → length (readAll size read m p) ≡ m
+  unfolding readAll
+  length-readAll zero p = refl
+  length-readAll (suc m) p = ap suc (length-readAll m (drop size p))
+
+  pub getD-readAll : (m i : ℕ) (p : List ℕ) (d : A) → i < m → getD (readAll size read m p) i d ≡ read (drop (i * size) p)
+  unfolding readAll
+  getD-readAll zero i p d h = absurd (not-suc-le-zero h)
+  getD-readAll (suc m) zero p d h = ap (λ (k : ℕ). read (drop k p)) {x = 0} {y = 0 * size} (omega arith)
+  getD-readAll (suc m) (suc i) p d h =
+      getD-readAll m i (drop size p) d (le-of-suc-le-suc h)
+      ∙ ap read (drop-drop (i * size) size p ∙ ap (λ (k : ℕ). drop k p) (sym (suc-mul i size ∙ add-comm (i * size) size)))
+
+-- solution word i of a bucket of r
+pub word-at : (r i : ℕ) (p : List ℕ) → i < r → wordFrom (drop (2 + i * wordBytes) p) ≡ getD (bucketFrom r p .sols) i 0
+word-at r i p h = sym (getD-readAll wordBytes wordFrom r i (drop 2 p) 0 h ∙ ap wordFrom (drop-drop (i * wordBytes) 2 p))
+
+-- the entry in front, of `left` ones, has the word v, or another word w
+pub find-here : (v left w : ℕ) (p : List ℕ) → 0 < left → w ≡ entryFrom p .word → w ≡ v
+    → find v (readAll (1 + entryBody) entryFrom left p) ≡ some (entryFrom p .plan)
+unfolding readAll
+find-here v zero w p h e i = absurd (omega arith)
+find-here v (suc k) w p h e i = rw (eq-eqb v (entryFrom p .word) (sym i ∙ e))
+
+pub find-next : (v left at w : ℕ) (p : List ℕ) → 0 < left → w ≡ entryFrom (drop at p) .word → (w ≡ v → ⊥)
+    → find v (readAll (1 + entryBody) entryFrom left (drop at p)) ≡ find v (readAll (1 + entryBody) entryFrom (left - 1) (drop (at + (1 + entryBody)) p))
+unfolding readAll
+find-next v zero at w p h e i = absurd (omega arith)
+find-next v (suc k) at w p h e i = rw (ne-eqb v (entryFrom (drop at p) .word) (λ j. i (e ∙ sym j)), drop-drop (1 + entryBody) at p, sub-one)
