@@ -3,15 +3,20 @@
 use mathlib.Core.Path.{_≡_, refl, sym, ap, _∙_}
 use mathlib.Core.List.{List, []}
 use mathlib.Core.Option.{Option, some}
-use Prim.Native.Nat.{ℕ, zero, suc, _+_, _-_, _*_, _≤_, _<_}
-use native.Mathlib.Nat.{suc-mul, add-comm, not-suc-le-zero, le-of-suc-le-suc}
+use Prim.Native.Nat.{ℕ, zero, suc, _+_, _-_, _*_, _/_, _≤_, _<_}
+use native.Mathlib.Nat.{suc-mul, add-comm, mod-lt, not-suc-le-zero, le-of-suc-le-suc}
 use native.Mathlib.Numerals.{sub-one}
 use native.Mathlib.Omega.{arith}
-use borrow.Author.Tests.{eq-eqb, ne-eqb}
+use borrow.Author.Tests.{lt-ltb, le-ltb, eq-eqb, ne-eqb}
 use lib.ListN.{length, getD, drop}
 use lib.Seq.{drop-drop}
 use Rattle.lists.specs.Entries.{find}
-use Rattle.plane.specs.Record.{readAll, wordBytes, wordFrom, bucketFrom, entryBody, entryFrom}
+use Rattle.gf2.specs.Vectors.{product}
+use Rattle.hash.specs.Mix.{mixOf}
+use Rattle.identifier.specs.Place.{thresholdAt, bucketAt}
+use Rattle.plane.specs.declared.Held.the-variants.{Plan, Passed}
+use Rattle.plane.specs.Record.{readAll, wordBytes, wordFrom, bucketBody, bucketFrom, entryBody, entryFrom}
+use Rattle.plane.specs.Lookup.{bucketOf, levelPlan}
 
 module _ {A : Type 0} (size : ℕ) (read : List ℕ → A) where
   pub length-readAll : (m : ℕ) (p : List ℕ) → length (readAll size read m p) ≡ m
@@ -43,3 +48,19 @@ pub find-next : (v left at w : ℕ) (p : List ℕ) → 0 < left → w ≡ entryF
 unfolding readAll
 find-next v zero at w p h e i = absurd (omega arith)
 find-next v (suc k) at w p h e i = rw (ne-eqb v (entryFrom (drop at p) .word) (λ j. i (e ∙ sym j)), drop-drop (1 + entryBody) at p, sub-one)
+
+-- the bucket of v, of a level of m
+pub level-bucket : (r m v : ℕ) (p : List ℕ) → 0 < m
+    → bucketOf (readAll (1 + bucketBody r) (bucketFrom r) m p) v ≡ bucketFrom r (drop (bucketAt m (mixOf v) * (1 + bucketBody r)) p)
+level-bucket r m v p h =
+    rw (length-readAll (1 + bucketBody r) (bucketFrom r) m p)
+    (getD-readAll (1 + bucketBody r) (bucketFrom r) m (bucketAt m (mixOf v)) p (record { bound = 0; sols = [] }) (mod-lt (mixOf v / 8) h))
+
+module _ (r m v at : ℕ) (p : List ℕ) (some : 0 < m) (e : at ≡ bucketAt m (mixOf v) * (1 + bucketBody r)) where
+  pub level-held : thresholdAt (mixOf v) < getD (drop at p) 1 0 → levelPlan (readAll (1 + bucketBody r) (bucketFrom r) m p) v ≡ Plan (product (bucketFrom r (drop at p) .sols) v)
+  unfolding levelPlan
+  level-held h = rw (level-bucket r m v p some, ← e, lt-ltb (thresholdAt (mixOf v)) (getD (drop at p) 1 0) h)
+
+  pub level-passed : getD (drop at p) 1 0 ≤ thresholdAt (mixOf v) → levelPlan (readAll (1 + bucketBody r) (bucketFrom r) m p) v ≡ Passed
+  unfolding levelPlan
+  level-passed h = rw (level-bucket r m v p some, ← e, le-ltb (thresholdAt (mixOf v)) (getD (drop at p) 1 0) h)

@@ -7,7 +7,7 @@ use Prim.Native.Nat.{ℕ, zero, suc, _+_, _-_, _*_, _≤_, _<_}
 use native.Mathlib.Nat.{suc-mul}
 use native.Mathlib.Numerals.{sub-one}
 use native.Mathlib.Omega.{arith}
-use borrow.Author.Tests.{not-true, not-false, leb-true, le-leb, lt-leb, eq-eqb, ne-eqb}
+use borrow.Author.Tests.{not-true, not-false, leb-true, eqb-true, le-leb, lt-leb, eq-eqb, ne-eqb}
 use lib.Dec.{leb, eqb}
 use lib.ListN.{length, getD, take, drop, length-drop}
 use lib.Seq.{take-all, drop-drop}
@@ -17,20 +17,20 @@ use Rattle.concrete.specs.Test.{inRange, mostBuckets1, mostBuckets2}
 use Rattle.plane.specs.declared.Wrong.{Wrong}
 use Rattle.plane.specs.declared.Wrong.the-variants.{Nowhere, At}
 use Rattle.plane.specs.Record.{headerKind, headerBody, format, bucketKind, bucketBody, entryKind, entryBody, entryFrom, endBody}
-use Rattle.plane.specs.Plane.{whole, headerFits, bucketFits, bucketsWrong, entryFits, entriesWrong, endFits, endWrong}
+use Rattle.plane.specs.Plane.{whole, headerFits, bucketFits, bucketsWrong, entryFits, entriesWrong, endFits, endWrong, orNext, recordsWrong, wrongAt, bucketsAt, entriesAt, endAt, planeLength}
 
 -- two tests that hold
 pub both : (a b : Bool) → (a && b) ≡ true → (a ≡ true) × (b ≡ true)
 both true b e = (refl, e)
 both false b e = absurd (true→T e)
 
+at-nowhere : {at : ℕ} → At at ≡ Nowhere → ⊥
+at-nowhere e = let z : _≡_ {A = ℕ} 0 1 = cc in omega arith
+
 -- a record that is right, and nothing wrong after it
 pub right : (b : Bool) (x : Wrong) (at : ℕ) → cond b x (At at) ≡ Nowhere → (b ≡ true) × (x ≡ Nowhere)
 right true x at e = (refl, e)
-right false x at e = absurd (never e)
-  where
-    never : {at : ℕ} → At at ≡ Nowhere → ⊥
-    never e = let z : _≡_ {A = ℕ} 0 1 = cc in omega arith
+right false x at e = absurd (at-nowhere e)
 
 -- what `if !t` says of a test t that is b
 pub refused : (t : Bool) {b : Bool} → t ≡ b → not t ≡ true → b ≡ false
@@ -144,3 +144,64 @@ header p e =
       most2 = leb-true _ mostBuckets2 (d2 .1);
       entries = leb-true _ baseLimit (c .1);
     }
+
+-- the first of two that is wrong is nowhere
+pub next : (a o : Wrong) → orNext a o ≡ Nowhere → (a ≡ Nowhere) × (o ≡ Nowhere)
+next Nowhere o e = (refl, e)
+next (At at) o e = absurd (at-nowhere e)
+
+-- the numbers of buckets and base entries that a header gives
+abbrev pub bucketCount : List ℕ → ℕ
+bucketCount p = getD p 2 0 + getD p 3 0
+
+abbrev pub entryCount : List ℕ → ℕ
+entryCount p = getD p 4 0
+
+-- where the entries and the end start by it
+abbrev pub entriesIn : ℕ → List ℕ → ℕ
+entriesIn r p = entriesAt r (bucketCount p)
+
+abbrev pub endIn : ℕ → List ℕ → ℕ
+endIn r p = endAt r (bucketCount p) (entryCount p)
+
+-- a plane that is wrong nowhere, part by part
+module _ (r : ℕ) (p : List ℕ) where
+  pub record Right : Type 0 where
+    pub header : headerFits p ≡ true
+    pub buckets : bucketsWrong r (bucketCount p) bucketsAt (drop bucketsAt p) ≡ Nowhere
+    pub entries : entriesWrong 0 (entryCount p) (entriesIn r p) (drop (entriesIn r p) p) ≡ Nowhere
+    pub end : endFits (drop (endIn r p) p) ≡ true
+    pub nothing : length (drop (endIn r p) p) ≡ 1 + endBody
+
+  pub nowhere : Right → wrongAt r p ≡ Nowhere
+  unfolding wrongAt
+  nowhere h = rw (h .header, h .buckets, h .entries, h .end, h .nothing)
+
+  pub parts : wrongAt r p ≡ Nowhere → Right
+  unfolding wrongAt
+  parts e =
+      let q : List ℕ = drop (endIn r p) p in
+      let h = right (headerFits p) (recordsWrong r (bucketCount p) (entryCount p) p) 0 e in
+      let n1 = next (bucketsWrong r (bucketCount p) bucketsAt (drop bucketsAt p)) _ (h .1) in
+      let n2 = next (entriesWrong 0 (entryCount p) (entriesIn r p) (drop (entriesIn r p) p)) _ (n1 .1) in
+      let f = right (endFits q) (cond (eqb (length q) (1 + endBody)) Nowhere (At (endIn r p + (1 + endBody)))) (endIn r p) (n2 .1) in
+      record {
+        header = h .0;
+        buckets = n1 .0;
+        entries = n2 .0;
+        end = f .0;
+        nothing = eqb-true (length q) (1 + endBody) (right (eqb (length q) (1 + endBody)) Nowhere _ (f .1) .0);
+      }
+
+  pub right-length : Right → length p ≡ planeLength r (bucketCount p) (entryCount p)
+  right-length h =
+      let e : length p - endIn r p ≡ 1 + endBody = rw length-drop at (h .nothing) in
+      omega arith
+
+  -- what a right plane's header and length say
+  pub record Known : Type 0 where
+    pub header : Header p
+    pub whole : length p ≡ planeLength r (bucketCount p) (entryCount p)
+
+  pub known : wrongAt r p ≡ Nowhere → Known
+  known e = record { header = header p (parts e .header); whole = right-length (parts e) }

@@ -15,6 +15,8 @@ use Rattle.identifier.specs.Identifier.{readOf}
 use Rattle.identifier.specs.Place.{secondOf, thresholdAt, bucketAt}
 use Rattle.identifier.specs.declared.Read.{Read}
 use Rattle.identifier.specs.declared.Read.the-variants.{Word, Refused}
+use Rattle.plane.specs.declared.Held.{Held}
+use Rattle.plane.specs.declared.Held.the-variants.{Plan, Passed}
 use Rattle.plane.specs.declared.Wrong.{Wrong}
 use Rattle.plane.specs.declared.Wrong.the-variants.{Nowhere, At}
 use Rattle.plane.specs.Record.{PlaneBucket}
@@ -24,9 +26,18 @@ use Rattle.plane.specs.Plane.{Plane, wrongAt, planeFrom}
 abbrev pub bucketOf : List PlaneBucket → ℕ → PlaneBucket
 bucketOf bs v = getD bs (bucketAt (length bs) (mixOf v)) (record { bound = 0; sols = [] })
 
--- the level holds v: its threshold is below the bound of its bucket
+-- document 01's test that a level holds v: its threshold is below the bound of its bucket
 abbrev pub holds : List PlaneBucket → ℕ → Bool
 holds bs v = ltb (thresholdAt (mixOf v)) (bucketOf bs v .bound)
+
+-- what a level gives for v: bit c of the plan is the parity of (v AND solution word c)
+unfoldable pub levelPlan : List PlaneBucket → ℕ → Held
+levelPlan bs v = cond (holds bs v) (Plan (product (bucketOf bs v .sols) v)) Passed
+
+-- the plan, if the level holds the vector, else q
+abbrev pub orElse : Held → ℕ → ℕ
+orElse (Plan p) q = p
+orElse Passed q = q
 
 -- the plan of a word due to the base list and not in it
 abbrev pub strangerPlan : ℕ
@@ -36,12 +47,13 @@ abbrev pub orStranger : Option ℕ → ℕ
 orStranger none = strangerPlan
 orStranger (some p) = p
 
--- the plan of the word w: of level 1 if it holds w, else of level 2 if it holds w', else of the base list
+-- the plan of a vector of level 2: of that level if it holds the vector, else of the base list
+unfoldable pub secondPlan : Plane → ℕ → ℕ
+secondPlan P v = orElse (levelPlan (P .level2) v) (orStranger (find v (P .base)))
+
+-- the plan of the word w: of level 1 if it holds w, else as w'
 unfoldable pub planFrom : Plane → ℕ → ℕ
-planFrom P w =
-    cond (holds (P .level1) w) (product (bucketOf (P .level1) w .sols) w)
-    (cond (holds (P .level2) (secondOf w)) (product (bucketOf (P .level2) (secondOf w) .sols) (secondOf w))
-    (orStranger (find (secondOf w) (P .base))))
+planFrom P w = orElse (levelPlan (P .level1) w) (secondPlan P (secondOf w))
 
 -- a plane of 8 solution words: cause 10, or the plan of the word w
 abbrev pub looked : List ℕ → ℕ → Wrong → Answer

@@ -12,19 +12,25 @@ ghost use Prim.Native.Nat.{suc, _+_, _*_, _≤_, _<_};
 ghost use lib.ListN.{length, getD, drop};
 ghost use Rattle.lists.specs.Entries.{find};
 ghost use Rattle.gf2.specs.Vectors.{product};
-ghost use Rattle.hash.specs.Mix.{mixOf};
-ghost use Rattle.identifier.specs.Place.{bucketAt};
 ghost use Rattle.concrete.specs.Test.{inRange};
 ghost use Rattle.plane.specs.declared.Wrong.the-variants.{Nowhere};
 ghost use Rattle.plane.specs.Record.{readAll, bucketFrom, entryFrom};
 ghost use Rattle.plane.specs.Plane.{whole, headerFits, bucketFits, bucketsWrong, entriesWrong, endFits, endWrong, recordsWrong, wrongAt, planeFrom};
-ghost use Rattle.plane.specs.Lookup.{orStranger, planFrom, looked, lookupCall};
+ghost use Rattle.plane.specs.Lookup.{orStranger, levelPlan, secondPlan, planFrom, looked, lookupCall};
 
 // Where a plane is wrong first.
 pub enum Wrong {
     Nowhere,
     // The offset.
     At(usize),
+}
+
+// What a level gives for a vector.
+pub enum Held {
+    // It holds the vector: the plan.
+    Plan(u64),
+    // The vector is due further on.
+    Passed,
 }
 
 // The records of a plane: the kind byte of each, and how many bytes follow it.
@@ -292,34 +298,46 @@ pub(crate) fn base_plan(p: &[u8], k: usize, v: u64) -> u64
     STRANGER_PLAN
 }
 
-// The offset of the bucket of the vector v, of m buckets from the offset first on.
-pub(crate) fn bucket_offset(first: usize, m: u8, v: u64) -> usize
-    requires { ⌜ (0 < m) × (first < 65536) ⌝ }
-    ensures { λ r. do ⌜ r ≡ first + bucketAt m (mixOf v) * (← ⟦Record::BUCKET_LEN⟧ .entry) ⌝ }
+// The plan that a level of m buckets gives for the vector v, if it holds v.
+pub(crate) fn level_plan(p: &[u8], m: u8, v: u64) -> Held
+    requires { do ⌜ (0 < m) × (m * (← ⟦Record::BUCKET_LEN⟧) ≤ length (now p)) ⌝ }
+    ensures { λ r. do ⌜ r ≡ levelPlan (readAll (← ⟦Record::BUCKET_LEN⟧ .entry) (bucketFrom (← ⟦Bucket::SOLUTIONS⟧ .entry)) m (now (p .entry))) v ⌝ }
 {
     let i = identifier::bucket(v, wide(m)) as usize;
-    first + i * Record::BUCKET_LEN
+    let at = i * Record::BUCKET_LEN;
+    let b = &p[at..];
+    if identifier::threshold(v) < wide(b[1]) {
+        return Held::Plan(bucket_plan(b, v));
+    }
+    Held::Passed
 }
 
-// The plan of the word w in a plane that is right.
+// The plan of the vector v of level 2, in a plane that is right.
+pub(crate) fn second_plan(plane: &[u8], v: u64) -> u64
+    requires { do ⌜ wrongAt (← ⟦Bucket::SOLUTIONS⟧) (now plane) ≡ Nowhere ⌝ }
+    ensures { λ r. do ⌜ r ≡ secondPlan (planeFrom (← ⟦Bucket::SOLUTIONS⟧ .entry) (now (plane .entry))) v ⌝ }
+{
+    let at = Record::BUCKETS_AT + size(plane[2]) * Record::BUCKET_LEN;
+    let held = level_plan(&plane[at..], plane[3], v);
+    match held {
+        Held::Plan(plan) => plan,
+        Held::Passed => {
+            let entries_at = at + size(plane[3]) * Record::BUCKET_LEN;
+            base_plan(&plane[entries_at..], size(plane[4]), v)
+        }
+    }
+}
+
+// The plan of the word w, in a plane that is right.
 pub(crate) fn plan_in(plane: &[u8], w: u64) -> u64
     requires { do ⌜ wrongAt (← ⟦Bucket::SOLUTIONS⟧) (now plane) ≡ Nowhere ⌝ }
     ensures { λ r. do ⌜ r ≡ planFrom (planeFrom (← ⟦Bucket::SOLUTIONS⟧ .entry) (now (plane .entry))) w ⌝ }
 {
-    let at = bucket_offset(Record::BUCKETS_AT, plane[2], w);
-    let b = &plane[at..];
-    if identifier::threshold(w) < wide(b[1]) {
-        return bucket_plan(b, w);
+    let held = level_plan(&plane[Record::BUCKETS_AT..], plane[2], w);
+    match held {
+        Held::Plan(plan) => plan,
+        Held::Passed => second_plan(plane, identifier::second(w)),
     }
-    let v = identifier::second(w);
-    let first2 = Record::BUCKETS_AT + size(plane[2]) * Record::BUCKET_LEN;
-    let at2 = bucket_offset(first2, plane[3], v);
-    let b2 = &plane[at2..];
-    if identifier::threshold(v) < wide(b2[1]) {
-        return bucket_plan(b2, v);
-    }
-    let entries_at = first2 + size(plane[3]) * Record::BUCKET_LEN;
-    base_plan(&plane[entries_at..], size(plane[4]), v)
 }
 
 // The lookup from the word on.
