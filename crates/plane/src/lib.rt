@@ -6,7 +6,6 @@ use answer::Answer;
 use bucket::Bucket;
 use identifier::Identifier;
 use identifier::Read;
-
 ghost use mathlib.Core.Path.{_≡_};
 ghost use Prim.Native.Nat.{suc, _+_, _*_, _≤_, _<_};
 ghost use lib.ListN.{length, getD, drop};

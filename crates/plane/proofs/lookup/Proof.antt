@@ -1,10 +1,10 @@
+-- `plane::lookup` meets its contract.
+-- Assumes nothing.
+use mathlib.Core.Path.{_≡_, sym, _∙_}
 use borrow.Author.Needs.{needs}
+use Rattle.plane.specs.Lookup.{lookupCall}
 use Rattle.plane.proofs.lookup.Statement.{statement}
 use Rattle.plane.proofs.lookup.Tie as tie
-use Rattle.plane.proofs.lookup.Reads as reads
-use Rattle.plane.proofs.lookup.Lts as lts
-use Rattle.identifier.proofs.Identifier.read.Reads as read-reads
-use Rattle.plane.proofs.lookup_word.Reads as lookup-word-reads
 
 -- src/lib.rt:359:9
 read-requires : tie.Need-read-requires
@@ -24,11 +24,13 @@ enum-known-read-2 c = search needs
 
 -- src/lib.rt:356:1
 returns : tie.Need-returns
-returns c = ?
+unfolding lookupCall
+returns c = rw (sym (c .before .before .before .before .read .ensures) ∙ c .before .before .read2 .given .1) (c .lookup-word .ensures)
 
 -- src/lib.rt:356:1
 returns-2 : tie.Need-returns-2
-returns-2 c = ?
+unfolding lookupCall
+returns-2 c = rw (sym (c .before .before .before .read .ensures) ∙ c .before .read3 .given .1)
 
 pub lookup-spec : {M : Type 1} → statement M
 lookup-spec =

@@ -1,10 +1,9 @@
+-- `plane::lookup_word` meets its contract.
+-- Assumes nothing.
+use mathlib.Core.Path.{_≡_, sym, ap, _∙_}
 use borrow.Author.Needs.{needs}
 use Rattle.plane.proofs.lookup_word.Statement.{statement}
 use Rattle.plane.proofs.lookup_word.Tie as tie
-use Rattle.plane.proofs.lookup_word.Reads as reads
-use Rattle.plane.proofs.lookup_word.Lts as lts
-use Rattle.plane.proofs.plan_in.Reads as plan-in-reads
-use Rattle.plane.proofs.wrong_at.Reads as wrong-at-reads
 
 -- src/lib.rt:348:9
 wrong-at-requires : tie.Need-wrong-at-requires
@@ -20,15 +19,17 @@ enum-told c = search needs
 
 -- src/lib.rt:351:44
 plan-in-requires : tie.Need-plan-in-requires
-plan-in-requires c κs = ?
+plan-in-requires c κs = sym (c .before .before .wrong-at .ensures) ∙ c .enum-told .given .1
 
 -- src/lib.rt:345:1
 returns : tie.Need-returns
-returns c = ?
+returns c = rw (sym (c .before .before .before .wrong-at .ensures) ∙ c .before .wrong .given .1)
 
 -- src/lib.rt:345:1
 returns-2 : tie.Need-returns-2
-returns-2 c = ?
+returns-2 c =
+    let e = c .before in
+    rw (sym (e .before .before .wrong-at .ensures) ∙ e .enum-told .given .1, c .plan-in .ensures)
 
 pub lookup-word-spec : {M : Type 1} → statement M
 lookup-word-spec =

@@ -1,19 +1,25 @@
+-- `plane::plan_in` meets its contract.
+-- Assumes nothing.
+use mathlib.Core.Path.{_≡_, sym, _∙_}
+use native.Mathlib.Omega.{arith}
 use borrow.Author.Needs.{needs}
+use lib.ListN.{length-drop}
+use Rattle.plane.specs.Plane.{planeFrom}
+use Rattle.plane.specs.Lookup.{levelPlan, planFrom}
+use Rattle.plane.proofs.Scan.{rest, Known, known}
 use Rattle.plane.proofs.plan_in.Statement.{statement}
 use Rattle.plane.proofs.plan_in.Tie as tie
-use Rattle.plane.proofs.plan_in.Reads as reads
-use Rattle.plane.proofs.plan_in.Lts as lts
-use Rattle.identifier.proofs.second.Reads as second-reads
-use Rattle.plane.proofs.level_plan.Reads as level-plan-reads
-use Rattle.plane.proofs.second_plan.Reads as second-plan-reads
+
+facts : (c : tie.Start) → Known 8 (c .args .plane .now)
+facts c = known 8 (c .args .plane .now) (c .pre)
 
 -- src/lib.rt:337:27
 sub-level-plan : tie.Need-sub-level-plan
-sub-level-plan c = ?
+sub-level-plan c = omega (arith, facts (c .before))
 
 -- src/lib.rt:337:27
 part-level-plan-start : tie.Need-part-level-plan-start
-part-level-plan-start c = ?
+part-level-plan-start c = omega (arith, facts (c .before))
 
 -- src/lib.rt:337:27
 part-level-plan-end : tie.Need-part-level-plan-end
@@ -21,11 +27,11 @@ part-level-plan-end c = search needs
 
 -- src/lib.rt:337:57
 shared-slice-read-level-plan : tie.Need-shared-slice-read-level-plan
-shared-slice-read-level-plan c = ?
+shared-slice-read-level-plan c = omega (arith, facts (c .before .before .before))
 
 -- src/lib.rt:337:9
 level-plan-requires : tie.Need-level-plan-requires
-level-plan-requires c κs = ?
+level-plan-requires c κs = rw (rest, length-drop) (omega (arith, facts (c .before .before .before)))
 
 -- src/lib.rt:339:20
 enum-known-held : tie.Need-enum-known-held
@@ -44,12 +50,21 @@ second-plan-requires : tie.Need-second-plan-requires
 second-plan-requires c κs = search needs
 
 -- src/lib.rt:333:1
+level1 : (c : tie.After-level-plan) → c .level-plan .result
+    ≡ levelPlan (planeFrom 8 (c .before .before .before .before .args .plane .now) .level1) (c .before .before .before .before .args .w)
+unfolding planeFrom
+level1 c = rw rest at (c .level-plan .ensures)
+
 returns : tie.Need-returns
-returns c = ?
+unfolding planFrom
+returns c = rw (sym (level1 (c .before .before .before)) ∙ c .before .held .given .1)
 
 -- src/lib.rt:333:1
 returns-2 : tie.Need-returns-2
-returns-2 c = ?
+unfolding planFrom
+returns-2 c =
+    let e = c .before .before in
+    rw (sym (level1 (e .before .before)) ∙ e .enum-told .given .1) (rw (c .before .second .ensures) at (c .second-plan .ensures))
 
 pub plan-in-spec : {M : Type 1} → statement M
 plan-in-spec =

@@ -64,8 +64,13 @@ right-entries c = sym (c .before .before .entries-wrong .ensures) ∙ c .enum-to
 end-wrong-requires : tie.Need-end-wrong-requires
 end-wrong-requires c κs =
     let a = c .before .before .before .before .before .before .before .args in
-    omega (arith, entries-room 0 (a .entries) (5 + a .buckets * 66) (drop (5 + a .buckets * 66) (a .plane .now)) (right-entries c), length-drop (5 + a .buckets * 66) (a .plane .now), 
-    buckets-room 8 (a .buckets) 5 (drop 5 (a .plane .now)) (right-buckets (c .before .before .before)), length-drop 5 (a .plane .now))
+    omega (
+      arith,
+      entries-room 0 (a .entries) (5 + a .buckets * 66) (drop (5 + a .buckets * 66) (a .plane .now)) (right-entries c),
+      length-drop (5 + a .buckets * 66) (a .plane .now),
+      buckets-room 8 (a .buckets) 5 (drop 5 (a .plane .now)) (right-buckets (c .before .before .before)),
+      length-drop 5 (a .plane .now),
+    )
 
 -- src/lib.rt:208:1
 returns : tie.Need-returns
