@@ -3,3 +3,4 @@ pub mod Steps
 pub mod Laws
 pub mod Words
 pub mod Parts
+pub mod Marked

@@ -8,7 +8,7 @@ use native.Mathlib.Numerals.{add-one}
 use native.Mathlib.Omega.{arith}
 use lib.Dec.{ltb}
 use lib.ListN.{length, getD, take, drop, length-append, length-drop, length-set, length-replicate, take-append-drop, drop-of-length-le}
-use lib.Seq.{length-take-le, drop-cons, drop-drop, take-at, drop-at, getD-at, drop-append-add, getD-append-add}
+use lib.Seq.{length-take-le, drop-cons, drop-drop, take-at, getD-at, drop-append-add, getD-append-add}
 use Rattle.gf2.proofs.Inverse.{length-colStep, length-units}
 use Rattle.gf2.proofs.Loops.{length-solStep}
 use Rattle.bucket.specs.declared.Bucket.{Bucket}
@@ -18,7 +18,7 @@ use Rattle.bucket.specs.Words.{bucketWords, wordsOf, bucketFrom, Shaped}
 module _ (n r : ℕ) (b : Bucket) (h : Shaped n r b) where
   pub length-words : length (wordsOf b) ≡ bucketWords n r
   unfolding wordsOf
-  length-words = simp length-append (omega (arith, h .cols, h .sols))
+  length-words = simp length-append (omega arith)
 
   module _ (rest : List ℕ) where
     abbrev after-cols : List ℕ

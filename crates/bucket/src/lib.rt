@@ -1,7 +1,8 @@
 // One bucket of document 01: 64 columns of the inverse of K, the mark word of occupied rows, 8 solution words and the bound.
 // Each step is an equation with a definition of specs/Bucket.antt, which follows document 01's "One bucket" sentence by sentence
 // at every number of rows and of solution words; proofs/Steps.antt has what the steps keep (K and its inverse, live vectors, plans).
-// Cites gf2 (vectors) and codec (parts of a slice). settle and table build on it.
+// specs/Words.antt has the words of a bucket, as load and store find and leave them in a part of a table.
+// Cites gf2 (vectors) and lists. settle and table build on it.
 ghost use mathlib.Core.Path.{_≡_};
 ghost use Prim.Native.Nat.{_<_, _≤_, _^_};
 ghost use lib.Count.{trailingZeros};
@@ -172,11 +173,12 @@ impl Bucket {
         ensures { λ r. do ⌜ r ≡ rowOf (← ⟦Bucket::ROWS⟧ .entry) k self ⌝ }
     {
         let cols = self.cols;
+        let mark = self.mark;
         let p = product(cols, k);
         let i = lowest(p);
         if i < Self::ROWS {
             if p == power(i) {
-                if (self.mark >> i) % 2 == 1 {
+                if (mark >> i) % 2 == 1 {
                     return i;
                 }
             }
@@ -193,15 +195,14 @@ impl Bucket {
         let p = product(cols, k);
         let i = lowest(p ^ (p & mark));
         if i < Self::ROWS {
-            let unit = power(i);
-            let next = col_step(cols[i], k ^ unit, cols);
+            let next = col_step(cols[i], k ^ power(i), cols);
             let sols = self.sols;
             let solved = sol_step(next[i], self.lookup(k) ^ plan, sols);
             return Tried {
                 done: true,
                 bucket: Self {
                     cols: next,
-                    mark: mark | unit,
+                    mark: mark | power(i),
                     sols: solved,
                     bound: self.bound,
                 },
@@ -248,14 +249,13 @@ impl Bucket {
             let mark = self.mark;
             let u = cols[i];
             let j = lowest(u);
-            let unit = power(j);
-            let next = exchanged(i, j, col_step(u, k ^ unit, cols));
+            let next = exchanged(i, j, col_step(u, k ^ power(j), cols));
             let sols = self.sols;
             return Tried {
                 done: true,
                 bucket: Self {
                     cols: next,
-                    mark: mark ^ (mark & unit),
+                    mark: mark ^ (mark & power(j)),
                     sols,
                     bound: self.bound,
                 },

@@ -2,7 +2,7 @@
 -- Assumes nothing.
 use mathlib.Core.Path.{_≡_, refl, sym, _∙_}
 use mathlib.Core.List.{_++_}
-use Prim.Native.Nat.{_-_, _≤_, _<_}
+use Prim.Native.Nat.{_-_, _<_}
 use native.Mathlib.Omega.{arith}
 use borrow.Author.Needs.{needs}
 use lib.ListN.{length, take, drop, length-set}
@@ -12,10 +12,10 @@ use Rattle.bucket.proofs.col_step.Statement.{statement}
 use Rattle.bucket.proofs.col_step.Tie as tie
 
 abbrev Inv-loop : tie.InvT-loop
-Inv-loop u v out₀ i₀ out i = (i ≤ 64) × (length out ≡ 64) × (take i out ++ colStep u v (drop i out) ≡ colStep u v out₀)
+Inv-loop u v out₀ i₀ out i = (length out ≡ length out₀) × (take i out ++ colStep u v (drop i out) ≡ colStep u v out₀)
 
 abbrev μ-loop : tie.MeasureT-loop
-μ-loop u v out₀ i₀ out i = 64 - i
+μ-loop u v out₀ i₀ out i = length out₀ - i
 
 loop-holds : tie.Need-loop-holds Inv-loop μ-loop
 loop-holds c = search needs
@@ -48,15 +48,14 @@ loop-again : tie.Need-loop-again Inv-loop μ-loop
 loop-again c =
     let b = c .before .before .before in
     let h : b .loop .i < length (b .loop .out) = omega arith in (
-      omega arith,
-      simp length-set (b .loop .inv .1),
-      colStep-at _ _ _ _ _ h (cc) ∙ b .loop .inv .2,
+      simp length-set (b .loop .inv .0),
+      colStep-at _ _ _ _ _ h (cc) ∙ b .loop .inv .1,
     )
 
 returns : tie.Need-returns Inv-loop μ-loop
 returns c =
     let b = c .before in
-    sym (front-end (colStep (b .before .args .u) (b .before .args .v)) (b .loop .out) (b .loop .i) refl (omega arith)) ∙ b .loop .inv .2
+    sym (front-end (colStep (b .before .args .u) (b .before .args .v)) (b .loop .out) (b .loop .i) refl (omega arith)) ∙ b .loop .inv .1
 
 pub col-step-spec : {M : Type 1} → statement M
 col-step-spec =

@@ -10,7 +10,7 @@ use Rattle.bucket.proofs.put.Statement.{statement}
 use Rattle.bucket.proofs.put.Tie as tie
 
 abbrev Inv-loop : tie.InvT-loop
-Inv-loop to₀ from i₀ to i = (i ≤ length from) × (length to ≡ length from) × (take i to ≡ take i from)
+Inv-loop to₀ from i₀ to i = (length to ≡ length from) × (take i to ≡ take i from)
 
 abbrev μ-loop : tie.MeasureT-loop
 μ-loop to₀ from i₀ to i = length from - i
@@ -40,7 +40,7 @@ loop-again : tie.Need-loop-again Inv-loop μ-loop
 loop-again c =
     let b = c .before .before in
     let h : b .loop .i < length (b .loop .to) = omega arith in
-    (omega arith, simp length-set (b .loop .inv .1), fill-step _ _ _ _ h (c .before .loop-test .taken) refl (b .loop .inv .2))
+    (simp length-set (b .loop .inv .0), fill-step _ _ _ _ h (c .before .loop-test .taken) refl (b .loop .inv .1))
 
 same-length : tie.Need-same-length Inv-loop μ-loop
 same-length c = search needs
@@ -49,7 +49,7 @@ returns : tie.Need-returns Inv-loop μ-loop
 returns c =
     let l = c .before .loop in
     let h : length (l .to) ≤ l .i = omega arith in
-    fill-end (l .to) _ (l .i) h (c .loop-test .left) (l .inv .2)
+    fill-end (l .to) _ (l .i) h (c .loop-test .left) (l .inv .1)
 
 pub put-spec : {M : Type 1} → statement M
 put-spec =

@@ -2,7 +2,7 @@
 -- Assumes nothing.
 use mathlib.Core.Path.{_≡_, refl, sym, _∙_}
 use mathlib.Core.List.{_++_}
-use Prim.Native.Nat.{_-_, _≤_, _<_}
+use Prim.Native.Nat.{_-_, _<_}
 use native.Mathlib.Omega.{arith}
 use borrow.Author.Needs.{needs}
 use lib.ListN.{length, take, drop, length-set}
@@ -12,10 +12,10 @@ use Rattle.bucket.proofs.sol_step.Statement.{statement}
 use Rattle.bucket.proofs.sol_step.Tie as tie
 
 abbrev Inv-loop : tie.InvT-loop
-Inv-loop u d out₀ left₀ i₀ out left i = (i ≤ 8) × (length out ≡ 8) × (take i out ++ solStep u left (drop i out) ≡ solStep u d out₀)
+Inv-loop u d out₀ left₀ i₀ out left i = (length out ≡ length out₀) × (take i out ++ solStep u left (drop i out) ≡ solStep u d out₀)
 
 abbrev μ-loop : tie.MeasureT-loop
-μ-loop u d out₀ left₀ i₀ out left i = 8 - i
+μ-loop u d out₀ left₀ i₀ out left i = length out₀ - i
 
 loop-holds : tie.Need-loop-holds Inv-loop μ-loop
 loop-holds c = search needs
@@ -45,15 +45,14 @@ loop-again : tie.Need-loop-again Inv-loop μ-loop
 loop-again c =
     let b = c .before .before in
     let h : b .loop .i < length (b .loop .out) = omega arith in (
-      omega arith,
-      simp length-set (b .loop .inv .1),
-      solStep-at _ _ _ _ _ h (c .flip-if .ensures) ∙ b .loop .inv .2,
+      simp length-set (b .loop .inv .0),
+      solStep-at _ _ _ _ _ h (c .flip-if .ensures) ∙ b .loop .inv .1,
     )
 
 returns : tie.Need-returns Inv-loop μ-loop
 returns c =
     let b = c .before in
-    sym (front-end (solStep (b .before .args .u) (b .loop .left)) (b .loop .out) (b .loop .i) refl (omega arith)) ∙ b .loop .inv .2
+    sym (front-end (solStep (b .before .args .u) (b .loop .left)) (b .loop .out) (b .loop .i) refl (omega arith)) ∙ b .loop .inv .1
 
 pub sol-step-spec : {M : Type 1} → statement M
 sol-step-spec =

@@ -1,6 +1,8 @@
 -- `bucket::Bucket::withdraw` meets its contract. The column of a live vector is not 0, so it has a lowest bit.
 -- Assumes nothing.
 use mathlib.Core.Path.{_≡_}
+use Prim.Native.Nat.{_<_}
+use native.Mathlib.Omega.{arith}
 use lib.ListN.{length, getD}
 use mir.Val.{Fits}
 use mir.Syntax.{w64}
@@ -8,8 +10,26 @@ use borrow.Author.Needs.{needs}
 use borrow.Author.Tests.{lt-ltb, le-ltb}
 use Rattle.bucket.specs.Bucket.{withdrawAt, withdraw}
 use Rattle.bucket.proofs.Laws.{live-row, freed-lt}
+use Rattle.bucket.proofs.Bucket.row_of.Reads as row-of-reads
+use Rattle.bucket.proofs.lowest.Reads as lowest-reads
+use Rattle.bucket.proofs.power.Reads as power-reads
+use Rattle.bucket.proofs.col_step.Reads as col-step-reads
+use Rattle.bucket.proofs.exchanged.Reads as exchanged-reads
+use Rattle.bucket.proofs.Bucket.withdraw.Reads as reads
+use Rattle.bucket.proofs.Bucket.withdraw.Lts as lts
 use Rattle.bucket.proofs.Bucket.withdraw.Statement.{statement}
 use Rattle.bucket.proofs.Bucket.withdraw.Tie as tie
+
+-- j is a row
+freed :
+    (c : lts.After-lowest (row-of-reads.Asked, row-of-reads.Learnt, lowest-reads.Asked, lowest-reads.Learnt, power-reads.Asked, power-reads.Learnt, col-step-reads.Asked, col-step-reads.Learnt, exchanged-reads.Asked, exchanged-reads.Learnt) reads.Pre reads.Post)
+    → c .lowest .result < 64
+freed c =
+    let b = c .before .before in
+    let a = b .before .before .args in
+    let h : length (a .self .cols) ≡ 64 = search needs in
+    let f : Fits w64 (getD (a .self .cols) (b .before .row-of .result) 0) = search needs in
+    freed-lt 64 (a .k) (a .self) h (b .before .row-of .ensures) (b .if1 .taken) (f .fits) (c .lowest .ensures)
 
 row-of-requires : tie.Need-row-of-requires
 row-of-requires c κs = search needs
@@ -24,31 +44,24 @@ lowest-requires : tie.Need-lowest-requires
 lowest-requires c κs = search needs
 
 power-requires : tie.Need-power-requires
-power-requires c κs =
-    let b = c .before .before in
-    let a = b .before .before .args in
-    let h : length (a .self .cols) ≡ 64 = search needs in
-    let f : Fits w64 (getD (a .self .cols) (b .before .row-of .result) 0) = search needs in
-    freed-lt 64 (a .k) (a .self) h (b .before .row-of .ensures) (b .if1 .taken) (f .fits) (c .lowest .ensures)
+power-requires c κs = omega (arith, freed c)
 
 col-step-requires : tie.Need-col-step-requires
 col-step-requires c κs = search needs
 
 exchanged-requires : tie.Need-exchanged-requires
-exchanged-requires c κs =
-    let b = c .before .before .before .before in
-    let a = b .before .before .args in
-    let h : length (a .self .cols) ≡ 64 = search needs in
-    let f : Fits w64 (getD (a .self .cols) (b .before .row-of .result) 0) = search needs in
-    (b .if1 .taken, freed-lt 64 (a .k) (a .self) h (b .before .row-of .ensures) (b .if1 .taken) (f .fits) (c .before .before .lowest .ensures))
+exchanged-requires c κs = (omega arith, freed (c .before .before))
+
+power-requires-2 : tie.Need-power-requires-2
+power-requires-2 c κs = omega (arith, freed (c .before .before .before .before))
 
 returns : tie.Need-returns
 unfolding withdraw withdrawAt
 returns c =
-    let b = c .before .before .before .before .before .before in
+    let b = c .before .before .before .before .before .before .before in
     let a = b .before .before .args in
     let h : length (a .self .cols) ≡ 64 = search needs in
-    rw (live-row 64 (a .k) (a .self) h, ← b .before .row-of .ensures, lt-ltb _ _ (b .if1 .taken), c .before .exchanged .ensures, c .before .before .col-step .ensures, c .before .before .before .power .ensures, c .before .before .before .before .lowest .ensures)
+    rw (live-row 64 (a .k) (a .self) h, ← b .before .row-of .ensures, lt-ltb _ _ (b .if1 .taken), c .power2 .ensures, c .before .before .exchanged .ensures, c .before .before .before .col-step .ensures, c .before .before .before .before .power .ensures, c .before .before .before .before .before .lowest .ensures)
 
 returns-2 : tie.Need-returns-2
 unfolding withdraw
@@ -68,5 +81,6 @@ withdraw-spec =
     power-requires
     col-step-requires
     exchanged-requires
+    power-requires-2
     returns
     returns-2)

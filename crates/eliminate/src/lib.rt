@@ -1,0 +1,180 @@
+// K's rows from the 64 columns of its inverse, or the fact that there are none: elimination without counting ones.
+// The rows that the mark does not name must be units; their columns need no pass, and an empty bucket none at all.
+// The contract is an equation (`soundRows`); proofs/Exact.antt says that it is exact both ways.
+// Cites gf2. table cites it for the test of soundness.
+ghost use mathlib.Core.Path.{_≡_};
+ghost use mathlib.Core.Bool.{true};
+ghost use Prim.Native.Nat.{_/_, _%_, _^_, _<_};
+ghost use lib.Count.{trailingZeros};
+ghost use lib.ListN.{length, getD};
+ghost use Rattle.gf2.specs.Vectors.{flipIf, solStep, units};
+ghost use Rattle.eliminate.specs.Elimination.{clearFrom, passed, pick, ordered, eliminated, freeCols, soundRows};
+
+pub struct Rows {
+    pub ok: bool,
+    pub rows: [u64; 64],
+}
+
+fn power(i: usize) -> u64
+    requires { ⌜ i < 64 ⌝ }
+    ensures { λ r. ⌜ r ≡ 2 ^ i ⌝ }
+{
+    1 << i
+}
+
+fn flip_if(d: u64, u: u64, a: u64) -> u64
+    ensures { λ r. ⌜ r ≡ flipIf d u a ⌝ }
+{
+    if d == 0 { a } else { a ^ u }
+}
+
+// `w` is XORed into each number from `j` on that has bit `p`.
+fn clear_from(t: &mut [u64; 64], j: usize, p: usize, w: u64)
+    requires { ⌜ (p < 64) × (length (now t) ≡ 64) ⌝ }
+    ensures { λ _. ⌜ now (t .exit) ≡ clearFrom j p w (now (t .entry)) ⌝ }
+{
+    let mut k = j;
+    while k < 64 {
+        let a = t[k];
+        t[k] = flip_if((a >> p) % 2, w, a);
+        k += 1;
+    }
+}
+
+// The same; where row `j` is free, only `y` at `j`.
+fn pass(t: &mut [u64; 64], occupied: u64, j: usize, p: usize, w: u64, y: u64)
+    requires { ⌜ (j < 64) × (p < 64) × (length (now t) ≡ 64) ⌝ }
+    ensures { λ _. ⌜ now (t .exit) ≡ passed (occupied / 2 ^ j % 2) j p w y (now (t .entry)) ⌝ }
+{
+    if (occupied >> j) % 2 == 0 {
+        t[j] = y;
+    } else {
+        clear_from(t, j, p, w);
+    }
+}
+
+// `u` is XORed into each number whose bit of `d` is set.
+fn flip_all(t: &mut [u64; 64], u: u64, d: u64)
+    requires { ⌜ length (now t) ≡ 64 ⌝ }
+    ensures { λ _. ⌜ now (t .exit) ≡ solStep u d (now (t .entry)) ⌝ }
+{
+    let mut left = d;
+    while left != 0 {
+        let a = u64::trailing_zeros(left) as usize;
+        t[a] = t[a] ^ u;
+        left = left & (left - 1);
+    }
+}
+
+// `j` if `f` has bit `j`, else the lowest bit of `f`, else 64.
+fn pick_of(j: usize, f: u64) -> usize
+    requires { ⌜ j < 64 ⌝ }
+    ensures { λ r. ⌜ r ≡ pick 64 j f ⌝ }
+{
+    if (f >> j) % 2 == 0 {
+        return u64::trailing_zeros(f) as usize;
+    }
+    j
+}
+
+fn unit_rows() -> [u64; 64]
+    ensures { λ r. ⌜ r ≡ units 64 ⌝ }
+{
+    let mut out = [0u64; 64];
+    let mut i: usize = 0;
+    while i < 64 {
+        out[i] = power(i);
+        i += 1;
+    }
+    out
+}
+
+fn dual_at(ds: &[u64; 64], x: u64) -> u64
+    requires { ⌜ length (now ds) ≡ 64 ⌝ }
+    ensures { λ r. ⌜ r ≡ getD (now (ds .entry)) (trailingZeros 64 x) 0 ⌝ }
+{
+    let a = u64::trailing_zeros(x) as usize;
+    if a < 64 { ds[a] } else { 0 }
+}
+
+fn in_order(ds: &[u64; 64], t: &mut [u64; 64])
+    requires { ⌜ (length (now ds) ≡ 64) × (length (now t) ≡ 64) ⌝ }
+    ensures { λ _. ⌜ now (t .exit) ≡ ordered 64 (now (ds .entry)) (now (t .entry)) ⌝ }
+{
+    let mut i: usize = 0;
+    while i < 64 {
+        t[i] = dual_at(ds, t[i]);
+        i += 1;
+    }
+}
+
+// The elimination. Outside `occupied` each column has its own bit alone, so the column of a free row needs no pass.
+fn eliminate(cols: [u64; 64], occupied: u64) -> Rows
+    requires { ⌜ freeCols 0 occupied cols ≡ true ⌝ }
+    ensures { λ r. ⌜ r ≡ eliminated 64 cols ⌝ }
+{
+    let mut prods = cols;
+    let mut duals = unit_rows();
+    let mut mark: u64 = 0;
+    let mut j: usize = 0;
+    while j < 64 {
+        let x = prods[j];
+        let p = pick_of(j, x ^ (x & mark));
+        if 64 <= p {
+            return Rows {
+                ok: false,
+                rows: cols,
+            };
+        }
+        let unit = power(p);
+        let w = x ^ unit;
+        if w != 0 {
+            pass(&mut prods, occupied, j, p, w, unit);
+            let u = duals[p];
+            flip_all(&mut duals, u, w);
+        }
+        mark = mark | unit;
+        j += 1;
+    }
+    in_order(&duals, &mut prods);
+    Rows {
+        ok: true,
+        rows: prods,
+    }
+}
+
+// Each column has, outside `mark`, its own bit alone.
+fn free_cols(cols: &[u64; 64], mark: u64) -> bool
+    requires { ⌜ length (now cols) ≡ 64 ⌝ }
+    ensures { λ r. ⌜ r ≡ freeCols 0 mark (now (cols .entry)) ⌝ }
+{
+    let mut i: usize = 0;
+    while i < 64 {
+        let c = cols[i];
+        let u = power(i);
+        if c ^ (c & mark) != u ^ (u & mark) {
+            return false;
+        }
+        i += 1;
+    }
+    true
+}
+
+// K's rows, if there are any and those outside `mark` are units. Else `ok` is false, and `rows` are the columns as they came.
+pub fn rows_of(cols: [u64; 64], mark: u64) -> Rows
+    ensures { λ r. ⌜ r ≡ soundRows 64 mark cols ⌝ }
+{
+    if free_cols(&cols, mark) {
+        if mark == 0 {
+            return Rows {
+                ok: true,
+                rows: cols,
+            };
+        }
+        return eliminate(cols, mark);
+    }
+    Rows {
+        ok: false,
+        rows: cols,
+    }
+}

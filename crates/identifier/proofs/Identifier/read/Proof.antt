@@ -1,0 +1,108 @@
+-- `identifier::Identifier::read` meets its contract. The loop's invariant: scanning the bytes that are left, from i and h on, finds what the bytes are.
+-- Assumes nothing.
+use borrow.Author.Needs.{needs}
+use mathlib.Core.Path.{_≡_, sym, ap, _∙_}
+use Prim.Native.Nat.{_≤_, _-_}
+use native.Mathlib.Numerals.{add-one}
+use native.Mathlib.Omega.{arith}
+use lib.ListN.{length, drop, getD, drop-of-length-le}
+use borrow.Author.Tests.{le-leb, lt-leb}
+use Rattle.identifier.specs.Identifier.{foldOf, readOf}
+use Rattle.identifier.specs.declared.Read.the-variants.{Word}
+use Rattle.identifier.proofs.Scan.{scan, scan-read, scan-refused, scan-more, scan-end}
+use Rattle.identifier.proofs.Identifier.read.Statement.{statement}
+use Rattle.identifier.proofs.Identifier.read.Tie as tie
+
+abbrev Inv-loop : tie.InvT-loop
+Inv-loop s n table h₀ i₀ h i = (i ≤ length s) × (scan i h (drop i s) ≡ readOf s)
+
+abbrev μ-loop : tie.MeasureT-loop
+μ-loop s n table h₀ i₀ h i = length s - i
+
+returns : tie.Need-returns Inv-loop μ-loop
+unfolding readOf
+returns c = simp (lt-leb _ _ (c .if1 .taken))
+
+returns-2 : tie.Need-returns-2 Inv-loop μ-loop
+unfolding readOf
+returns-2 c = simp (le-leb _ _ (c .before .if1 .left), lt-leb _ _ (c .if2 .taken))
+
+table-requires : tie.Need-table-requires Inv-loop μ-loop
+table-requires c κs = search needs
+
+loop-holds : tie.Need-loop-holds Inv-loop μ-loop
+loop-holds c =
+    let tested = c .before in
+    (search needs, scan-read (tested .before .before .before .args .s .now) (rw (le-leb _ _ (tested .before .if1 .left), le-leb _ _ (tested .if2 .left))))
+
+shared-slice-read-b : tie.Need-shared-slice-read-b Inv-loop μ-loop
+shared-slice-read-b c = search needs
+
+cast-b : tie.Need-cast-b Inv-loop μ-loop
+cast-b c = omega (arith, c .shared-slice-known2 .given (c .before .before .loop .i))
+
+array-read-b : tie.Need-array-read-b Inv-loop μ-loop
+array-read-b c = omega (arith, c .shared-slice-known2 .given (c .before .before .loop .i))
+
+-- the entry of the byte at i
+entry : (c : tie.After-shared-slice-known2 Inv-loop μ-loop) →
+    let at-loop = c .before .before in
+    let b = getD (at-loop .before .before .before .before .before .args .s .now) (at-loop .loop .i) 0 in
+    getD (at-loop .before .table .result) b 0 ≡ foldOf b
+entry c = c .before .before .before .table .ensures _ (c .shared-slice-known2 .given (c .before .before .loop .i) .fits)
+
+returns-3 : tie.Need-returns-3 Inv-loop μ-loop
+returns-3 c =
+    let at-loop = c .before .before .before in
+    let s = at-loop .before .before .before .before .before .args .s .now in
+    let i = at-loop .loop .i in
+    sym (scan-refused s i (at-loop .loop .h) (search needs) (sym (entry (c .before)) ∙ c .if3 .taken)) ∙ at-loop .loop .inv .1
+
+fnv-step-requires : tie.Need-fnv-step-requires Inv-loop μ-loop
+fnv-step-requires c κs = search needs
+
+add-i : tie.Need-add-i Inv-loop μ-loop
+add-i c = search needs
+
+loop-less : tie.Need-loop-less Inv-loop μ-loop
+loop-less c = search needs
+
+loop-again : tie.Need-loop-again Inv-loop μ-loop
+loop-again c =
+    let here = c .before .before in
+    let at-loop = here .before .before in
+    let s = at-loop .before .before .before .before .before .args .s .now in
+    let i = at-loop .loop .i in
+    let next = scan-more s i (at-loop .loop .h) (search needs) (λ e. c .before .if3 .left (entry here ∙ e)) in
+    (search needs, rw (add-one i, c .fnv-step .ensures, entry here) (sym next ∙ at-loop .loop .inv .1))
+
+mix-requires : tie.Need-mix-requires Inv-loop μ-loop
+mix-requires c κs = search needs
+
+returns-4 : tie.Need-returns-4 Inv-loop μ-loop
+returns-4 c =
+    let at-loop = c .before .before in
+    let s = at-loop .before .before .before .before .before .args .s .now in
+    let end : length s ≤ at-loop .loop .i = omega arith in
+    ap Word (c .mix .ensures) ∙ sym (scan-end (at-loop .loop .i) (at-loop .loop .h)) ∙ rw drop-of-length-le at (at-loop .loop .inv .1)
+
+pub read-spec : {M : Type 1} → statement M
+read-spec =
+    tie.close
+    (tie.spec
+    Inv-loop
+    μ-loop
+    returns
+    returns-2
+    table-requires
+    loop-holds
+    shared-slice-read-b
+    cast-b
+    array-read-b
+    returns-3
+    fnv-step-requires
+    add-i
+    loop-less
+    loop-again
+    mix-requires
+    returns-4)

@@ -1,0 +1,201 @@
+//! The plane: its writer and its reader (document 01, "The plane").
+//!
+//! Decisions:
+//! - The first record that is missing altogether counts as cut: its offset is
+//!   the length of the plane.
+//! - "A base record must exceed the one before" compares w' alone, strictly;
+//!   the first base record may have w' = 0.
+//! - The reader does not ask whether a base record belongs in the base list by
+//!   the bounds: no cause names that. Such a record is never reached.
+//! - A kind 4 whose body is not the four bytes has a value not allowed: the
+//!   offset is that of the kind 4 record.
+//! - The whole plane is tested before the lookup: a wrong record anywhere is
+//!   cause 10, also where this identifier would not need it.
+
+use crate::answer::*;
+use crate::bucket::{parity, BOUND_MAX, PLAN_BITS};
+use crate::identifier::{self, level1_vector, level2_vector};
+use crate::table::{self, Shape, BASE_COUNT, BASE_MAX};
+
+pub const FORMAT: u8 = 1;
+pub const KIND_HEADER: u8 = 1;
+pub const KIND_BUCKET: u8 = 2;
+pub const KIND_BASE: u8 = 3;
+pub const KIND_END: u8 = 4;
+pub const END: [u8; 4] = [0x45, 0x4e, 0x44, 0x0a];
+
+/// Record lengths, kind byte included.
+pub const HEADER_LEN: usize = 1 + 4;
+pub const BUCKET_LEN: usize = 1 + 1 + 8 * PLAN_BITS;
+pub const BASE_LEN: usize = 1 + 8 + 1;
+pub const END_LEN: usize = 1 + END.len();
+
+/// The length of a plane.
+pub fn plane_len(buckets: usize, entries: usize) -> usize {
+    HEADER_LEN + BUCKET_LEN * buckets + BASE_LEN * entries + END_LEN
+}
+
+/// Writes the plane of a table to the output and returns its length; causes
+/// 4, 5 and 9.
+pub fn write(table: &[u64], output: &mut [u8]) -> Answer {
+    let shape = match table::check(table) {
+        Ok(shape) => shape,
+        Err(refusal) => return refusal,
+    };
+    let plane = plane_of(table, shape);
+    if output.len() < plane.len() {
+        return Answer::refused(OUTPUT_SHORT, plane.len() as u64);
+    }
+    output[..plane.len()].copy_from_slice(&plane);
+    Answer::accepted(plane.len() as u64)
+}
+
+/// The plane of a sound table.
+pub fn plane_of(table: &[u64], shape: Shape) -> Vec<u8> {
+    let entries = table[BASE_COUNT] as usize;
+    let mut plane = Vec::with_capacity(plane_len(shape.buckets(), entries));
+    plane.extend([
+        KIND_HEADER,
+        FORMAT,
+        shape.buckets1 as u8,
+        shape.buckets2 as u8,
+        entries as u8,
+    ]);
+    for index in 0..shape.buckets() {
+        let bucket = shape.read_bucket(table, index);
+        plane.extend([KIND_BUCKET, bucket.bound as u8]);
+        for sol in bucket.sols {
+            plane.extend(sol.to_le_bytes());
+        }
+    }
+    for index in 0..entries {
+        let (vector, plan) = shape.base_pair(table, index);
+        plane.push(KIND_BASE);
+        plane.extend(vector.to_le_bytes());
+        plane.push(plan as u8);
+    }
+    plane.push(KIND_END);
+    plane.extend(END);
+    plane
+}
+
+/// The plan the plane gives for an identifier; causes 1, 2 and 10.
+pub fn lookup(id: &[u8], plane: &[u8]) -> Answer {
+    let word = match identifier::word(id) {
+        Ok(word) => word,
+        Err(refusal) => return refusal,
+    };
+    lookup_word(word, plane)
+}
+
+/// `lookup` from the word on: cause 10.
+pub fn lookup_word(word: u64, plane: &[u8]) -> Answer {
+    match Plane::read(plane) {
+        Ok(plane) => Answer::accepted(u64::from(plane.plan(word))),
+        Err(offset) => Answer::refused(PLANE_WRONG, offset as u64),
+    }
+}
+
+/// A plane found right: its records, kind bytes included.
+#[derive(Clone, Copy, Debug)]
+pub struct Plane<'a> {
+    buckets1: u64,
+    buckets2: u64,
+    buckets: &'a [u8],
+    base: &'a [u8],
+}
+
+impl<'a> Plane<'a> {
+    /// Tests a plane; the error is the offset that cause 10 returns.
+    pub fn read(bytes: &'a [u8]) -> Result<Plane<'a>, usize> {
+        let header = record(bytes, 0, KIND_HEADER, HEADER_LEN)?;
+        let shape = Shape::new(u64::from(header[2]), u64::from(header[3])).ok_or(0usize)?;
+        let entries = usize::from(header[4]);
+        if header[1] != FORMAT || entries > BASE_MAX {
+            return Err(0);
+        }
+
+        let buckets_start = HEADER_LEN;
+        let mut at = buckets_start;
+        for _ in 0..shape.buckets() {
+            let bucket = record(bytes, at, KIND_BUCKET, BUCKET_LEN)?;
+            if u64::from(bucket[1]) > BOUND_MAX {
+                return Err(at);
+            }
+            at += BUCKET_LEN;
+        }
+
+        let base_start = at;
+        let mut before = None;
+        for _ in 0..entries {
+            let vector = number(&record(bytes, at, KIND_BASE, BASE_LEN)?[1..]);
+            if before.is_some_and(|before| vector <= before) {
+                return Err(at);
+            }
+            before = Some(vector);
+            at += BASE_LEN;
+        }
+
+        if record(bytes, at, KIND_END, END_LEN)?[1..] != END {
+            return Err(at);
+        }
+        if bytes.len() > at + END_LEN {
+            return Err(at + END_LEN);
+        }
+        Ok(Plane {
+            buckets1: shape.buckets1,
+            buckets2: shape.buckets2,
+            buckets: &bytes[buckets_start..base_start],
+            base: &bytes[base_start..at],
+        })
+    }
+
+    /// The plan of a word: by the first level that holds it, else by the base
+    /// list, else 0.
+    pub fn plan(&self, word: u64) -> u8 {
+        let vector = level1_vector(word);
+        let place = identifier::place(vector);
+        let bucket = self.bucket(identifier::bucket(place, self.buckets1));
+        if identifier::threshold(place) < u64::from(bucket[1]) {
+            return solve(bucket, vector);
+        }
+        let vector = level2_vector(word);
+        let place = identifier::place(vector);
+        let bucket = self.bucket(self.buckets1 + identifier::bucket(place, self.buckets2));
+        if identifier::threshold(place) < u64::from(bucket[1]) {
+            return solve(bucket, vector);
+        }
+        self.base
+            .chunks_exact(BASE_LEN)
+            .find(|entry| number(&entry[1..]) == vector)
+            .map_or(0, |entry| entry[BASE_LEN - 1])
+    }
+
+    fn bucket(&self, index: u64) -> &'a [u8] {
+        &self.buckets[BUCKET_LEN * index as usize..][..BUCKET_LEN]
+    }
+}
+
+/// The record of this kind and length at this offset; the error is the offset.
+fn record(bytes: &[u8], at: usize, kind: u8, len: usize) -> Result<&[u8], usize> {
+    match bytes.get(at..at + len) {
+        Some(record) if record[0] == kind => Ok(record),
+        _ => Err(at),
+    }
+}
+
+/// The little-endian number in the first 8 bytes.
+fn number(bytes: &[u8]) -> u64 {
+    let mut first = [0; 8];
+    first.copy_from_slice(&bytes[..8]);
+    u64::from_le_bytes(first)
+}
+
+/// The plan the solution words of a bucket record give for a vector.
+fn solve(bucket: &[u8], vector: u64) -> u8 {
+    let mut plan = 0;
+    for (c, sol) in bucket[2..].chunks_exact(8).enumerate() {
+        plan |= (parity(vector & number(sol)) as u8) << c;
+    }
+    plan
+}

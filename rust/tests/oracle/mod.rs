@@ -1,0 +1,625 @@
+//! A slow model of the requirement for the tests. It shares no code with the
+//! library (but for its `Answer` and `Bucket` structs, to compare by): hashes
+//! in 128-bit arithmetic, K kept as a plain list of rows, independence by
+//! rank, bounds by trying all of them.
+#![allow(dead_code)]
+
+use reference::answer::Answer;
+use reference::bucket::Bucket;
+use reference::rng::Rng;
+use std::collections::BTreeMap;
+
+const TWO_64: u128 = 1 << 64;
+
+pub fn fnv(bytes: &[u8]) -> u64 {
+    let mut hash: u128 = 0xcbf29ce484222325;
+    for &byte in bytes {
+        hash = ((hash ^ byte as u128) * 0x100000001b3) % TWO_64;
+    }
+    hash as u64
+}
+
+pub fn mix(n: u64) -> u64 {
+    let mut z = (n as u128 + 0x9e3779b97f4a7c15) % TWO_64;
+    z = ((z ^ (z >> 30)) * 0xbf58476d1ce4e5b9) % TWO_64;
+    z = ((z ^ (z >> 27)) * 0x94d049bb133111eb) % TWO_64;
+    (z ^ (z >> 31)) as u64
+}
+
+pub fn fold(byte: u8) -> Option<u8> {
+    const FROM: &[u8] = b"abcdefghijklmnopqrstuvwxyzABCDEFGHIJKLMNOPQRSTUVWXYZ0123456789*-_=:+|@.";
+    const TO: &[u8] = b"ABCDEFGHIJKLMNOPQRSTUVWXYZABCDEFGHIJKLMNOPQRSTUVWXYZ0123456789*-_=:+|@.";
+    FROM.iter().position(|&b| b == byte).map(|i| TO[i])
+}
+
+pub fn word(bytes: &[u8]) -> Result<u64, Answer> {
+    if bytes.is_empty() || bytes.len() > 20 {
+        return Err(Answer {
+            cause: 1,
+            value: bytes.len() as u64,
+        });
+    }
+    let mut folded = Vec::new();
+    for (i, &byte) in bytes.iter().enumerate() {
+        match fold(byte) {
+            Some(byte) => folded.push(byte),
+            None => {
+                return Err(Answer {
+                    cause: 2,
+                    value: i as u64,
+                })
+            }
+        }
+    }
+    Ok(mix(fnv(&folded)))
+}
+
+/// Allowed bytes only.
+pub fn random_identifier(rng: &mut Rng, len: usize) -> Vec<u8> {
+    const ALLOWED: &[u8] =
+        b"abcdefghijklmnopqrstuvwxyzABCDEFGHIJKLMNOPQRSTUVWXYZ0123456789*-_=:+|@.";
+    (0..len).map(|_| *rng.pick(ALLOWED)).collect()
+}
+
+pub fn second(word: u64) -> u64 {
+    mix(mix(word))
+}
+
+pub fn threshold(vector: u64) -> u64 {
+    mix(vector) % 8
+}
+
+/// Whether no nonempty selection of the vectors has XOR 0.
+pub fn independent(vectors: &[u64]) -> bool {
+    let mut rest = vectors.to_vec();
+    while let Some(v) = rest.pop() {
+        if v == 0 {
+            return false;
+        }
+        let top = 63 - v.leading_zeros();
+        for other in &mut rest {
+            if *other >> top & 1 == 1 {
+                *other ^= v;
+            }
+        }
+    }
+    true
+}
+
+/// One bucket as its K, kept as rows, and the 64 bytes Z_j.
+#[derive(Clone)]
+pub struct SlowBucket {
+    pub rows: Vec<u64>,
+    pub occupied: Vec<bool>,
+    pub z: Vec<u8>,
+    pub bound: u64,
+}
+
+impl SlowBucket {
+    pub fn empty() -> SlowBucket {
+        SlowBucket {
+            rows: (0..64).map(|j| 1u64 << j).collect(),
+            occupied: vec![false; 64],
+            z: vec![0; 64],
+            bound: 8,
+        }
+    }
+
+    pub fn live(&self) -> Vec<u64> {
+        (0..64)
+            .filter(|&j| self.occupied[j])
+            .map(|j| self.rows[j])
+            .collect()
+    }
+
+    pub fn row(&self, k: u64) -> Option<usize> {
+        (0..64).find(|&j| self.occupied[j] && self.rows[j] == k)
+    }
+
+    pub fn lookup(&self, k: u64) -> u8 {
+        (0..64)
+            .filter(|&j| k >> j & 1 == 1)
+            .fold(0, |plan, j| plan ^ self.z[j])
+    }
+
+    fn with_row(&self, i: usize, v: u64) -> Vec<u64> {
+        let mut rows = self.rows.clone();
+        rows[i] = v;
+        rows
+    }
+
+    /// K with k in row i is invertible exactly when bit i of the product of k
+    /// is 1; so the rows can be tried by rank alone.
+    pub fn add(&mut self, k: u64, plan: u8) -> bool {
+        let row = (0..64)
+            .filter(|&i| !self.occupied[i])
+            .find(|&i| independent(&self.with_row(i, k)));
+        let Some(i) = row else {
+            return false;
+        };
+        self.rows[i] = k;
+        self.occupied[i] = true;
+        self.set_plan(i, plan);
+        true
+    }
+
+    /// Row i gives `plan` from now on, every other row what it gave before.
+    pub fn set_plan(&mut self, i: usize, plan: u8) {
+        let mut goals: Vec<u8> = self.rows.iter().map(|&row| self.lookup(row)).collect();
+        goals[i] = plan;
+        self.z = solve(&self.rows, &goals);
+    }
+
+    /// Bit j of column i is 1 exactly when K with e_j in row i is invertible.
+    pub fn withdraw(&mut self, k: u64) {
+        let i = self.row(k).unwrap();
+        let j = (0..64)
+            .find(|&j| independent(&self.with_row(i, 1 << j)))
+            .unwrap();
+        self.rows[i] = 1 << j;
+        self.rows.swap(i, j);
+        self.occupied.swap(i, j);
+        self.occupied[j] = false;
+        if i != j {
+            self.occupied[i] = true;
+        }
+    }
+
+    /// What leaves, by the words of the requirement, one step at a time.
+    pub fn settle(&mut self, k: u64, plan: u8, threshold: &dyn Fn(u64) -> u64) -> Vec<(u64, u8)> {
+        let mut leaving = Vec::new();
+        loop {
+            if threshold(k) >= self.bound {
+                leaving.push((k, plan));
+                return leaving;
+            }
+            if self.add(k, plan) {
+                return leaving;
+            }
+            self.bound -= 1;
+            while let Some(v) = self
+                .live()
+                .into_iter()
+                .filter(|&v| threshold(v) == self.bound)
+                .min()
+            {
+                leaving.push((v, self.lookup(v)));
+                self.withdraw(v);
+            }
+        }
+    }
+
+    /// The same as the library keeps it.
+    pub fn as_bucket(&self) -> Bucket {
+        let mut bucket = Bucket::empty();
+        for i in 0..64 {
+            // Column i of the inverse solves K x = e_i.
+            let goals: Vec<u8> = (0..64).map(|r| u8::from(r == i)).collect();
+            let x = solve(&self.rows, &goals);
+            bucket.cols[i] = (0..64).fold(0, |col, j| col | (x[j] as u64) << j);
+        }
+        bucket.mark = (0..64).fold(0, |mark, j| mark | (self.occupied[j] as u64) << j);
+        for c in 0..8 {
+            bucket.sols[c] = (0..64).fold(0, |sol, j| sol | (self.z[j] as u64 >> c & 1) << j);
+        }
+        bucket.bound = self.bound;
+        bucket
+    }
+}
+
+/// The z with XOR of z_j over the bits j of row r = goal r, for every r.
+pub fn solve(rows: &[u64], goals: &[u8]) -> Vec<u8> {
+    let mut equations: Vec<(u64, u8)> = rows.iter().copied().zip(goals.iter().copied()).collect();
+    let mut z = vec![0; 64];
+    for bit in 0..64 {
+        let at = equations
+            .iter()
+            .position(|&(row, _)| row >> bit & 1 == 1 && row & ((1u64 << bit) - 1) == 0)
+            .expect("invertible");
+        let (pivot, goal) = equations[at];
+        for (i, equation) in equations.iter_mut().enumerate() {
+            if i != at && equation.0 >> bit & 1 == 1 {
+                equation.0 ^= pivot;
+                equation.1 ^= goal;
+            }
+        }
+    }
+    for (row, goal) in equations {
+        assert!(row.is_power_of_two());
+        z[row.trailing_zeros() as usize] = goal;
+    }
+    z
+}
+
+/// The whole table as a plain map from live words to plans, and the bounds.
+#[derive(Clone)]
+pub struct SlowTable {
+    pub buckets1: usize,
+    pub buckets2: usize,
+    pub bounds1: Vec<u64>,
+    pub bounds2: Vec<u64>,
+    pub plans: BTreeMap<u64, u8>,
+}
+
+fn bucket_of(vector: u64, buckets: usize) -> usize {
+    (mix(vector) / 8 % buckets as u64) as usize
+}
+
+impl SlowTable {
+    pub fn open(buckets1: usize, buckets2: usize) -> SlowTable {
+        SlowTable {
+            buckets1,
+            buckets2,
+            bounds1: vec![8; buckets1],
+            bounds2: vec![8; buckets2],
+            plans: BTreeMap::new(),
+        }
+    }
+
+    pub fn held1(&self, word: u64) -> bool {
+        threshold(word) < self.bounds1[bucket_of(word, self.buckets1)]
+    }
+
+    pub fn held2(&self, word: u64) -> bool {
+        let v = second(word);
+        threshold(v) < self.bounds2[bucket_of(v, self.buckets2)]
+    }
+
+    /// The words of the base list, ascending by w'.
+    pub fn base(&self) -> Vec<(u64, u8)> {
+        let mut base: Vec<(u64, u8)> = self
+            .plans
+            .iter()
+            .filter(|(&w, _)| !self.held1(w) && !self.held2(w))
+            .map(|(&w, &plan)| (second(w), plan))
+            .collect();
+        base.sort();
+        base
+    }
+
+    pub fn add(&mut self, word: u64, plan: u8) -> Answer {
+        if let Some(&plan) = self.plans.get(&word) {
+            return Answer {
+                cause: 6,
+                value: plan as u64,
+            };
+        }
+        let mut next = self.clone();
+        next.plans.insert(word, plan);
+
+        // The greatest bound, not above the present one, under which the
+        // words due there are independent. Level 1 first, as it settles what
+        // is due at level 2. Only the new word's bucket can change there.
+        let index = bucket_of(word, self.buckets1);
+        let due: Vec<u64> = next
+            .plans
+            .keys()
+            .copied()
+            .filter(|&w| bucket_of(w, self.buckets1) == index)
+            .collect();
+        next.bounds1[index] = greatest_bound(self.bounds1[index], &due);
+        let mut due = vec![Vec::new(); self.buckets2];
+        for &w in next.plans.keys() {
+            if !next.held1(w) {
+                let v = second(w);
+                due[bucket_of(v, self.buckets2)].push(v);
+            }
+        }
+        for (index, due) in due.iter().enumerate() {
+            next.bounds2[index] = greatest_bound(self.bounds2[index], due);
+        }
+
+        if next.base().len() > 64 {
+            return Answer { cause: 8, value: 0 };
+        }
+        *self = next;
+        Answer {
+            cause: 0,
+            value: self.plans.len() as u64,
+        }
+    }
+
+    pub fn change(&mut self, word: u64, plan: u8) -> Answer {
+        match self.plans.get_mut(&word) {
+            Some(kept) => accepted(std::mem::replace(kept, plan)),
+            None => Answer { cause: 7, value: 0 },
+        }
+    }
+
+    pub fn withdraw(&mut self, word: u64) -> Answer {
+        match self.plans.remove(&word) {
+            Some(plan) => accepted(plan),
+            None => Answer { cause: 7, value: 0 },
+        }
+    }
+
+    pub fn query(&self, word: u64) -> Answer {
+        match self.plans.get(&word) {
+            Some(&plan) => accepted(plan),
+            None => Answer { cause: 7, value: 0 },
+        }
+    }
+}
+
+fn accepted(plan: u8) -> Answer {
+    Answer {
+        cause: 0,
+        value: plan as u64,
+    }
+}
+
+pub fn greatest_bound(present: u64, due: &[u64]) -> u64 {
+    (0..=present)
+        .rev()
+        .find(|&bound| {
+            let selected: Vec<u64> = due
+                .iter()
+                .copied()
+                .filter(|&v| threshold(v) < bound)
+                .collect();
+            independent(&selected)
+        })
+        .expect("no vector is below bound 0")
+}
+
+/// The whole table with every row where the requirement puts it.
+#[derive(Clone)]
+pub struct ExactTable {
+    pub level1: Vec<SlowBucket>,
+    pub level2: Vec<SlowBucket>,
+    pub base: BTreeMap<u64, u8>,
+}
+
+impl ExactTable {
+    pub fn open(buckets1: usize, buckets2: usize) -> ExactTable {
+        ExactTable {
+            level1: vec![SlowBucket::empty(); buckets1],
+            level2: vec![SlowBucket::empty(); buckets2],
+            base: BTreeMap::new(),
+        }
+    }
+
+    /// The bucket that holds the word and its vector there, or none: base.
+    fn bucket(&mut self, word: u64) -> Option<(&mut SlowBucket, u64)> {
+        let first = bucket_of(word, self.level1.len());
+        if threshold(word) < self.level1[first].bound {
+            return Some((&mut self.level1[first], word));
+        }
+        let v = second(word);
+        let further = bucket_of(v, self.level2.len());
+        if threshold(v) < self.level2[further].bound {
+            return Some((&mut self.level2[further], v));
+        }
+        None
+    }
+
+    /// The word must not be live.
+    pub fn add(&mut self, word: u64, plan: u8) {
+        let mut next = self.clone();
+        let index = bucket_of(word, next.level1.len());
+        for (w, plan) in next.level1[index].settle(word, plan, &threshold) {
+            let v = second(w);
+            let index = bucket_of(v, next.level2.len());
+            next.base
+                .extend(next.level2[index].settle(v, plan, &threshold));
+        }
+        if next.base.len() <= 64 {
+            *self = next;
+        }
+    }
+
+    /// The word must be live.
+    pub fn change(&mut self, word: u64, plan: u8) {
+        match self.bucket(word) {
+            Some((bucket, v)) => {
+                let row = bucket.row(v).unwrap();
+                bucket.set_plan(row, plan);
+            }
+            None => assert!(self.base.insert(second(word), plan).is_some()),
+        }
+    }
+
+    /// The word must be live.
+    pub fn withdraw(&mut self, word: u64) {
+        match self.bucket(word) {
+            Some((bucket, v)) => bucket.withdraw(v),
+            None => assert!(self.base.remove(&second(word)).is_some()),
+        }
+    }
+
+    /// The table as its numbers.
+    pub fn numbers(&self) -> Vec<u64> {
+        let buckets = || self.level1.iter().chain(&self.level2);
+        let rows: usize = buckets().map(|b| b.live().len()).sum();
+        let mut numbers = vec![
+            self.level1.len() as u64,
+            self.level2.len() as u64,
+            self.base.len() as u64,
+            (rows + self.base.len()) as u64,
+        ];
+        for bucket in buckets() {
+            let bucket = bucket.as_bucket();
+            numbers.extend(bucket.cols);
+            numbers.push(bucket.mark);
+            numbers.extend(bucket.sols);
+            numbers.push(bucket.bound);
+        }
+        for (&v, &plan) in &self.base {
+            numbers.extend([v, plan as u64]);
+        }
+        numbers.resize(4 + 74 * (self.level1.len() + self.level2.len()) + 128, 0);
+        numbers
+    }
+}
+
+/// Cause 4, cause 5 or accepted, for any numbers.
+pub fn soundness(table: &[u64]) -> Answer {
+    let four = Answer {
+        cause: 4,
+        value: table.len() as u64,
+    };
+    let five = Answer { cause: 5, value: 0 };
+    if table.len() < 4 {
+        return four;
+    }
+    let (b1, b2, base_count, live_count) = (table[0], table[1], table[2], table[3]);
+    if b1 == 0 || b1 > 48 || b2 == 0 || b2 > 32 {
+        return four;
+    }
+    let (b1, b2) = (b1 as usize, b2 as usize);
+    if table.len() != 4 + 74 * (b1 + b2) + 128 {
+        return four;
+    }
+    if base_count > 64 {
+        return five;
+    }
+    let base_count = base_count as usize;
+    let (buckets, base) = table[4..].split_at(74 * (b1 + b2));
+    let buckets: Vec<&[u64]> = buckets.chunks(74).collect();
+    if buckets.iter().any(|b| b[73] > 8) {
+        return five;
+    }
+
+    // Every word with the place it was found at: 0 up for buckets, then base.
+    let mut found: Vec<(u64, usize)> = Vec::new();
+    for (index, bucket) in buckets.iter().enumerate() {
+        let cols = &bucket[..64];
+        let mark = bucket[64];
+        if !independent(cols) {
+            return five;
+        }
+        // Row r of K has an odd number of common ones with column r only.
+        for r in 0..64 {
+            let goals: Vec<u8> = (0..64).map(|i| u8::from(i == r)).collect();
+            let row = solve(cols, &goals);
+            let row = (0..64).fold(0, |word, j| word | (row[j] as u64) << j);
+            if mark >> r & 1 == 0 {
+                if row != 1 << r {
+                    return five;
+                }
+            } else if index < b1 {
+                found.push((row, index));
+            } else {
+                found.push((unsecond(row), index));
+            }
+        }
+    }
+    for i in 0..64 {
+        let (v, plan) = (base[2 * i], base[2 * i + 1]);
+        if i >= base_count {
+            if v != 0 || plan != 0 {
+                return five;
+            }
+            continue;
+        }
+        if plan > 255 || (i > 0 && v <= base[2 * i - 2]) {
+            return five;
+        }
+        found.push((unsecond(v), b1 + b2));
+    }
+    if found.len() as u64 != live_count {
+        return five;
+    }
+    for (w, at) in found {
+        let first = bucket_of(w, b1);
+        let v = second(w);
+        let further = b1 + bucket_of(v, b2);
+        let due = if threshold(w) < buckets[first][73] {
+            first
+        } else if threshold(v) < buckets[further][73] {
+            further
+        } else {
+            b1 + b2
+        };
+        if due != at {
+            return five;
+        }
+    }
+    Answer { cause: 0, value: 0 }
+}
+
+/// The word with this w', by undoing each step of S bit by bit.
+pub fn unsecond(v: u64) -> u64 {
+    unmix(unmix(v))
+}
+
+pub fn unmix(n: u64) -> u64 {
+    let mut z = unshift(n, 31);
+    z = divide(z, 0x94d049bb133111eb);
+    z = unshift(z, 27);
+    z = divide(z, 0xbf58476d1ce4e5b9);
+    z = unshift(z, 30);
+    let n = (z as u128 + TWO_64 - 0x9e3779b97f4a7c15) % TWO_64;
+    n as u64
+}
+
+fn unshift(y: u64, shift: u32) -> u64 {
+    let mut z = 0;
+    for bit in (0..64).rev() {
+        let above = if bit + shift < 64 {
+            z >> (bit + shift) & 1
+        } else {
+            0
+        };
+        z |= ((y >> bit & 1) ^ above) << bit;
+    }
+    z
+}
+
+/// The x with x * odd = y modulo 2^64, from the lowest bit up.
+fn divide(y: u64, odd: u64) -> u64 {
+    let mut x = 0u64;
+    for bit in 0..64 {
+        let so_far = (x as u128 * odd as u128 % TWO_64) as u64;
+        x |= ((so_far ^ y) >> bit & 1) << bit;
+    }
+    x
+}
+
+/// The offset that cause 10 returns for any bytes, or none for a right plane.
+pub fn wrong_offset(plane: &[u8]) -> Option<usize> {
+    // (kind, length with the kind byte) of the records to come.
+    let mut expected = vec![(1u8, 5usize)];
+    let mut previous: Option<Vec<u8>> = None;
+    let mut at = 0;
+    let mut next = 0;
+    while next < expected.len() {
+        let (kind, len) = expected[next];
+        if plane.len() - at < len || plane[at] != kind {
+            return Some(at);
+        }
+        let body = &plane[at + 1..at + len];
+        let allowed = match kind {
+            1 => {
+                let fine = body[0] == 1
+                    && body[1] != 0
+                    && body[1] < 49
+                    && body[2] != 0
+                    && body[2] < 33
+                    && body[3] < 65;
+                if fine {
+                    let buckets = body[1] as usize + body[2] as usize;
+                    expected.extend(vec![(2, 66); buckets]);
+                    expected.extend(vec![(3, 10); body[3] as usize]);
+                    expected.push((4, 5));
+                }
+                fine
+            }
+            2 => body[0] < 9,
+            3 => {
+                // Big-endian order of bytes is the order of the numbers.
+                let number: Vec<u8> = body[..8].iter().rev().copied().collect();
+                let fine = previous.as_ref().is_none_or(|before| number > *before);
+                previous = Some(number);
+                fine
+            }
+            _ => body == b"END\n",
+        };
+        if !allowed {
+            return Some(at);
+        }
+        at += len;
+        next += 1;
+    }
+    (at < plane.len()).then_some(at)
+}
