@@ -1,4 +1,5 @@
--- What `keep`, `map` and `tabulate` do to the elements of a list, to a part of it and to its order; the numbers from a on.
+-- What `keep`, `map` and `tabulate` do to the elements of a list, to a part of it and to its order; the numbers from a on; what stands
+-- at a place of a list after `map`.
 -- Assumes nothing.
 use Prim.Native.Nat.{ℕ, zero, suc, _+_, _<_, _≤_}
 use native.Mathlib.Nat.{le-of-suc-le-suc, not-suc-le-zero}
@@ -9,7 +10,7 @@ use mathlib.Core.Bool.{Bool, true, false, cond, not, _&&_, false≢true, true≢
 use mathlib.Core.Logic.{⊎-elim}
 use mathlib.Core.List.{List, [], _∷_, _++_, map, append-assoc, Sublistᴰ, Sublistᴰ·slnil, Sublistᴰ·cons, Sublistᴰ·cons-cons, List·Permᴰ, List·Permᴰ·nil, List·Permᴰ·cons, List·Permᴰ·swap, List·Permᴰ·trans, Permᴰ·refl, Permᴰ·symm, Permᴰ·middle, Permᴰ·append-right, List·Permᴰ·append-comm, List·Memᴰ, List·Memᴰ·head, List·Memᴰ·tail, List·Memᴰ·not-nil, List·Memᴰ·cases-cons}
 use lib.Dec.{eqb}
-use lib.ListN.{length, getD}
+use lib.ListN.{length, getD, set}
 use borrow.Author.Tests.{eqb-true, eqb-false}
 use Rattle.lists.specs.Lists.{keep, tabulate, countFrom}
 use Rattle.lists.proofs.Tests.{cases, by-test, cond-false}
@@ -174,3 +175,15 @@ perm-length List·Permᴰ·nil = refl
 perm-length (List·Permᴰ·cons e s) = ap suc (perm-length s)
 perm-length (List·Permᴰ·swap e f) = refl
 perm-length (List·Permᴰ·trans s t) = perm-length s ∙ perm-length t
+
+-- ---- map, by places
+
+pub map-set : {A B : Type 0} (f : A → B) (xs : List A) (i : ℕ) (x : A) → map f (set xs i x) ≡ set (map f xs) i (f x)
+map-set f [] i x = refl
+map-set f (y ∷ ys) zero x = refl
+map-set {B = B} f (y ∷ ys) (suc i) x = ap {B = List B} (λ l. f y ∷ l) (map-set f ys i x)
+
+pub getD-map-in : {A B : Type 0} (f : A → B) (xs : List A) (i : ℕ) (d : A) (z : B) → i < length xs → getD (map f xs) i z ≡ f (getD xs i d)
+getD-map-in f [] i d z h = absurd (not-suc-le-zero h)
+getD-map-in f (y ∷ ys) zero d z h = refl
+getD-map-in f (y ∷ ys) (suc i) d z h = getD-map-in f ys i d z (le-of-suc-le-suc h)

@@ -3,3 +3,4 @@ pub mod Tests
 pub mod Keep
 pub mod Entries
 pub mod Sorts
+pub mod Edits

@@ -1,9 +1,9 @@
 -- Tests: going by cases on one with its value known in each case, and the connectives.
 -- Assumes nothing.
 use Prim.Native.Nat.{ℕ}
-use mathlib.Core.Path.{_≡_, refl, subst, subst⁻¹}
+use mathlib.Core.Path.{_≡_, refl, sym, ap₂, subst, subst⁻¹}
 use mathlib.Core.Logic.{_⊎_, inl, inr}
-use mathlib.Core.Bool.{Bool, true, false, cond, not, _&&_, _||_}
+use mathlib.Core.Bool.{Bool, true, false, cond, not, _&&_, _||_, true≢false}
 use lib.Dec.{T, eqb, eqb-refl}
 
 pub by-test : {A : Type 0} (P : A → Type 0) (b : Bool) {x y : A} → (b ≡ true → P x) → (b ≡ false → P y) → P (cond b x y)
@@ -51,6 +51,17 @@ and-r false b t = absurd t
 pub and-i : (a b : Bool) → T a → T b → T (a && b)
 and-i true b t u = u
 and-i false b t u = t
+
+pub and-one : (a b : Bool) → (a && b) ≡ true → a ≡ true
+and-one true b e = refl
+and-one false b e = e
+
+pub and-two : (a b : Bool) → (a && b) ≡ true → b ≡ true
+and-two true b e = e
+and-two false b e = absurd (true≢false (sym e))
+
+pub and-both : {a b : Bool} → a ≡ true → b ≡ true → (a && b) ≡ true
+and-both p q = ap₂ (λ (x y : Bool). x && y) p q
 
 pub and-false : (a : Bool) → (a && false) ≡ false
 and-false true = refl

@@ -41,6 +41,11 @@ abbrev pub sort : List Entry → List Entry
 sort [] = []
 sort (e ∷ es) = insert e (sort es)
 
+-- entries inserted one after the other
+abbrev pub insertAll : List Entry → List Entry → List Entry
+insertAll [] base = base
+insertAll (e ∷ es) base = insertAll es (insert e base)
+
 -- each word of the list is larger than w
 abbrev pub Above : ℕ → List Entry → Type 0
 Above w [] = Unit {0}

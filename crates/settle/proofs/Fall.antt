@@ -21,7 +21,7 @@ use Rattle.gf2.proofs.Bound.{fall}
 use Rattle.bucket.specs.declared.Bucket.{Bucket}
 use Rattle.bucket.specs.declared.Tried.{Tried}
 use Rattle.bucket.specs.Bucket.{lookup, live, add, withdraw}
-use Rattle.settle.specs.Settle.{contents, planOf, withdrawAll, atBound, Settlement, ahead, orElse, leaving, settle}
+use Rattle.settle.specs.Settle.{contents, planOf, withdrawAll, atBound, lowered, Settlement, ahead, orElse, leaving, settle}
 use Rattle.settle.proofs.Hold.{Holds, holds-perm, holds-find, row-of, holds-none, holds-add, holds-withdraw}
 
 -- ---- entries made of numbers in order
@@ -117,14 +117,18 @@ holds-bound t h = record {
   distinct = h .distinct;
 }
 
-pub withdraw-all : {n r : ℕ} (es : List Entry) {b : Bucket} {rest : List Entry} → Holds n r b (es ++ rest) → Holds n r (withdrawAll n es b) rest
+pub withdraw-all : {n r : ℕ} (es : List Entry) {b : Bucket} {rest : List Entry} → Holds n r b (es ++ rest) → Holds n r (withdrawAll n (words es) b) rest
 withdraw-all [] h = h
 withdraw-all {n} {r} (e ∷ es) {b} {rest} h =
     withdraw-all es
     (subst (λ (l : List Entry). Holds n r (withdraw n (e .word) b .bucket) l) (cond-true (es ++ rest) (e ∷ remove (e .word) (es ++ rest)) (eq-eqb (e .word) (e .word) refl))
     (holds-withdraw h (e .word) (e .plan) (word-lt h e (List·Memᴰ·head refl)) (cond-true (some (e .plan)) (find (e .word) (es ++ rest)) (eq-eqb (e .word) (e .word) refl))))
 
-module _ (n r : ℕ) (thr : ℕ → ℕ) where
+-- the bound falls to t: the words of threshold t leave, the rest stays
+pub holds-lowered : {n r : ℕ} (thr : ℕ → ℕ) (t : ℕ) {b : Bucket} {rows rest : List Entry} → Holds n r b rows → List·Permᴰ rows (leaving n thr t b ++ rest) → Holds n r (lowered n thr t b) rest
+holds-lowered {n} thr t {b} h s = holds-bound t (withdraw-all (leaving n thr t b) (holds-perm h s))
+
+module _ (thr : ℕ → ℕ) where
   -- of the entries fs: those under the bound t, and the others
   abbrev pub held : ℕ → List Entry → List Entry
   held t fs = keep (λ e. ltb (thr (e .word)) t) fs
@@ -159,20 +163,21 @@ module _ (n r : ℕ) (thr : ℕ → ℕ) where
       ∙ keep-ext (λ e. not (ltb (thr (e .word)) u) && not (ltb (thr (e .word)) (suc u))) (λ e. not (ltb (thr (e .word)) (suc u))) fs (λ e. above-both (thr (e .word)) u))
       (keep-part (λ e. ltb (thr (e .word)) (suc u)) (over u fs))
 
+module _ (n r : ℕ) (thr : ℕ → ℕ) where
   -- what the add of e leaves, where fs were due, under the bound t
   pub record Settles (e : Entry) (fs : List Entry) (t : ℕ) (s : Settlement) : Type 0 where
-    pub holds : Holds n r (s .bucket) (held (s .bucket .bound) (e ∷ fs))
-    pub falls : s .bucket .bound ≡ fall t (seen e) (map seen fs)
-    pub leaves : List·Permᴰ (s .out ++ over t fs) (over (s .bucket .bound) (e ∷ fs))
+    pub holds : Holds n r (s .bucket) (held thr (s .bucket .bound) (e ∷ fs))
+    pub falls : s .bucket .bound ≡ fall t (seen thr e) (map (seen thr) fs)
+    pub leaves : List·Permᴰ (s .out ++ over thr t fs) (over thr (s .bucket .bound) (e ∷ fs))
 
   module _ (e : Entry) (fs : List Entry) (small : e .word < 2 ^ n) (plan-lt : e .plan < 2 ^ r) where
-    goes-on : (t : ℕ) (b : Bucket) → b .bound ≡ t → Holds n r b (held t fs) → ltb (thr (e .word)) t ≡ false → fall t (seen e) (map seen fs) ≡ t
+    goes-on : (t : ℕ) (b : Bucket) → b .bound ≡ t → Holds n r b (held thr t fs) → ltb (thr (e .word)) t ≡ false → fall t (seen thr e) (map (seen thr) fs) ≡ t
         → Settles e fs t (record { bucket = b; out = e ∷ [] })
     goes-on t b q h f fe = record {
-      holds = subst⁻¹ (λ (u : ℕ). Holds n r b (held u (e ∷ fs))) q (subst⁻¹ (Holds n r b) (cond-false (e ∷ held t fs) (held t fs) f) h);
+      holds = subst⁻¹ (λ (u : ℕ). Holds n r b (held thr u (e ∷ fs))) q (subst⁻¹ (Holds n r b) (cond-false (e ∷ held thr t fs) (held thr t fs) f) h);
       falls = q ∙ sym fe;
-      leaves = subst⁻¹ (λ (u : ℕ). List·Permᴰ (e ∷ over t fs) (over u (e ∷ fs))) q
-          (subst⁻¹ (List·Permᴰ (e ∷ over t fs)) (cond-true (e ∷ over t fs) (over t fs) (ap not f)) (Permᴰ·refl (e ∷ over t fs)));
+      leaves = subst⁻¹ (λ (u : ℕ). List·Permᴰ (e ∷ over thr t fs) (over thr u (e ∷ fs))) q
+          (subst⁻¹ (List·Permᴰ (e ∷ over thr t fs)) (cond-true (e ∷ over thr t fs) (over thr t fs) (ap not f)) (Permᴰ·refl (e ∷ over thr t fs)));
     }
 
     and-false : (a b : Bool) → b ≡ false → (a && b) ≡ false
@@ -182,48 +187,46 @@ module _ (n r : ℕ) (thr : ℕ → ℕ) where
     and-true : (a b : Bool) → a ≡ true → b ≡ true → (a && b) ≡ true
     and-true a b p q = ap₂ (λ (x y : Bool). x && y) p q
 
-    pub settle-law : (t : ℕ) (b : Bucket) → b .bound ≡ t → Holds n r b (held t fs) → Settles e fs t (settle n thr e t b)
+    pub settle-law : (t : ℕ) (b : Bucket) → b .bound ≡ t → Holds n r b (held thr t fs) → Settles e fs t (settle n thr e t b)
     settle-law zero b q h = goes-on zero b q h (le-ltb (thr (e .word)) 0 zero-le) refl
     settle-law (suc u) b q h =
         by-test (λ (r : Settlement). Settles e fs (suc u) r) (ltb (thr (e .word)) (suc u))
-        (λ l. cases (elem (e .word) (sums (words (held (suc u) fs)))) (depends (settle-law u) l) (stays l))
-        (λ f. goes-on (suc u) b q h f (cond-false (fall u (seen e) (map seen fs)) (suc u) (ap (λ (a : Bool). a && elem (e .word) (sums (under (suc u) (map seen fs)))) f)))
+        (λ l. cases (elem (e .word) (sums (words (held thr (suc u) fs)))) (depends (settle-law u) l) (stays l))
+        (λ f. goes-on (suc u) b q h f (cond-false (fall u (seen thr e) (map (seen thr) fs)) (suc u) (ap (λ (a : Bool). a && elem (e .word) (sums (under (suc u) (map (seen thr) fs)))) f)))
       where
-        same-has : elem (e .word) (sums (under (suc u) (map seen fs))) ≡ elem (e .word) (sums (words (held (suc u) fs)))
-        same-has = ap (λ (l : List ℕ). elem (e .word) (sums l)) (under-held (suc u) fs)
+        same-has : elem (e .word) (sums (under (suc u) (map (seen thr) fs))) ≡ elem (e .word) (sums (words (held thr (suc u) fs)))
+        same-has = ap (λ (l : List ℕ). elem (e .word) (sums l)) (under-held thr (suc u) fs)
 
-        stays : ltb (thr (e .word)) (suc u) ≡ true → elem (e .word) (sums (words (held (suc u) fs))) ≡ false
-            → Settles e fs (suc u) (orElse (add n (e .word) (e .plan) b) (ahead (leaving n thr u b) (settle n thr e u (atBound u (withdrawAll n (leaving n thr u b) b)))))
+        stays : ltb (thr (e .word)) (suc u) ≡ true → elem (e .word) (sums (words (held thr (suc u) fs))) ≡ false
+            → Settles e fs (suc u) (orElse (add n (e .word) (e .plan) b) (ahead (leaving n thr u b) (settle n thr e u (lowered n thr u b))))
         stays l f =
             let a = holds-add h e small plan-lt f in
-            subst⁻¹ (λ (o : Tried). Settles e fs (suc u) (orElse o (ahead (leaving n thr u b) (settle n thr e u (atBound u (withdrawAll n (leaving n thr u b) b)))))) (a .1)
+            subst⁻¹ (λ (o : Tried). Settles e fs (suc u) (orElse o (ahead (leaving n thr u b) (settle n thr e u (lowered n thr u b))))) (a .1)
             (record {
-              holds = subst⁻¹ (λ (t : ℕ). Holds n r (a .0) (held t (e ∷ fs))) (a .3 ∙ q)
-                  (subst⁻¹ (Holds n r (a .0)) (cond-true (e ∷ held (suc u) fs) (held (suc u) fs) l) (a .2));
-              falls = a .3 ∙ q ∙ sym (cond-false (fall u (seen e) (map seen fs)) (suc u) (and-false (ltb (thr (e .word)) (suc u)) _ (same-has ∙ f)));
-              leaves = subst⁻¹ (λ (t : ℕ). List·Permᴰ (over (suc u) fs) (over t (e ∷ fs))) (a .3 ∙ q)
-                  (subst⁻¹ (List·Permᴰ (over (suc u) fs)) (cond-false (e ∷ over (suc u) fs) (over (suc u) fs) (ap not l)) (Permᴰ·refl (over (suc u) fs)));
+              holds = subst⁻¹ (λ (t : ℕ). Holds n r (a .0) (held thr t (e ∷ fs))) (a .3 ∙ q)
+                  (subst⁻¹ (Holds n r (a .0)) (cond-true (e ∷ held thr (suc u) fs) (held thr (suc u) fs) l) (a .2));
+              falls = a .3 ∙ q ∙ sym (cond-false (fall u (seen thr e) (map (seen thr) fs)) (suc u) (and-false (ltb (thr (e .word)) (suc u)) _ (same-has ∙ f)));
+              leaves = subst⁻¹ (λ (t : ℕ). List·Permᴰ (over thr (suc u) fs) (over thr t (e ∷ fs))) (a .3 ∙ q)
+                  (subst⁻¹ (List·Permᴰ (over thr (suc u) fs)) (cond-false (e ∷ over thr (suc u) fs) (over thr (suc u) fs) (ap not l)) (Permᴰ·refl (over thr (suc u) fs)));
             })
 
-        out-at : List·Permᴰ (leaving n thr u b) (at u fs)
+        out-at : List·Permᴰ (leaving n thr u b) (at thr u fs)
         out-at = keep-perm (λ x. eqb (thr (x .word)) u) (rows-of h)
 
-        lowered : Holds n r (atBound u (withdrawAll n (leaving n thr u b) b)) (held u fs)
-        lowered =
-            holds-bound u (withdraw-all (leaving n thr u b) (holds-perm h
-            (List·Permᴰ·trans (held-split u fs) (Permᴰ·append-right (held u fs) (Permᴰ·symm out-at)))))
+        lower : Holds n r (lowered n thr u b) (held thr u fs)
+        lower = holds-lowered thr u h (List·Permᴰ·trans (held-split thr u fs) (Permᴰ·append-right (held thr u fs) (Permᴰ·symm out-at)))
 
-        depends : ((c : Bucket) → c .bound ≡ u → Holds n r c (held u fs) → Settles e fs u (settle n thr e u c)) → ltb (thr (e .word)) (suc u) ≡ true → elem (e .word) (sums (words (held (suc u) fs))) ≡ true
-            → Settles e fs (suc u) (orElse (add n (e .word) (e .plan) b) (ahead (leaving n thr u b) (settle n thr e u (atBound u (withdrawAll n (leaving n thr u b) b)))))
+        depends : ((c : Bucket) → c .bound ≡ u → Holds n r c (held thr u fs) → Settles e fs u (settle n thr e u c)) → ltb (thr (e .word)) (suc u) ≡ true → elem (e .word) (sums (words (held thr (suc u) fs))) ≡ true
+            → Settles e fs (suc u) (orElse (add n (e .word) (e .plan) b) (ahead (leaving n thr u b) (settle n thr e u (lowered n thr u b))))
         depends ih l t =
-            let r = ih (atBound u (withdrawAll n (leaving n thr u b) b)) refl lowered in
-            let o : List Entry = settle n thr e u (atBound u (withdrawAll n (leaving n thr u b) b)) .out in
-            subst⁻¹ (λ (o : Tried). Settles e fs (suc u) (orElse o (ahead (leaving n thr u b) (settle n thr e u (atBound u (withdrawAll n (leaving n thr u b) b)))))) (holds-none h e small t)
+            let r = ih (lowered n thr u b) refl lower in
+            let o : List Entry = settle n thr e u (lowered n thr u b) .out in
+            subst⁻¹ (λ (o : Tried). Settles e fs (suc u) (orElse o (ahead (leaving n thr u b) (settle n thr e u (lowered n thr u b))))) (holds-none h e small t)
             (record {
               holds = r .holds;
-              falls = r .falls ∙ sym (cond-true (fall u (seen e) (map seen fs)) (suc u) (and-true (ltb (thr (e .word)) (suc u)) _ l (same-has ∙ t)));
-              leaves = List·Permᴰ·trans (shuffle (leaving n thr u b) o (over (suc u) fs))
+              falls = r .falls ∙ sym (cond-true (fall u (seen thr e) (map (seen thr) fs)) (suc u) (and-true (ltb (thr (e .word)) (suc u)) _ l (same-has ∙ t)));
+              leaves = List·Permᴰ·trans (shuffle (leaving n thr u b) o (over thr (suc u) fs))
                   (List·Permᴰ·trans (Permᴰ·append-left o
-                  (List·Permᴰ·trans (Permᴰ·append-right (over (suc u) fs) out-at) (Permᴰ·symm (over-split u fs))))
+                  (List·Permᴰ·trans (Permᴰ·append-right (over thr (suc u) fs) out-at) (Permᴰ·symm (over-split thr u fs))))
                   (r .leaves));
             })

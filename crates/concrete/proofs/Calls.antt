@@ -1,0 +1,220 @@
+-- The numbers of document 01's table stand for a state of the model: opening does, and each call keeps that and gives the model's answer.
+-- Assumes nothing.
+use Prim.Native.Nat.{ℕ, _^_, _≤_, _<_}
+use native.Mathlib.Omega.{arith}
+use mathlib.Core.Path.{_≡_, refl, sym, ap, ap₂, _∙_, subst, subst⁻¹}
+use mathlib.Core.Bool.{Bool, true, false, cond, _&&_}
+use mathlib.Core.Logic.{_↔_}
+use mathlib.Core.Option.{Option, none, some}
+use mathlib.Core.List.{List, List·Permᴰ}
+use lib.Dec.{ltb, leb}
+use lib.ListN.{length, getD}
+use borrow.Author.Tests.{eqb-true, eq-eqb, leb-true, le-leb, ltb-false}
+use Rattle.lists.specs.Entries.{Entry, find, insert, update, remove}
+use Rattle.lists.proofs.Tests.{cond-true, and-one, and-two, and-both}
+use Rattle.hash.specs.Mix.{mixOf, unmixOf}
+use Rattle.hash.proofs.Inverse.{mix-lt, unmix-lt, unmix-mix, mix-unmix}
+use Rattle.answer.specs.declared.Answer.the-variants.{Accepted, Full}
+use Rattle.identifier.specs.Identifier.{readOf}
+use Rattle.identifier.specs.declared.Read.{Read}
+use Rattle.identifier.specs.declared.Read.the-variants.{Word, Refused}
+use Rattle.identifier.proofs.Causes.{read-word}
+use Rattle.identifier.proofs.Words.{word-lt}
+use Rattle.bucket.specs.declared.Bucket.{Bucket}
+use Rattle.model.specs.Levels.{firstLevel, secondLevel}
+use Rattle.model.specs.Model as M
+use Rattle.model.specs.Model.{baseLimit, State, Call, add, change, withdraw, query, opened, withLive, settled, base, stepAdd, stepLive, step}
+use Rattle.model.specs.Request.{subject, askOf, serveRead, serve}
+use Rattle.concrete.specs.Table as T
+use Rattle.concrete.specs.Table.{Table}
+use Rattle.concrete.specs.Layout.{numbersOf, unusedIn, lengthOf}
+use Rattle.concrete.specs.Content.{entriesOf}
+use Rattle.concrete.specs.Sound.{SoundLevel, SoundTable}
+use Rattle.concrete.specs.Test.{mostBuckets1, inRange, shapeTest}
+use Rattle.concrete.specs.Calls.{rows, solutions, tableOf, planIn, shaped, sound, FlatSound, Outcome, turnedDown, joined, replaced, queried, served, callRead, call}
+use Rattle.concrete.specs.History.{PlanFits, flatState}
+use Rattle.concrete.proofs.Numbers.{AllShaped, ShapedTable, Laid, header-read, back, laid}
+use Rattle.concrete.proofs.Stand.{Stands, open-stands, look, change-stands, withdraw-stands, based-length, add-stands}
+use Rattle.concrete.proofs.Content.{table-entries, table-live}
+use Rattle.concrete.proofs.Sound.{one-to-one, sound-stands, stands-sound}
+use Rattle.concrete.proofs.Test.{test-sound, sound-test}
+
+-- ---- the mix on 64 bits
+
+keeps : (x : ℕ) → x < 2 ^ rows → mixOf x < 2 ^ rows
+keeps x l = mix-lt x
+
+keepsU : (x : ℕ) → x < 2 ^ rows → unmixOf x < 2 ^ rows
+keepsU x l = unmix-lt x
+
+one : (u v : ℕ) → u < 2 ^ rows → v < 2 ^ rows → mixOf u ≡ mixOf v → u ≡ v
+one = one-to-one rows solutions mixOf unmixOf keeps keepsU unmix-mix mix-unmix
+
+-- ---- sound tables have the layout
+
+level-shaped : (bs : List Bucket) → SoundLevel rows solutions mixOf bs → AllShaped rows solutions bs
+level-shaped bs h i l = let b = h .buckets i l in record { cols = b .sound .inverse .cols; sols = b .wide }
+
+pub sound-shaped : (T : Table) → SoundTable rows solutions mixOf unmixOf T → ShapedTable rows solutions T
+sound-shaped T h = record { first = level-shaped (T .level1) (h .level1); second = level-shaped (T .level2) (h .level2); fits = h .fits }
+
+-- ---- numbers that stand for a state
+
+pub record FlatStands (t : List ℕ) (s : State) : Type 0 where
+  pub shape : shaped t ≡ true
+  pub unused : (i : ℕ) → getD (unusedIn rows solutions t) i 0 ≡ 0
+  pub stands : Stands rows solutions mixOf (tableOf t) s
+
+-- an answer and numbers that go with the model's answer and state
+pub record Match (o : Outcome) (m : M.Outcome) : Type 0 where
+  pub says : o .answer ≡ m .answer
+  pub stands : FlatStands (o .table) (m .after)
+
+match-test : (b : Bool) {o p : Outcome} {m q : M.Outcome} → (b ≡ true → Match o m) → (b ≡ false → Match p q) → Match (cond b o p) (cond b m q)
+match-test true f g = f refl
+match-test false f g = g refl
+
+shape-range : (t : List ℕ) → shaped t ≡ true → inRange (getD t 0 0) (getD t 1 0) ≡ true
+unfolding shapeTest
+shape-range t h = and-one (inRange (getD t 0 0) (getD t 1 0)) _ (and-two (leb 4 (length t)) _ h)
+
+shape-size : (t : List ℕ) → shaped t ≡ true → length t ≡ lengthOf rows solutions (getD t 0 0) (getD t 1 0)
+unfolding shapeTest
+shape-size t h = eqb-true _ _ (and-two (inRange (getD t 0 0) (getD t 1 0)) _ (and-two (leb 4 (length t)) _ h))
+
+size-shape : (t : List ℕ) → inRange (getD t 0 0) (getD t 1 0) ≡ true → length t ≡ lengthOf rows solutions (getD t 0 0) (getD t 1 0) → shaped t ≡ true
+unfolding shapeTest
+size-shape t h e = and-both (le-leb 4 (length t) (omega (arith, e))) (and-both h (eq-eqb _ _ e))
+
+-- a table that stands for a state with bucket numbers in range, as numbers
+pub numbers-stand : (T : Table) (s : State) → Stands rows solutions mixOf T s → inRange (s .buckets1) (s .buckets2) ≡ true → FlatStands (numbersOf T) s
+unfolding numbersOf
+numbers-stand T s st h =
+    let g = sound-shaped T (stands-sound rows solutions mixOf unmixOf keeps keepsU unmix-mix mix-unmix T s st) in
+    let k = laid rows solutions T g in
+    record {
+      shape = size-shape (numbersOf T) (ap₂ inRange (st .level1 .count) (st .level2 .count) ∙ h) (k .size);
+      unused = k .unused;
+      stands = subst⁻¹ (λ (U : Table). Stands rows solutions mixOf U s) (back rows solutions T g) st;
+    }
+
+module _ (t : List ℕ) (s : State) (h : FlatStands t s) where
+  abbrev T₀ : Table
+  T₀ = tableOf t
+
+  range : inRange (s .buckets1) (s .buckets2) ≡ true
+  range =
+      let k = header-read rows solutions t in
+      ap₂ inRange (sym (h .stands .level1 .count) ∙ k .0) (sym (h .stands .level2 .count) ∙ k .1) ∙ shape-range t (h .shape)
+
+  pub stands-flat : FlatSound t
+  stands-flat = record { table = stands-sound rows solutions mixOf unmixOf keeps keepsU unmix-mix mix-unmix T₀ s (h .stands); unused = h .unused }
+
+  pub stands-test : sound t ≡ true
+  stands-test = sound-test rows solutions mixOf unmixOf t stands-flat
+
+  -- the state is the one that the table shows
+  pub stands-shows : flatState t ≡ s
+  stands-shows = λ i. record {
+    buckets1 = h .stands .level1 .count i;
+    buckets2 = h .stands .level2 .count i;
+    live = table-live rows solutions mixOf unmixOf keeps unmix-mix T₀ s (h .stands) i;
+    bounds1 = h .stands .bounds1 i;
+    bounds2 = h .stands .bounds2 i;
+  }
+
+  pub stands-look : (w : ℕ) → w < 2 ^ rows → planIn t w ≡ find w (s .live)
+  stands-look w l = look rows solutions mixOf keeps one T₀ s (h .stands) w l
+
+  -- its occupied rows and base entries are the live words
+  pub stands-entries : List·Permᴰ (entriesOf rows unmixOf T₀) (s .live)
+  stands-entries = table-entries rows solutions mixOf unmixOf keeps unmix-mix T₀ s (h .stands)
+
+  module _ (w : ℕ) (l : w < 2 ^ rows) where
+    -- the call goes as the model's does, by whether w is live
+    by-plan : (f : Option ℕ → Outcome) (g : Option ℕ → M.Outcome) → ((o : Option ℕ) → find w (s .live) ≡ o → Match (f o) (g o)) → Match (f (planIn t w)) (g (find w (s .live)))
+    by-plan f g k = subst⁻¹ (λ (o : Option ℕ). Match (f o) (g (find w (s .live)))) (stands-look w l) (k (find w (s .live)) refl)
+
+    live-match : (u : Table) (es : List Entry) → ((q : ℕ) → find w (s .live) ≡ some q → Stands rows solutions mixOf u (withLive s es))
+        → Match (replaced t u (planIn t w)) (stepLive firstLevel secondLevel s es (find w (s .live)))
+    live-match u es k = by-plan (replaced t u) (stepLive firstLevel secondLevel s es) go
+      where
+        go : (o : Option ℕ) → find w (s .live) ≡ o → Match (replaced t u o) (stepLive firstLevel secondLevel s es o)
+        go none e = record { says = refl; stands = h }
+        go (some q) e = record { says = refl; stands = numbers-stand u (withLive s es) (k q e) range }
+
+    query-match : Match (queried t (planIn t w)) (step firstLevel secondLevel s (query w))
+    query-match = by-plan (queried t) (stepLive firstLevel secondLevel s (s .live)) go
+      where
+        go : (o : Option ℕ) → find w (s .live) ≡ o → Match (queried t o) (stepLive firstLevel secondLevel s (s .live) o)
+        go none e = record { says = refl; stands = h }
+        go (some q) e = record { says = refl; stands = h }
+
+    add-match : (p : ℕ) → p < 2 ^ solutions
+        → Match (joined t (T.addedTo rows solutions mixOf T₀ (record { word = w; plan = p })) (planIn t w)) (step firstLevel secondLevel s (add w p))
+    add-match p hp = by-plan (joined t u) (stepAdd firstLevel secondLevel s e) go
+      where
+        e : Entry
+        e = record { word = w; plan = p }
+
+        u : Table
+        u = T.addedTo rows solutions mixOf T₀ (record { word = w; plan = p })
+
+        t′ : State
+        t′ = settled firstLevel secondLevel s (insert (record { word = w; plan = p }) (s .live))
+
+        go : (o : Option ℕ) → find w (s .live) ≡ o → Match (joined t u o) (stepAdd firstLevel secondLevel s e o)
+        go (some q) f = record { says = refl; stands = h }
+        go none f =
+            subst⁻¹ (λ (k : ℕ). Match (cond (ltb baseLimit k) (turnedDown Full t) (record { answer = Accepted (u .count); table = numbersOf u })) (M.unlessFull firstLevel secondLevel s t′))
+            (based-length rows solutions mixOf keeps one T₀ s (h .stands) e (l, hp) f)
+            (match-test (ltb baseLimit (length (base firstLevel secondLevel t′))) (λ b. record { says = refl; stands = h })
+            (λ b.
+            let k = add-stands rows solutions mixOf keeps one T₀ s (h .stands) e (l, hp) f (ltb-false baseLimit _ b) in
+            record { says = ap Accepted (k .counted); stands = numbers-stand u t′ k range }))
+
+    -- the causes 1, 2, 4 and 5 are not met
+    served-match : (c : Call (List ℕ)) → PlanFits c → Match (served t w c) (step firstLevel secondLevel s (askOf w c))
+    unfolding served
+    served-match (add i p) k = add-match p k
+    served-match (change i p) k = live-match (T.changedIn rows solutions mixOf T₀ w p) (update (record { word = w; plan = p }) (s .live)) (λ q f. change-stands rows solutions mixOf keeps one T₀ s (h .stands) w l p q k f)
+    served-match (withdraw i) k = live-match (T.withdrawnFrom rows solutions mixOf T₀ w) (remove w (s .live)) (λ q f. withdraw-stands rows solutions mixOf keeps one T₀ s (h .stands) w l q f)
+    served-match (query i) k = query-match
+
+  -- each call follows the model
+  pub call-match : (c : Call (List ℕ)) → PlanFits c → Match (call t c) (serve s c)
+  unfolding call
+  call-match c k = go (readOf (subject c)) refl
+    where
+      go : (x : Read) → readOf (subject c) ≡ x → Match (callRead t c x) (serveRead s c x)
+      go (Refused a) e = record { says = refl; stands = h }
+      go (Word w) e =
+          subst⁻¹ (λ (o : Outcome). Match o (step firstLevel secondLevel s (askOf w c))) (cond-true _ _ (h .shape) ∙ cond-true _ _ stands-test)
+          (served-match w (subst⁻¹ (λ (x : ℕ). x < 2 ^ rows) (read-word (subject c) w .0 e .2) (word-lt (subject c))) c k)
+
+-- ---- opening, and sound numbers
+
+range-some : (b1 b2 : ℕ) → inRange b1 b2 ≡ true → (0 < b1) × (0 < b2)
+range-some b1 b2 h =
+    (leb-true 1 b1 (and-one (leb 1 b1) _ (and-one (leb 1 b1 && leb b1 mostBuckets1) _ h)), leb-true 1 b2 (and-one (leb 1 b2) _ (and-two (leb 1 b1 && leb b1 mostBuckets1) _ h)))
+
+pub open-stands-flat : (b1 b2 : ℕ) → inRange b1 b2 ≡ true → FlatStands (numbersOf (T.openTable rows solutions b1 b2)) (opened b1 b2)
+open-stands-flat b1 b2 h =
+    let g = range-some b1 b2 h in
+    numbers-stand (T.openTable rows solutions b1 b2) (opened b1 b2) (open-stands rows solutions mixOf b1 b2 (g .0) (g .1)) h
+
+pub sound-stands-flat : (t : List ℕ) → shaped t ≡ true → FlatSound t → FlatStands t (flatState t)
+sound-stands-flat t k h = record { shape = k; unused = h .unused; stands = sound-stands rows solutions mixOf unmixOf keeps keepsU unmix-mix mix-unmix (tableOf t) (h .table) }
+
+pub sound-laid : (t : List ℕ) → shaped t ≡ true → FlatSound t → Laid rows solutions t
+sound-laid t k h = record {
+  size = shape-size t k;
+  fits = subst (λ (c : ℕ). c ≤ baseLimit) (header-read rows solutions t .2) (h .table .fits);
+  unused = h .unused;
+}
+
+-- the test says true exactly of sound tables
+pub sound-exactly : (t : List ℕ) → shaped t ≡ true → ((i : ℕ) → getD t i 0 < 2 ^ rows) → (sound t ≡ true) ↔ FlatSound t
+sound-exactly t k b =
+    let g = range-some (getD t 0 0) (getD t 1 0) (shape-range t k) in
+    (test-sound rows solutions mixOf unmixOf t (shape-size t k) b (g .0) (g .1), sound-test rows solutions mixOf unmixOf t)

@@ -1,0 +1,235 @@
+-- Lists of calls put to the numbers of a table: they refine the model, so its laws hold of them. The two rules for adds, of every sound table.
+-- Assumes nothing.
+use Prim.Native.Nat.{ℕ, _+_, _^_, _<_}
+use native.Mathlib.Omega.{arith}
+use mathlib.Core.Path.{_≡_, refl, sym, ap, _∙_, subst, subst⁻¹}
+use mathlib.Core.Bool.{true, false, _||_, true≢false}
+use mathlib.Core.Logic.{_⊎_, ⊎-elim, _↔_}
+use mathlib.Core.Option.{Option, none, some}
+use mathlib.Core.List.{List, map}
+use lib.Dec.{eqb, ltb}
+use lib.ListN.{length, getD}
+use Rattle.lists.specs.Entries.{Entry, words, find, insert}
+use Rattle.lists.proofs.Tests.{by-test, cond-true}
+use Rattle.gf2.specs.Bound.{Largest}
+use Rattle.hash.specs.Mix.{mixOf}
+use Rattle.answer.specs.declared.Answer.{Answer}
+use Rattle.answer.specs.declared.Answer.the-variants.{Accepted, NotLive, Full}
+use Rattle.answer.specs.Numbers.{numberOf}
+use Rattle.identifier.specs.Identifier.{sized, firstRefused, wordOf, readOf}
+use Rattle.identifier.specs.declared.Read.{Read}
+use Rattle.identifier.specs.declared.Read.the-variants.{Word, Refused}
+use Rattle.identifier.proofs.Causes.{read-word}
+use Rattle.identifier.proofs.Words.{word-lt}
+use Rattle.model.specs.Levels.{firstLevel, secondLevel, passed, due}
+use Rattle.model.specs.Model as M
+use Rattle.model.specs.Model.{baseLimit, State, Call, add, change, withdraw, query, opened, settled, base, step}
+use Rattle.model.specs.Request.{subject, byWord, serveRead, serve}
+use Rattle.model.specs.History.{accepted, after, acceptedOf, Refines, Compares, addsIn, withdrawalsIn, told}
+use Rattle.model.proofs.Valid.{valid-opened}
+use Rattle.model.proofs.Refine.{stands-after, accepted-after}
+use Rattle.model.proofs.Calls.{count-after, told-after}
+use Rattle.model.proofs.Requests.{serve-each}
+use Rattle.model.proofs.Statements as Model
+use Rattle.concrete.specs.Table as T
+use Rattle.concrete.specs.Table.{Table}
+use Rattle.concrete.specs.Layout.{numbersOf, tableFrom, lengthOf}
+use Rattle.concrete.specs.Test.{inRange}
+use Rattle.concrete.specs.Calls.{rows, solutions, tableOf, planIn, shaped, sound, FlatSound, Outcome, turnedDown, openCall, joined, replaced, queried, served, callRead, call}
+use Rattle.concrete.specs.History.{Put, tables, states, Opened, acceptedCalls, flatState, Same}
+use Rattle.concrete.proofs.Calls.{FlatStands, Match, stands-test, stands-shows, stands-look, call-match, open-stands-flat, sound-stands-flat}
+
+-- ---- the table refines the model
+
+pub refines : Refines tables states FlatStands
+refines = record { says = λ t s p h. call-match t s h (p .call) (p .fits) .says; goes = λ t s p h. call-match t s h (p .call) (p .fits) .stands }
+
+pub compares : Compares FlatStands Same
+compares = record { one = λ t u s q e h g. sym (stands-shows t s h) ∙ e ∙ stands-shows u q g; same = λ t u s h g. stands-shows t s h ∙ sym (stands-shows u s g) }
+
+-- ---- opening
+
+open-cases : (b1 b2 : ℕ) (t : List ℕ) → openCall b1 b2 t .answer ≡ Accepted 0 → (inRange b1 b2 ≡ true) × (openCall b1 b2 t .table ≡ numbersOf (T.openTable rows solutions b1 b2))
+unfolding openCall
+open-cases b1 b2 t =
+    by-test (λ (o : Outcome). o .answer ≡ Accepted 0 → (inRange b1 b2 ≡ true) × (o .table ≡ numbersOf (T.openTable rows solutions b1 b2))) (inRange b1 b2)
+    (λ r. by-test (λ (o : Outcome). o .answer ≡ Accepted 0 → (inRange b1 b2 ≡ true) × (o .table ≡ numbersOf (T.openTable rows solutions b1 b2))) (eqb (length t) (lengthOf rows solutions b1 b2))
+    (λ q a. (r, refl)) (λ q a. let z : _≡_ {A = ℕ} 0 1 = cc in absurd (omega arith)))
+    (λ r a. let z : _≡_ {A = ℕ} 0 1 = cc in absurd (omega arith))
+
+pub opened-stands : (t : List ℕ) (o : Opened t) → FlatStands t (opened (o .buckets1) (o .buckets2))
+opened-stands t o =
+    let k = open-cases (o .buckets1) (o .buckets2) (o .before) (ap (λ (x : Outcome). x .answer) (o .accepted)) in
+    subst (λ (u : List ℕ). FlatStands u (opened (o .buckets1) (o .buckets2))) (sym (k .1) ∙ ap (λ (x : Outcome). x .table) (o .accepted)) (open-stands-flat (o .buckets1) (o .buckets2) (k .0))
+
+-- a refused opening leaves the table
+pub open-refused : (b1 b2 : ℕ) (t : List ℕ) → accepted (openCall b1 b2 t .answer) ≡ false → openCall b1 b2 t .table ≡ t
+unfolding openCall
+open-refused b1 b2 t =
+    by-test (λ (o : Outcome). accepted (o .answer) ≡ false → o .table ≡ t) (inRange b1 b2)
+    (λ r. by-test (λ (o : Outcome). accepted (o .answer) ≡ false → o .table ≡ t) (eqb (length t) (lengthOf rows solutions b1 b2)) (λ q a. absurd (true≢false a)) (λ q a. refl))
+    (λ r a. refl)
+
+-- ---- what each call leaves where it is refused, and which causes it can give
+
+module _ (t : List ℕ) where
+  -- a property of what a call does, by the cases of the call
+  module _ (P : Outcome → Type 0) (down : (a : Answer) → (eqb (numberOf a) 4 || eqb (numberOf a) 5) ≡ false → P (turnedDown a t)) (done : (k : ℕ) (u : List ℕ) → P (record { answer = Accepted k; table = u })) where
+    by-served : (w : ℕ) (c : Call (List ℕ)) → P (served t w c)
+    unfolding served
+    by-served w (add i p) = go (planIn t w)
+      where
+        u : Table
+        u = T.addedTo rows solutions mixOf (tableOf t) (record { word = w; plan = p })
+
+        go : (o : Option ℕ) → P (joined t u o)
+        go (some q) = down _ refl
+        go none = by-test P (ltb baseLimit (length (u .base))) (λ b. down _ refl) (λ b. done _ _)
+    by-served w (change i p) = go (planIn t w)
+      where
+        go : (o : Option ℕ) → P (replaced t (T.changedIn rows solutions mixOf (tableOf t) w p) o)
+        go (some q) = done _ _
+        go none = down _ refl
+    by-served w (withdraw i) = go (planIn t w)
+      where
+        go : (o : Option ℕ) → P (replaced t (T.withdrawnFrom rows solutions mixOf (tableOf t) w) o)
+        go (some q) = done _ _
+        go none = down _ refl
+    by-served w (query i) = go (planIn t w)
+      where
+        go : (o : Option ℕ) → P (queried t o)
+        go (some q) = done _ _
+        go none = down _ refl
+
+  pub call-refused : (c : Call (List ℕ)) → accepted (call t c .answer) ≡ false → call t c .table ≡ t
+  unfolding call
+  call-refused c = go (readOf (subject c))
+    where
+      Kept : Outcome → Type 0
+      Kept o = accepted (o .answer) ≡ false → o .table ≡ t
+
+      go : (x : Read) → Kept (callRead t c x)
+      go (Refused a) = λ r. refl
+      go (Word w) =
+          by-test Kept (shaped t) (λ k. by-test Kept (sound t) (λ h. by-served Kept (λ a e r. refl) (λ k u r. absurd (true≢false r)) w c) (λ h r. refl)) (λ k r. refl)
+
+  -- neither cause 4 nor cause 5
+  abbrev Other : Outcome → Type 0
+  Other o = (eqb (numberOf (o .answer)) 4 || eqb (numberOf (o .answer)) 5) ≡ false
+
+  abbrev OtherRead : Read → Type 0
+  OtherRead (Refused a) = Other (turnedDown a t)
+  OtherRead (Word w) = Unit {0}
+
+  other-read : (i : List ℕ) → OtherRead (readOf i)
+  unfolding readOf
+  other-read i = by-test OtherRead (sized (length i)) (λ k. by-test OtherRead (ltb (firstRefused i) (length i)) (λ h. refl) (λ h. tt)) (λ k. refl)
+
+  call-other : shaped t ≡ true → sound t ≡ true → (c : Call (List ℕ)) → Other (call t c)
+  unfolding call
+  call-other k h c = go (readOf (subject c)) (other-read (subject c))
+    where
+      go : (x : Read) → OtherRead x → Other (callRead t c x)
+      go (Refused a) e = e
+      go (Word w) e = subst⁻¹ Other (cond-true _ _ k ∙ cond-true _ _ h) (by-served Other (λ a q. q) (λ k u. refl) w c)
+
+  pub never : shaped t ≡ true → sound t ≡ true → (c : Call (List ℕ)) → (numberOf (call t c .answer) ≡ 4 → ⊥) × (numberOf (call t c .answer) ≡ 5 → ⊥)
+  never k h c =
+      let o = call-other k h c in (
+        λ e. true≢false (sym (ap (λ (n : ℕ). eqb n 4 || eqb n 5) e) ∙ o),
+        λ e. true≢false (sym (ap (λ (n : ℕ). eqb n 4 || eqb n 5) e) ∙ o),
+      )
+
+-- ---- after any list of calls since an accepted opening
+
+module _ (t : List ℕ) (o : Opened t) (ps : List Put) where
+  abbrev s₀ : State
+  s₀ = opened (o .buckets1) (o .buckets2)
+
+  abbrev t₁ : List ℕ
+  t₁ = after tables t ps
+
+  abbrev s₁ : State
+  s₁ = after states s₀ ps
+
+  pub after-stands : FlatStands t₁ s₁
+  after-stands = stands-after tables states FlatStands refines t s₀ (opened-stands t o) ps
+
+  -- the same calls are accepted as by the model
+  same-calls : map (λ p. byWord (p .call)) (acceptedOf states s₀ ps) ≡ acceptedCalls t ps
+  same-calls = ap (map (λ p. byWord (p .call))) (sym (accepted-after tables states FlatStands refines t s₀ (opened-stands t o) ps))
+
+  pub count-after-all : getD t₁ 3 0 + withdrawalsIn (acceptedCalls t ps) ≡ addsIn (acceptedCalls t ps)
+  unfolding tableFrom
+  count-after-all =
+      let c : getD t₁ 3 0 ≡ length (s₁ .live) = after-stands .stands .counted in
+      subst (λ (cs : List (Call ℕ)). getD t₁ 3 0 + withdrawalsIn cs ≡ addsIn cs) same-calls
+      (let h = count-after firstLevel secondLevel states (λ p. byWord (p .call)) (λ s p. serve-each s (p .call)) s₀ ps in omega arith)
+
+  pub plan-after : (v : ℕ) → v < 2 ^ rows → planIn t₁ v ≡ told v (acceptedCalls t ps)
+  plan-after v l =
+      stands-look t₁ s₁ after-stands v l
+      ∙ told-after firstLevel secondLevel states (λ p. byWord (p .call)) (λ s p. serve-each s (p .call)) v s₀ (valid-opened firstLevel secondLevel (o .buckets1) (o .buckets2)) false 0 refl ps
+      ∙ ap (told v) same-calls
+
+-- ---- a sound table, also one handed in from elsewhere
+
+module _ (t : List ℕ) (k : shaped t ≡ true) (h : FlatSound t) where
+  abbrev s : State
+  s = flatState t
+
+  st : FlatStands t s
+  st = sound-stands-flat t k h
+
+  -- a query of a live word gives its plan, of any other word cause 7
+  query-is : (i : List ℕ) (w : ℕ) → readOf i ≡ Word w → call t (query i) ≡ queried t (find w (s .live))
+  unfolding call served
+  query-is i w e =
+      ap (callRead t (query i)) e ∙ cond-true _ _ k ∙ cond-true _ _ (stands-test t s st)
+      ∙ ap (queried t) (stands-look t s st w (subst⁻¹ (λ (x : ℕ). x < 2 ^ rows) (read-word i w .0 e .2) (word-lt i)))
+
+  pub query-live : (i : List ℕ) (w p : ℕ) → readOf i ≡ Word w → find w (s .live) ≡ some p → call t (query i) ≡ record { answer = Accepted p; table = t }
+  query-live i w p e f = query-is i w e ∙ ap (queried t) f
+
+  pub query-other : (i : List ℕ) (w : ℕ) → readOf i ≡ Word w → find w (s .live) ≡ none → call t (query i) ≡ record { answer = NotLive; table = t }
+  query-other i w e f = query-is i w e ∙ ap (queried t) f
+
+  module _ (i : List ℕ) (p : ℕ) (l : p < 2 ^ solutions) where
+    abbrev t′ : List ℕ
+    t′ = call t (add i p) .table
+
+    m : Match (call t (add i p)) (serve s (add i p))
+    m = call-match t s st (add i p) l
+
+    module _ (a : accepted (call t (add i p) .answer) ≡ true) where
+      -- the add is the model's
+      is-step : serve s (add i p) ≡ step firstLevel secondLevel s (add (wordOf i) p)
+      is-step = ⊎-elim (λ x. absurd (true≢false (sym a ∙ ap accepted (m .says) ∙ x .0))) (λ e. e) (serve-each s (add i p))
+
+      took : accepted (step firstLevel secondLevel s (add (wordOf i) p) .answer) ≡ true
+      took = ap (λ (x : M.Outcome). accepted (x .answer)) (sym is-step) ∙ ap accepted (sym (m .says)) ∙ a
+
+      left : flatState t′ ≡ step firstLevel secondLevel s (add (wordOf i) p) .after
+      left = stands-shows t′ (serve s (add i p) .after) (m .stands) ∙ ap (λ (x : M.Outcome). x .after) is-step
+
+      abbrev e : Entry
+      e = record { word = wordOf i; plan = p }
+
+      pub rule-first : (j : ℕ) → j < s .buckets1
+          → Largest (getD (s .bounds1) j 0) (due firstLevel (s .buckets1) (words (flatState t′ .live)) j) (getD (flatState t′ .bounds1) j 0)
+      rule-first j q =
+          subst⁻¹ (λ (u : State). Largest (getD (s .bounds1) j 0) (due firstLevel (s .buckets1) (words (u .live)) j) (getD (u .bounds1) j 0)) left
+          (Model.bounds-first firstLevel secondLevel s e took j q)
+
+      pub rule-second : (j : ℕ) → j < s .buckets2
+          → Largest (getD (s .bounds2) j 0) (due secondLevel (s .buckets2) (passed firstLevel (s .buckets1) (flatState t′ .bounds1) (words (flatState t′ .live))) j) (getD (flatState t′ .bounds2) j 0)
+      rule-second j q =
+          subst⁻¹ (λ (u : State). Largest (getD (s .bounds2) j 0) (due secondLevel (s .buckets2) (passed firstLevel (s .buckets1) (u .bounds1) (words (u .live))) j) (getD (u .bounds2) j 0)) left
+          (Model.bounds-second firstLevel secondLevel s e took j q)
+
+    pub rule-full : (w : ℕ) → readOf i ≡ Word w → find w (s .live) ≡ none
+        → (call t (add i p) .answer ≡ Full) ↔ (baseLimit < length (base firstLevel secondLevel (settled firstLevel secondLevel s (insert (record { word = w; plan = p }) (s .live)))))
+    rule-full w q f =
+        subst⁻¹ (λ (a : Answer). (a ≡ Full) ↔ (baseLimit < length (base firstLevel secondLevel (settled firstLevel secondLevel s (insert (record { word = w; plan = p }) (s .live))))))
+        (m .says ∙ ap (λ (x : Read). serveRead s (add i p) x .answer) q)
+        (Model.full-exactly firstLevel secondLevel s (record { word = w; plan = p }) f)

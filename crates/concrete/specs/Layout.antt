@@ -1,0 +1,72 @@
+-- The table as a list of numbers, for buckets of n rows and r solution words; at 64 and 8 document 01's layout.
+-- Assumes nothing.
+use Prim.Native.Nat.{ℕ, zero, suc, _+_, _-_, _*_}
+use mathlib.Core.List.{List, [], _∷_, _++_}
+use lib.ListN.{length, getD, drop, replicate}
+use Rattle.lists.specs.Entries.{Entry}
+use Rattle.bucket.specs.declared.Bucket.{Bucket}
+use Rattle.bucket.specs.Words.{bucketWords, wordsOf, bucketFrom}
+use Rattle.model.specs.Model.{baseLimit}
+use Rattle.concrete.specs.Table.{Table}
+
+-- the numbers before the buckets: buckets of level 1, of level 2, base count, live count
+abbrev pub header : ℕ
+header = 4
+
+-- the numbers of the base list: a pair for each entry, used or not
+abbrev pub baseNumbers : ℕ
+baseNumbers = 2 * baseLimit
+
+-- the buckets of a level, one after the other
+abbrev pub levelNumbers : List Bucket → List ℕ
+levelNumbers [] = []
+levelNumbers (b ∷ bs) = wordsOf b ++ levelNumbers bs
+
+-- pairs: w', plan
+abbrev pub pairNumbers : List Entry → List ℕ
+pairNumbers [] = []
+pairNumbers (e ∷ es) = e .word ∷ e .plan ∷ pairNumbers es
+
+-- the base pairs, and 0 for the unused ones
+abbrev pub basePairs : List Entry → List ℕ
+basePairs es = pairNumbers es ++ replicate (baseNumbers - 2 * length es) 0
+
+-- the numbers of a table: header, level 1, level 2, base pairs
+unfoldable pub numbersOf : Table → List ℕ
+numbersOf T =
+    length (T .level1) ∷ length (T .level2) ∷ length (T .base) ∷ T .count
+    ∷ (levelNumbers (T .level1) ++ (levelNumbers (T .level2) ++ basePairs (T .base)))
+
+-- m buckets from the front of the numbers
+abbrev pub levelFrom : ℕ → ℕ → ℕ → List ℕ → List Bucket
+levelFrom n r zero xs = []
+levelFrom n r (suc m) xs = bucketFrom n r xs ∷ levelFrom n r m (drop (bucketWords n r) xs)
+
+-- k pairs from the front of the numbers
+abbrev pub pairsFrom : ℕ → List ℕ → List Entry
+pairsFrom zero xs = []
+pairsFrom (suc k) xs = record { word = getD xs 0 0; plan = getD xs 1 0 } ∷ pairsFrom k (drop 2 xs)
+
+-- the place of bucket i, level 1 first
+abbrev pub bucketPlace : ℕ → ℕ → ℕ → ℕ
+bucketPlace n r i = header + i * bucketWords n r
+
+-- the table that the numbers hold
+unfoldable pub tableFrom : ℕ → ℕ → List ℕ → Table
+tableFrom n r xs =
+    let b1 : ℕ = getD xs 0 0 in
+    let b2 : ℕ = getD xs 1 0 in
+    record {
+      level1 = levelFrom n r b1 (drop (bucketPlace n r 0) xs);
+      level2 = levelFrom n r b2 (drop (bucketPlace n r b1) xs);
+      base = pairsFrom (getD xs 2 0) (drop (bucketPlace n r (b1 + b2)) xs);
+      count = getD xs 3 0;
+    }
+
+-- the length that the bucket numbers give
+abbrev pub lengthOf : ℕ → ℕ → ℕ → ℕ → ℕ
+lengthOf n r b1 b2 = bucketPlace n r (b1 + b2) + baseNumbers
+
+-- the numbers of the base pairs that are not used
+abbrev pub unusedIn : ℕ → ℕ → List ℕ → List ℕ
+unusedIn n r xs = drop (bucketPlace n r (getD xs 0 0 + getD xs 1 0) + 2 * getD xs 2 0) xs

@@ -1,0 +1,9 @@
+-- The definitions of the crate.
+pub mod Table
+pub mod Layout
+pub mod Content
+pub mod AtOnce
+pub mod Sound
+pub mod Test
+pub mod Calls
+pub mod History

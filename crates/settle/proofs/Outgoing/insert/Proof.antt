@@ -1,0 +1,17 @@
+-- `settle::Outgoing::insert` meets its contract.
+-- Assumes nothing.
+use borrow.Author.Needs.{needs}
+use Rattle.settle.proofs.Outgoing.insert.Statement.{statement}
+use Rattle.settle.proofs.Outgoing.insert.Tie as tie
+
+place-of-requires : tie.Need-place-of-requires
+place-of-requires c κs = search needs
+
+put-at-requires : tie.Need-put-at-requires
+put-at-requires c κs = search needs
+
+returns : tie.Need-returns
+returns c = cc
+
+pub insert-spec : {M : Type 1} → statement M
+insert-spec = tie.close (tie.spec place-of-requires put-at-requires returns)
