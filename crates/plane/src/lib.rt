@@ -145,10 +145,9 @@ pub(crate) fn buckets_wrong(plane: &[u8], first: usize, m: usize) -> Wrong
 
 // The word of the base entry in front.
 pub(crate) fn entry_word(p: &[u8]) -> u64
-    requires { ⌜ 9 ≤ length (now p) ⌝ }
     ensures { λ r. ⌜ r ≡ entryFrom (now (p .entry)) .word ⌝ }
 {
-    codec::word(&p[1..])
+    codec::get_u64(p, 1)
 }
 
 // k base entries from the offset first on, after one of the word before.
@@ -196,7 +195,7 @@ pub(crate) fn end_fits(p: &[u8]) -> bool
     if !whole(p, Record::END, Record::END_BODY) {
         return false;
     }
-    codec::same(&p[1..Record::END_LEN], b"END\n")
+    codec::same_at(p, 1, b"END\n")
 }
 
 // The end at the offset at, and nothing after it.
@@ -258,16 +257,14 @@ pub(crate) fn wrong_at(plane: &[u8]) -> Wrong
 
 // Solution word i of the bucket in front.
 pub(crate) fn solution(p: &[u8], i: usize) -> u64
-    requires { do ⌜ (i < (← ⟦Bucket::SOLUTIONS⟧)) × ((← ⟦Record::BUCKET_LEN⟧) ≤ length (now p)) ⌝ }
+    requires { do ⌜ i < (← ⟦Bucket::SOLUTIONS⟧) ⌝ }
     ensures { λ r. do ⌜ r ≡ getD (bucketFrom (← ⟦Bucket::SOLUTIONS⟧ .entry) (now (p .entry)) .sols) i 0 ⌝ }
 {
-    let at = 2 + i * 8;
-    codec::word(&p[at..])
+    codec::get_u64(p, 2 + i * 8)
 }
 
 // The plan that the bucket in front gives for the vector v.
 pub(crate) fn bucket_plan(p: &[u8], v: u64) -> u64
-    requires { do ⌜ (← ⟦Record::BUCKET_LEN⟧) ≤ length (now p) ⌝ }
     ensures { λ r. do ⌜ r ≡ product (bucketFrom (← ⟦Bucket::SOLUTIONS⟧ .entry) (now (p .entry)) .sols) v ⌝ }
 {
     let mut plan: u64 = 0;
