@@ -37,7 +37,7 @@ part-e-end c = search needs
 
 -- src/lib.rt:286:12
 entry-word-requires : tie.Need-entry-word-requires Inv-loop μ-loop
-entry-word-requires c κs = rw (rest, length-drop) (omega arith)
+entry-word-requires c κs = search needs
 
 -- src/lib.rt:287:25
 shared-slice-read-wide : tie.Need-shared-slice-read-wide Inv-loop μ-loop

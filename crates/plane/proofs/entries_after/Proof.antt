@@ -6,7 +6,7 @@ use lib.ListN.{length, drop}
 use mathlib.Core.Bool.{true}
 use Rattle.plane.specs.Record.{entryKind, entryBody}
 use Rattle.plane.specs.Plane.{whole, entriesWrong}
-use Rattle.plane.proofs.Scan.{rest, refused, passed, whole-length, whole-next, entries-cut, entries-low, entries-step}
+use Rattle.plane.proofs.Scan.{rest, refused, passed, whole-next, entries-cut, entries-low, entries-step}
 use Rattle.plane.proofs.entries_after.Statement.{statement}
 use Rattle.plane.proofs.entries_after.Tie as tie
 use Rattle.plane.proofs.entries_after.Reads as reads
@@ -56,9 +56,7 @@ there c = rw rest at (passed (c .before .whole .result) (c .before .whole .ensur
 
 -- src/lib.rt:155:13
 entry-word-requires : tie.Need-entry-word-requires Inv-loop μ-loop
-entry-word-requires c κs =
-    let b = c .before .before .before .before in
-    rw rest (omega (arith, whole-length 3 9 (drop (b .loop .at) (b .before .before .args .plane .now)) (there c)))
+entry-word-requires c κs = search needs
 
 -- src/lib.rt:157:13
 returns-2 : tie.Need-returns-2 Inv-loop μ-loop

@@ -8,7 +8,7 @@ use borrow.Author.Needs.{needs}
 use lib.ListN.{drop}
 use Rattle.plane.specs.Record.{entryKind, entryBody}
 use Rattle.plane.specs.Plane.{whole, entriesWrong}
-use Rattle.plane.proofs.Scan.{rest, refused, passed, whole-length, whole-next, entries-cut, entries-step}
+use Rattle.plane.proofs.Scan.{rest, refused, passed, whole-next, entries-cut, entries-step}
 use Rattle.plane.proofs.entries_wrong.Statement.{statement}
 use Rattle.plane.proofs.entries_wrong.Tie as tie
 use Rattle.plane.proofs.entries_wrong.Reads as reads
@@ -59,9 +59,7 @@ sub-entries-after c = search needs
 
 -- src/lib.rt:180:60
 entry-word-requires : tie.Need-entry-word-requires
-entry-word-requires c κs =
-    let a = c .before .before .before .before .before .args in
-    rw rest (omega (arith, whole-length 3 9 (drop (a .first) (a .plane .now)) (there c)))
+entry-word-requires c κs = search needs
 
 -- src/lib.rt:180:5
 entries-after-requires : tie.Need-entries-after-requires

@@ -49,7 +49,7 @@ wide-requires-2 : tie.Need-wide-requires-2
 wide-requires-2 c κs = search needs
 
 bucket-plan-requires : tie.Need-bucket-plan-requires
-bucket-plan-requires c κs = rw (rest, length-drop) (omega (arith, below (c .before .before .before .before .before)))
+bucket-plan-requires c κs = search needs
 
 returns : tie.Need-returns
 returns c =
