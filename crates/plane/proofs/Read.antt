@@ -1,15 +1,16 @@
 -- Things read from bytes one after the other: how many, each by its place, and the loops that look for one.
 -- Assumes nothing.
 use mathlib.Core.Path.{_≡_, refl, sym, ap, _∙_}
-use mathlib.Core.List.{List, []}
+use mathlib.Core.List.{List, [], _∷_}
 use mathlib.Core.Option.{Option, some}
 use Prim.Native.Nat.{ℕ, zero, suc, _+_, _-_, _*_, _/_, _≤_, _<_}
 use native.Mathlib.Nat.{suc-mul, add-comm, mod-lt, not-suc-le-zero, le-of-suc-le-suc}
 use native.Mathlib.Numerals.{sub-one}
 use native.Mathlib.Omega.{arith}
 use borrow.Author.Tests.{lt-ltb, le-ltb, eq-eqb, ne-eqb}
-use lib.ListN.{length, getD, drop}
-use lib.Seq.{drop-drop}
+use lib.Dec.{lit<, lit≤}
+use lib.ListN.{length, getD, take, drop}
+use lib.Seq.{drop-drop, take-take, getD-take}
 use Rattle.lists.specs.Entries.{find}
 use Rattle.gf2.specs.Vectors.{product}
 use Rattle.hash.specs.Mix.{mixOf}
@@ -35,6 +36,16 @@ module _ {A : Type 0} (size : ℕ) (read : List ℕ → A) where
 -- solution word i of a bucket of r
 pub word-at : (r i : ℕ) (p : List ℕ) → i < r → wordFrom (drop (2 + i * wordBytes) p) ≡ getD (bucketFrom r p .sols) i 0
 word-at r i p h = sym (getD-readAll wordBytes wordFrom r i (drop 2 p) 0 h ∙ ap wordFrom (drop-drop (i * wordBytes) 2 p))
+
+-- the entry at the offset at, in a part of just its bytes
+pub entry-part : (at : ℕ) (p : List ℕ) → entryFrom (take (at + (1 + entryBody) - at) (drop at p)) ≡ entryFrom (drop at p)
+entry-part at p =
+    let ten : at + (1 + entryBody) - at ≡ 1 + entryBody = omega arith in
+    rw ten (go (drop at p))
+  where
+    go : (q : List ℕ) → entryFrom (take (1 + entryBody) q) ≡ entryFrom q
+    go [] = refl
+    go (x ∷ q) = rw (take-take 8 9 q (lit≤ tt), getD-take 9 q 8 0 (lit< tt))
 
 -- the entry in front, of `left` ones, has the word v, or another word w
 pub find-here : (v left w : ℕ) (p : List ℕ) → 0 < left → w ≡ entryFrom p .word → w ≡ v

@@ -284,11 +284,12 @@ pub(crate) fn base_plan(p: &[u8], k: usize, v: u64) -> u64
     let mut at = 0;
     let mut left = k;
     while 0 < left {
-        let e = &p[at..];
+        let next = at + Record::ENTRY_LEN;
+        let e = &p[at..next];
         if entry_word(e) == v {
             return wide(e[Record::ENTRY_BODY]);
         }
-        at += Record::ENTRY_LEN;
+        at = next;
         left -= 1;
     }
     STRANGER_PLAN
