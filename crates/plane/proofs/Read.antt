@@ -4,13 +4,13 @@ use mathlib.Core.Path.{_≡_, refl, sym, ap, _∙_}
 use mathlib.Core.List.{List, [], _∷_}
 use mathlib.Core.Option.{Option, some}
 use Prim.Native.Nat.{ℕ, zero, suc, _+_, _-_, _*_, _/_, _≤_, _<_}
-use native.Mathlib.Nat.{suc-mul, add-comm, mod-lt, not-suc-le-zero, le-of-suc-le-suc}
+use native.Mathlib.Nat.{suc-mul, zero-add, suc-add, add-comm, mod-lt, not-suc-le-zero, le-of-suc-le-suc}
 use native.Mathlib.Numerals.{sub-one}
 use native.Mathlib.Omega.{arith}
 use borrow.Author.Tests.{lt-ltb, le-ltb, eq-eqb, ne-eqb}
 use lib.Dec.{lit<, lit≤}
 use lib.ListN.{length, getD, take, drop}
-use lib.Seq.{drop-drop, take-take, getD-take}
+use lib.Seq.{drop-drop, take-take, getD-take, take-nil}
 use Rattle.lists.specs.Entries.{find}
 use Rattle.gf2.specs.Vectors.{product}
 use Rattle.hash.specs.Mix.{mixOf}
@@ -33,11 +33,25 @@ module _ {A : Type 0} (size : ℕ) (read : List ℕ → A) where
       getD-readAll m i (drop size p) d (le-of-suc-le-suc h)
       ∙ ap read (drop-drop (i * size) size p ∙ ap (λ (k : ℕ). drop k p) (sym (suc-mul i size ∙ add-comm (i * size) size)))
 
--- solution word i of a bucket of r
-pub word-at : (r i : ℕ) (p : List ℕ) → i < r → wordFrom (drop (2 + i * wordBytes) p) ≡ getD (bucketFrom r p .sols) i 0
-word-at r i p h = sym (getD-readAll wordBytes wordFrom r i (drop 2 p) 0 h ∙ ap wordFrom (drop-drop (i * wordBytes) 2 p))
+-- ---- a record in a part of just its bytes
 
--- the entry at the offset at, in a part of just its bytes
+drop-take : (n m : ℕ) (l : List ℕ) → drop n (take (n + m) l) ≡ take m (drop n l)
+drop-take zero m l = rw zero-add
+drop-take (suc n) m [] = rw (take-nil (suc n + m), take-nil m)
+drop-take (suc n) m (x ∷ l) = rw suc-add (drop-take n m l)
+
+part-words : (r : ℕ) (p : List ℕ) → readAll wordBytes wordFrom r (take (wordBytes * r) p) ≡ readAll wordBytes wordFrom r p
+unfolding readAll
+part-words zero p = refl
+part-words (suc r) p =
+    let more : wordBytes * suc r ≡ wordBytes + wordBytes * r = omega arith in
+    rw (more, take-take wordBytes (wordBytes + wordBytes * r) p (omega arith), drop-take wordBytes (wordBytes * r) p, part-words r (drop wordBytes p))
+
+pub bucket-part : (r at : ℕ) (p : List ℕ) → bucketFrom r (take (at + (1 + bucketBody r) - at) (drop at p)) ≡ bucketFrom r (drop at p)
+bucket-part r at p =
+    let size : at + (1 + bucketBody r) - at ≡ 2 + wordBytes * r = omega arith in
+    rw (size, getD-take (2 + wordBytes * r) (drop at p) 1 0 (omega arith), drop-take 2 (wordBytes * r) (drop at p), part-words r (drop 2 (drop at p)))
+
 pub entry-part : (at : ℕ) (p : List ℕ) → entryFrom (take (at + (1 + entryBody) - at) (drop at p)) ≡ entryFrom (drop at p)
 entry-part at p =
     let ten : at + (1 + entryBody) - at ≡ 1 + entryBody = omega arith in
@@ -46,6 +60,10 @@ entry-part at p =
     go : (q : List ℕ) → entryFrom (take (1 + entryBody) q) ≡ entryFrom q
     go [] = refl
     go (x ∷ q) = rw (take-take 8 9 q (lit≤ tt), getD-take 9 q 8 0 (lit< tt))
+
+-- solution word i of a bucket of r
+pub word-at : (r i : ℕ) (p : List ℕ) → i < r → wordFrom (drop (2 + i * wordBytes) p) ≡ getD (bucketFrom r p .sols) i 0
+word-at r i p h = sym (getD-readAll wordBytes wordFrom r i (drop 2 p) 0 h ∙ ap wordFrom (drop-drop (i * wordBytes) 2 p))
 
 -- the entry in front, of `left` ones, has the word v, or another word w
 pub find-here : (v left w : ℕ) (p : List ℕ) → 0 < left → w ≡ entryFrom p .word → w ≡ v

@@ -302,7 +302,8 @@ pub(crate) fn level_plan(p: &[u8], m: u8, v: u64) -> Held
 {
     let i = identifier::bucket(v, wide(m)) as usize;
     let at = i * Record::BUCKET_LEN;
-    let b = &p[at..];
+    let next = at + Record::BUCKET_LEN;
+    let b = &p[at..next];
     if identifier::threshold(v) < wide(b[1]) {
         return Held::Plan(bucket_plan(b, v));
     }

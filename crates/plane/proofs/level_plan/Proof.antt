@@ -5,12 +5,13 @@ use Prim.Native.Nat.{ℕ, _*_, _/_, _<_}
 use native.Mathlib.Nat.{mod-lt}
 use native.Mathlib.Omega.{arith}
 use borrow.Author.Needs.{needs}
-use lib.ListN.{length-drop}
+use lib.ListN.{length-take, length-drop}
+use Rattle.gf2.specs.Vectors.{product}
 use Rattle.hash.specs.Mix.{mixOf}
 use Rattle.identifier.specs.Place.{bucketAt}
 use Rattle.plane.specs.declared.Held.the-variants.{Plan}
-use Rattle.plane.proofs.Scan.{rest}
-use Rattle.plane.proofs.Read.{level-held, level-passed}
+use Rattle.plane.specs.Record.{PlaneBucket}
+use Rattle.plane.proofs.Read.{bucket-part, level-held, level-passed}
 use Rattle.plane.proofs.level_plan.Statement.{statement}
 use Rattle.plane.proofs.level_plan.Tie as tie
 
@@ -30,6 +31,9 @@ below c = rw (found c) (mod-lt (mixOf (c .before .before .before .args .v) / 8) 
 mul-at : tie.Need-mul-at
 mul-at c = omega (arith, below c)
 
+add-next : tie.Need-add-next
+add-next c = omega (arith, below c)
+
 sub-b : tie.Need-sub-b
 sub-b c = omega (arith, below c)
 
@@ -37,13 +41,13 @@ part-b-start : tie.Need-part-b-start
 part-b-start c = omega (arith, below c)
 
 part-b-end : tie.Need-part-b-end
-part-b-end c = search needs
+part-b-end c = omega (arith, below c)
 
 threshold-requires : tie.Need-threshold-requires
 threshold-requires c κs = search needs
 
 shared-slice-read-wide : tie.Need-shared-slice-read-wide
-shared-slice-read-wide c = rw (rest, length-drop) (omega (arith, below (c .before .before .before)))
+shared-slice-read-wide c = simp (length-take, length-drop) (omega (arith, below (c .before .before .before)))
 
 wide-requires-2 : tie.Need-wide-requires-2
 wide-requires-2 c κs = search needs
@@ -56,8 +60,10 @@ returns c =
     let b = c .before .before .before .before .before .before in
     let a = b .before .before .before .args in
     let at = b .bucket .result * 66 in
-    let h = rw (c .before .before .before .before .threshold .ensures, c .before .before .wide2 .ensures, rest at (a .p .now)) at (c .before .if1 .taken) in
-    let plan = rw (rest at (a .p .now)) at (c .bucket-plan .ensures) in
+    let same = bucket-part 8 at (a .p .now) in
+    let bound = c .before .before .wide2 .ensures ∙ ap (λ (x : PlaneBucket). x .bound) same in
+    let h = rw (c .before .before .before .before .threshold .ensures, bound) at (c .before .if1 .taken) in
+    let plan = c .bucket-plan .ensures ∙ ap (λ (x : PlaneBucket). product (x .sols) (a .v)) same in
     sym (level-held 8 (a .m) (a .v) at (a .p .now) (b .before .before .before .pre .0) (ap (λ (i : ℕ). i * 66) (found b)) h ∙ ap Plan (sym plan))
 
 returns-2 : tie.Need-returns-2
@@ -65,7 +71,8 @@ returns-2 c =
     let b = c .before .before .before .before .before in
     let a = b .before .before .before .args in
     let at = b .bucket .result * 66 in
-    let h = rw (c .before .before .before .threshold .ensures, c .before .wide2 .ensures, rest at (a .p .now)) at (c .if1 .left) in
+    let bound = c .before .wide2 .ensures ∙ ap (λ (x : PlaneBucket). x .bound) (bucket-part 8 at (a .p .now)) in
+    let h = rw (c .before .before .before .threshold .ensures, bound) at (c .if1 .left) in
     sym (level-passed 8 (a .m) (a .v) at (a .p .now) (b .before .before .before .pre .0) (ap (λ (i : ℕ). i * 66) (found b)) h)
 
 pub level-plan-spec : {M : Type 1} → statement M
@@ -75,6 +82,7 @@ level-plan-spec =
     wide-requires
     bucket-requires
     mul-at
+    add-next
     sub-b
     part-b-start
     part-b-end
