@@ -1,3 +1,4 @@
 -- The laws of the crate.
 pub mod Scan
 pub mod Read
+pub mod Round

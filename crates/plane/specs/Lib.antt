@@ -2,3 +2,4 @@
 pub mod Record
 pub mod Plane
 pub mod Lookup
+pub mod Fits

@@ -1,0 +1,78 @@
+-- What is written is read again: the bytes of a plane that fits are wrong nowhere, have the length of a plane, and say that plane.
+-- Assumes nothing.
+use mathlib.Core.Path.{_≡_, refl, sym, ap, ap₂, _∙_}
+use mathlib.Core.Bool.{true}
+use mathlib.Core.List.{List, [], _∷_, _++_, append-assoc}
+use Prim.Native.Nat.{ℕ, zero, suc, _+_, _*_, _^_, _≤_, _<_}
+use native.Mathlib.Nat.{suc-mul, zero-mul}
+use native.Mathlib.Omega.{arith}
+use borrow.Author.Tests.{le-leb}
+use lib.Dec.{leb}
+use lib.ListN.{length, getD, take, drop, length-append}
+use lib.Seq.{take-at, drop-at, getD-at, drop-append-add}
+use Rattle.lists.specs.Entries.{Entry, Above, Ascending}
+use Rattle.codec.specs.Bytes.{fromBytes, toBytes}
+use Rattle.codec.proofs.Round.{length-toBytes, from-to}
+use Rattle.plane.specs.declared.Wrong.{Wrong}
+use Rattle.plane.specs.declared.Wrong.the-variants.{Nowhere, At}
+use Rattle.plane.specs.Record.{bytesOf, readAll, wordBytes, wordFrom, headerRecord, PlaneBucket, bucketBody, bucketRecord, bucketFrom, entryBody, entryRecord, entryFrom, endRecord}
+use Rattle.plane.specs.Plane.{Plane, planeBytes, planeFrom, bucketsAt, entriesAt, endAt, planeLength, bucketsWrong, entriesWrong, wrongAt}
+use Rattle.plane.specs.Fits.{Every, Below, FitsBucket, FitsEntry, Fits}
+
+-- ---- things one after the other
+
+every : {A : Type 0} {P Q : A → Type 0} → ((x : A) → P x → Q x) → (xs : List A) → Every P xs → Every Q xs
+every f [] h = tt
+every f (x ∷ xs) h = (f x (h .0), every f xs (h .1))
+
+module _ {A : Type 0} (f : A → List ℕ) where
+  pub bytes-append : (xs ys : List A) → bytesOf f (xs ++ ys) ≡ bytesOf f xs ++ bytesOf f ys
+  unfolding bytesOf
+  bytes-append [] ys = refl
+  bytes-append (x ∷ xs) ys = rw (bytes-append xs ys, append-assoc (f x) (bytesOf f xs) (bytesOf f ys))
+
+  module _ (size : ℕ) where
+    -- things of `size` bytes each
+    abbrev Sized : A → Type 0
+    Sized x = length (f x) ≡ size
+
+    pub length-bytes : (xs : List A) → Every Sized xs → length (bytesOf f xs) ≡ length xs * size
+    unfolding bytesOf
+    length-bytes [] h = sym (zero-mul size)
+    length-bytes (x ∷ xs) h = rw (length-append, h .0, length-bytes xs (h .1), suc-mul) (omega arith)
+
+    module _ (read : List ℕ → A) where
+      -- that are read again, whatever follows
+      abbrev Back : A → Type 0
+      Back x = Sized x × ((q : List ℕ) → read (f x ++ q) ≡ x)
+
+      pub read-back : (xs : List A) (q : List ℕ) → Every Back xs → readAll size read (length xs) (bytesOf f xs ++ q) ≡ xs
+      unfolding bytesOf readAll
+      read-back [] q h = refl
+      read-back (x ∷ xs) q h =
+          rw (append-assoc (f x) (bytesOf f xs) q, h .0 .1 (bytesOf f xs ++ q), drop-at (f x) (bytesOf f xs ++ q) size (h .0 .0), read-back xs q (h .1))
+
+-- ---- each kind of thing
+
+word-back : (x : ℕ) → Below wordBytes x → Back (toBytes wordBytes) wordBytes wordFrom x
+word-back x h =
+    (length-toBytes wordBytes x, λ q. ap fromBytes (take-at (toBytes wordBytes x) q wordBytes (length-toBytes wordBytes x)) ∙ from-to wordBytes x h)
+
+-- the solution words of a bucket that fits
+words-back : (r : ℕ) (b : PlaneBucket) → FitsBucket r b → Every (Back (toBytes wordBytes) wordBytes wordFrom) (b .sols)
+words-back r b h = every word-back (b .sols) (h .words)
+
+bucket-back : (r : ℕ) (b : PlaneBucket) → FitsBucket r b → Back bucketRecord (1 + bucketBody r) (bucketFrom r) b
+bucket-back r b h = (
+  omega (arith, length-bytes (toBytes wordBytes) wordBytes (b .sols) (every (λ x k. k .0) (b .sols) (words-back r b h)), h .wide),
+  λ q. ap (λ (s : List ℕ). record { bound = b .bound; sols = s }) (rw (← h .wide) (read-back (toBytes wordBytes) wordBytes wordFrom (b .sols) q (words-back r b h))),
+)
+
+entry-back : (e : Entry) → FitsEntry e → Back entryRecord (1 + entryBody) entryFrom e
+entry-back e h =
+    let t : List ℕ = toBytes wordBytes (e .word) in
+    let n : length t ≡ wordBytes = length-toBytes wordBytes (e .word) in
+    (
+      rw length-append (omega arith),
+      λ q. rw append-assoc (ap₂ (λ (w p : ℕ). record { word = w; plan = p }) (word-back (e .word) (h .word) .1 (e .plan ∷ q)) (getD-at t (e .plan) q 0 wordBytes n)),
+    )
