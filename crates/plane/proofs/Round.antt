@@ -13,10 +13,12 @@ use lib.Seq.{take-at, drop-at, getD-at, drop-append-add}
 use Rattle.lists.specs.Entries.{Entry, Above, Ascending}
 use Rattle.codec.specs.Bytes.{fromBytes, toBytes}
 use Rattle.codec.proofs.Round.{length-toBytes, from-to}
+use Rattle.bucket.specs.Bucket.{largestBound}
 use Rattle.plane.specs.declared.Wrong.{Wrong}
 use Rattle.plane.specs.declared.Wrong.the-variants.{Nowhere, At}
 use Rattle.plane.specs.Record.{bytesOf, readAll, wordBytes, wordFrom, headerRecord, PlaneBucket, bucketBody, bucketRecord, bucketFrom, entryBody, entryRecord, entryFrom, endRecord}
-use Rattle.plane.specs.Plane.{Plane, planeBytes, planeFrom, bucketsAt, entriesAt, endAt, planeLength, bucketsWrong, entriesWrong, wrongAt}
+use Rattle.plane.specs.Plane.{bucketFits, entryFits, Plane, planeBytes, planeFrom, bucketsAt, entriesAt, endAt, planeLength, bucketsWrong, entriesWrong, wrongAt}
+use Rattle.plane.proofs.Scan.{buckets-next, entries-next}
 use Rattle.plane.specs.Fits.{Every, Below, FitsBucket, FitsEntry, Fits}
 
 -- ---- things one after the other
@@ -76,3 +78,46 @@ entry-back e h =
       rw length-append (omega arith),
       λ q. rw append-assoc (ap₂ (λ (w p : ℕ). record { word = w; plan = p }) (word-back (e .word) (h .word) .1 (e .plan ∷ q)) (getD-at t (e .plan) q 0 wordBytes n)),
     )
+
+-- ---- the check of what is written
+
+module _ (r : ℕ) where
+  bucket-fits : (b : PlaneBucket) (q : List ℕ) → FitsBucket r b → bucketFits r (bucketRecord b ++ q) ≡ true
+  bucket-fits b q h =
+      let n : 1 + bucketBody r ≤ length (bucketRecord b ++ q) = rw length-append (omega (arith, bucket-back r b h .0)) in
+      rw (le-leb (1 + bucketBody r) (length (bucketRecord b ++ q)) n, le-leb (b .bound) largestBound (h .low))
+
+  buckets-right : (bs : List PlaneBucket) (q : List ℕ) (at : ℕ) → Every (FitsBucket r) bs → bucketsWrong r (length bs) at (bytesOf bucketRecord bs ++ q) ≡ Nowhere
+  unfolding bytesOf bucketsWrong
+  buckets-right [] q at h = refl
+  buckets-right (b ∷ bs) q at h =
+      let rest : List ℕ = bytesOf bucketRecord bs ++ q in
+      ap (bucketsWrong r (suc (length bs)) at) (append-assoc (bucketRecord b) (bytesOf bucketRecord bs) q)
+      ∙ buckets-next r (length bs) at (bucketRecord b ++ rest) (bucket-fits b rest (h .0))
+      (rw (drop-at (bucketRecord b) rest (1 + bucketBody r) (bucket-back r b (h .0) .0)) (buckets-right bs q (at + (1 + bucketBody r)) (h .1)))
+
+-- the first word is at least `least`
+abbrev From : ℕ → List Entry → Type 0
+From least [] = Unit {0}
+From least (e ∷ es) = least ≤ e .word
+
+from-above : (w : ℕ) (es : List Entry) → Above w es → From (suc w) es
+from-above w [] h = tt
+from-above w (e ∷ es) h = h .0
+
+entry-fits : (least : ℕ) (e : Entry) (q : List ℕ) → FitsEntry e → least ≤ e .word → entryFits least (entryRecord e ++ q) ≡ true
+entry-fits least e q h f =
+    let n : 1 + entryBody ≤ length (entryRecord e ++ q) = rw length-append (omega (arith, entry-back e h .0)) in
+    let w : entryFrom (entryRecord e ++ q) .word ≡ e .word = ap (λ (x : Entry). x .word) (entry-back e h .1 q) in
+    rw (le-leb (1 + entryBody) (length (entryRecord e ++ q)) n, w, le-leb least (e .word) f)
+
+entries-right : (es : List Entry) (q : List ℕ) (least at : ℕ) → Every FitsEntry es → Ascending es → From least es
+    → entriesWrong least (length es) at (bytesOf entryRecord es ++ q) ≡ Nowhere
+unfolding bytesOf entriesWrong
+entries-right [] q least at h a f = refl
+entries-right (e ∷ es) q least at h a f =
+    let rest : List ℕ = bytesOf entryRecord es ++ q in
+    let w : entryFrom (entryRecord e ++ rest) .word ≡ e .word = ap (λ (x : Entry). x .word) (entry-back e (h .0) .1 rest) in
+    ap (entriesWrong least (suc (length es)) at) (append-assoc (entryRecord e) (bytesOf entryRecord es) q)
+    ∙ entries-next least (length es) at (entryRecord e ++ rest) (entry-fits least e rest (h .0) f)
+    (rw (w, drop-at (entryRecord e) rest (1 + entryBody) (entry-back e (h .0) .0)) (entries-right es q (suc (e .word)) (at + (1 + entryBody)) (h .1) (a .1) (from-above (e .word) es (a .0))))

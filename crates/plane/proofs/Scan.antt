@@ -71,6 +71,12 @@ module _ (r : ℕ) where
   buckets-here zero at p h e = absurd (omega arith)
   buckets-here (suc m) at p h e = rw e
 
+  -- one that fits, and nothing wrong after it
+  pub buckets-next : (m at : ℕ) (p : List ℕ) → bucketFits r p ≡ true → bucketsWrong r m (at + (1 + bucketBody r)) (drop (1 + bucketBody r) p) ≡ Nowhere
+      → bucketsWrong r (suc m) at p ≡ Nowhere
+  unfolding bucketsWrong
+  buckets-next m at p e f = rw (e, f)
+
   -- m buckets that fit are there
   pub buckets-room : (m at : ℕ) (p : List ℕ) → bucketsWrong r m at p ≡ Nowhere → m * (1 + bucketBody r) ≤ length p
   unfolding bucketsWrong
@@ -98,6 +104,11 @@ pub entries-step : (least left at w : ℕ) (p : List ℕ) → 0 < left → whole
 unfolding entriesWrong
 entries-step least zero at w p h e i l = absurd (omega arith)
 entries-step least (suc k) at w p h e i l = rw (e, ← i, le-leb least w l, drop-drop (1 + entryBody) at p, sub-one)
+
+pub entries-next : (least k at : ℕ) (p : List ℕ) → entryFits least p ≡ true → entriesWrong (suc (entryFrom p .word)) k (at + (1 + entryBody)) (drop (1 + entryBody) p) ≡ Nowhere
+    → entriesWrong least (suc k) at p ≡ Nowhere
+unfolding entriesWrong
+entries-next least k at p e f = rw (e, f)
 
 pub entries-room : (least k at : ℕ) (p : List ℕ) → entriesWrong least k at p ≡ Nowhere → k * (1 + entryBody) ≤ length p
 unfolding entriesWrong
