@@ -9,16 +9,18 @@ use native.Mathlib.Omega.{arith}
 use borrow.Author.Tests.{le-leb}
 use lib.Dec.{leb}
 use lib.ListN.{length, getD, take, drop, length-append}
-use lib.Seq.{take-at, drop-at, getD-at, drop-append-add}
+use lib.Seq.{take-at, drop-at, getD-at, drop-append-add, drop-drop}
 use Rattle.lists.specs.Entries.{Entry, Above, Ascending}
 use Rattle.codec.specs.Bytes.{fromBytes, toBytes}
+use Rattle.codec.proofs.Equal.{equal-refl}
 use Rattle.codec.proofs.Round.{length-toBytes, from-to}
 use Rattle.bucket.specs.Bucket.{largestBound}
+use Rattle.model.specs.Model.{baseLimit}
 use Rattle.plane.specs.declared.Wrong.{Wrong}
 use Rattle.plane.specs.declared.Wrong.the-variants.{Nowhere, At}
-use Rattle.plane.specs.Record.{bytesOf, readAll, wordBytes, wordFrom, headerRecord, PlaneBucket, bucketBody, bucketRecord, bucketFrom, entryBody, entryRecord, entryFrom, endRecord}
+use Rattle.plane.specs.Record.{bytesOf, readAll, wordBytes, wordFrom, headerBody, headerRecord, PlaneBucket, bucketBody, bucketRecord, bucketFrom, entryBody, entryRecord, entryFrom, endBytes, endRecord}
 use Rattle.plane.specs.Plane.{bucketFits, entryFits, Plane, planeBytes, planeFrom, bucketsAt, entriesAt, endAt, planeLength, bucketsWrong, entriesWrong, wrongAt}
-use Rattle.plane.proofs.Scan.{buckets-next, entries-next}
+use Rattle.plane.proofs.Scan.{Right, nowhere, buckets-next, entries-next}
 use Rattle.plane.specs.Fits.{Every, Below, FitsBucket, FitsEntry, Fits}
 
 -- ---- things one after the other
@@ -26,6 +28,10 @@ use Rattle.plane.specs.Fits.{Every, Below, FitsBucket, FitsEntry, Fits}
 every : {A : Type 0} {P Q : A → Type 0} → ((x : A) → P x → Q x) → (xs : List A) → Every P xs → Every Q xs
 every f [] h = tt
 every f (x ∷ xs) h = (f x (h .0), every f xs (h .1))
+
+every-split : {A : Type 0} (P : A → Type 0) (xs ys : List A) → Every P (xs ++ ys) → Every P xs × Every P ys
+every-split P [] ys h = (tt, h)
+every-split P (x ∷ xs) ys h = ((h .0, every-split P xs ys (h .1) .0), every-split P xs ys (h .1) .1)
 
 module _ {A : Type 0} (f : A → List ℕ) where
   pub bytes-append : (xs ys : List A) → bytesOf f (xs ++ ys) ≡ bytesOf f xs ++ bytesOf f ys
@@ -105,6 +111,10 @@ from-above : (w : ℕ) (es : List Entry) → Above w es → From (suc w) es
 from-above w [] h = tt
 from-above w (e ∷ es) h = h .0
 
+from-zero : (es : List Entry) → From 0 es
+from-zero [] = tt
+from-zero (e ∷ es) = omega arith
+
 entry-fits : (least : ℕ) (e : Entry) (q : List ℕ) → FitsEntry e → least ≤ e .word → entryFits least (entryRecord e ++ q) ≡ true
 entry-fits least e q h f =
     let n : 1 + entryBody ≤ length (entryRecord e ++ q) = rw length-append (omega (arith, entry-back e h .0)) in
@@ -121,3 +131,87 @@ entries-right (e ∷ es) q least at h a f =
     ap (entriesWrong least (suc (length es)) at) (append-assoc (entryRecord e) (bytesOf entryRecord es) q)
     ∙ entries-next least (length es) at (entryRecord e ++ rest) (entry-fits least e rest (h .0) f)
     (rw (w, drop-at (entryRecord e) rest (1 + entryBody) (entry-back e (h .0) .0)) (entries-right es q (suc (e .word)) (at + (1 + entryBody)) (h .1) (a .1) (from-above (e .word) es (a .0))))
+
+-- ---- the plane
+
+module _ (r : ℕ) (P : Plane) (h : Fits r P) where
+  abbrev m : ℕ
+  m = length (P .level1) + length (P .level2)
+
+  abbrev k : ℕ
+  k = length (P .base)
+
+  abbrev B : List ℕ
+  B = bytesOf bucketRecord (P .level1 ++ P .level2)
+
+  abbrev E : List ℕ
+  E = bytesOf entryRecord (P .base)
+
+  length-B : length B ≡ m * (1 + bucketBody r)
+  length-B =
+      length-bytes bucketRecord (1 + bucketBody r) (P .level1 ++ P .level2) (every (λ b f. bucket-back r b f .0) (P .level1 ++ P .level2) (h .buckets))
+      ∙ ap (λ (n : ℕ). n * (1 + bucketBody r)) (length-append (P .level1) (P .level2))
+
+  length-E : length E ≡ k * (1 + entryBody)
+  length-E = length-bytes entryRecord (1 + entryBody) (P .base) (every (λ e f. entry-back e f .0) (P .base) (h .entries))
+
+  at-entries : drop (entriesAt r m) (planeBytes P) ≡ E ++ endRecord
+  unfolding planeBytes
+  at-entries =
+      drop-append-add (headerRecord (length (P .level1)) (length (P .level2)) k) (B ++ (E ++ endRecord)) (m * (1 + bucketBody r))
+      ∙ drop-at B (E ++ endRecord) (m * (1 + bucketBody r)) length-B
+
+  at-end : drop (endAt r m k) (planeBytes P) ≡ endRecord
+  at-end = sym (drop-drop (k * (1 + entryBody)) (entriesAt r m) (planeBytes P)) ∙ ap (drop (k * (1 + entryBody))) at-entries ∙ drop-at E endRecord (k * (1 + entryBody)) length-E
+
+  -- document 01's length of a plane
+  pub plane-length : length (planeBytes P) ≡ planeLength r m k
+  unfolding planeBytes
+  plane-length = rw (length-append, length-append, length-append, length-B, length-E) (omega arith)
+
+  right : Right r (planeBytes P)
+  unfolding planeBytes
+  right = record {
+    header = rw (le-leb (1 + headerBody) (length (planeBytes P)) (omega arith), h .range, le-leb k baseLimit (h .few));
+    buckets = rw (← length-append (P .level1) (P .level2)) (buckets-right r (P .level1 ++ P .level2) (E ++ endRecord) bucketsAt (h .buckets));
+    entries = rw at-entries (entries-right (P .base) endRecord 0 (entriesAt r m) (h .entries) (h .ascending) (from-zero (P .base)));
+    end = rw (at-end, equal-refl endBytes);
+    nothing = ap length at-end;
+  }
+
+  pub written-right : wrongAt r (planeBytes P) ≡ Nowhere
+  written-right = nowhere r (planeBytes P) right
+
+  -- the buckets of each level
+  all : (bs : List PlaneBucket) → Every (FitsBucket r) bs → Every (Back bucketRecord (1 + bucketBody r) (bucketFrom r)) bs
+  all bs f = every (bucket-back r) bs f
+
+  two : Every (FitsBucket r) (P .level1) × Every (FitsBucket r) (P .level2)
+  two = every-split (FitsBucket r) (P .level1) (P .level2) (h .buckets)
+
+  split : B ++ (E ++ endRecord) ≡ bytesOf bucketRecord (P .level1) ++ (bytesOf bucketRecord (P .level2) ++ (E ++ endRecord))
+  split =
+      ap (λ (b : List ℕ). b ++ (E ++ endRecord)) (bytes-append bucketRecord (P .level1) (P .level2))
+      ∙ append-assoc (bytesOf bucketRecord (P .level1)) (bytesOf bucketRecord (P .level2)) (E ++ endRecord)
+
+  at-second : drop (entriesAt r (length (P .level1))) (planeBytes P) ≡ bytesOf bucketRecord (P .level2) ++ (E ++ endRecord)
+  unfolding planeBytes
+  at-second =
+      let n : ℕ = length (P .level1) * (1 + bucketBody r) in
+      drop-append-add (headerRecord (length (P .level1)) (length (P .level2)) k) (B ++ (E ++ endRecord)) n
+      ∙ ap (drop n) split
+      ∙ drop-at (bytesOf bucketRecord (P .level1)) (bytesOf bucketRecord (P .level2) ++ (E ++ endRecord)) n
+      (length-bytes bucketRecord (1 + bucketBody r) (P .level1) (every (λ b f. f .0) (P .level1) (all (P .level1) (two .0))))
+
+  -- the plane that was written is read
+  pub written-read : planeFrom r (planeBytes P) ≡ P
+  unfolding planeBytes planeFrom
+  written-read =
+      let level : ℕ → List ℕ → List PlaneBucket = readAll (1 + bucketBody r) (bucketFrom r) in
+      let e1 : level (length (P .level1)) (B ++ (E ++ endRecord)) ≡ P .level1 =
+      ap (level (length (P .level1))) split ∙ read-back bucketRecord (1 + bucketBody r) (bucketFrom r) (P .level1) (bytesOf bucketRecord (P .level2) ++ (E ++ endRecord)) (all (P .level1) (two .0)) in
+      let e2 : level (length (P .level2)) (drop (entriesAt r (length (P .level1))) (planeBytes P)) ≡ P .level2 =
+      ap (level (length (P .level2))) at-second ∙ read-back bucketRecord (1 + bucketBody r) (bucketFrom r) (P .level2) (E ++ endRecord) (all (P .level2) (two .1)) in
+      let e3 : readAll (1 + entryBody) entryFrom k (drop (entriesAt r m) (planeBytes P)) ≡ P .base =
+      ap (readAll (1 + entryBody) entryFrom k) at-entries ∙ read-back entryRecord (1 + entryBody) entryFrom (P .base) endRecord (every entry-back (P .base) (h .entries)) in
+      λ i. record { level1 = e1 i; level2 = e2 i; base = e3 i }
