@@ -2,3 +2,4 @@
 pub mod Scan
 pub mod Read
 pub mod Round
+pub mod Exact

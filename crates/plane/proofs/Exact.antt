@@ -1,0 +1,173 @@
+-- What is right was written: bytes that are wrong nowhere are those of the plane that they say, which fits.
+-- Assumes nothing.
+use mathlib.Core.Path.{_≡_, refl, sym, ap, ap₂, _∙_, subst}
+use mathlib.Core.Bool.{Bool, true, _&&_}
+use mathlib.Core.List.{List, [], _∷_, _++_, append-assoc}
+use Prim.Native.Nat.{ℕ, zero, suc, _+_, _-_, _*_, _^_, _≤_, _<_}
+use native.Mathlib.Nat.{suc-mul, zero-mul, zero-add, suc-add, add-comm}
+use native.Mathlib.Omega.{arith}
+use borrow.Author.Tests.{leb-true, eqb-true}
+use lib.Dec.{leb, eqb}
+use lib.ListN.{length, getD, take, drop, length-append, length-drop, take-append-drop}
+use lib.Seq.{drop-cons, drop-drop, getD-take, getD-drop, length-take-le, take-suc, take-length}
+use Rattle.lists.specs.Entries.{Entry, Above, Ascending}
+use Rattle.codec.specs.Bytes.{fromBytes, toBytes, eqList}
+use Rattle.codec.proofs.Equal.{equal-eq}
+use Rattle.codec.proofs.Round.{Bytes, to-from, fromBytes-lt}
+use Rattle.bucket.specs.Bucket.{largestBound}
+use Rattle.model.specs.Model.{baseLimit}
+use Rattle.concrete.specs.Test.{inRange}
+use Rattle.plane.specs.declared.Wrong.{Wrong}
+use Rattle.plane.specs.declared.Wrong.the-variants.{Nowhere, At}
+use Rattle.plane.specs.Record.{bytesOf, readAll, wordBytes, wordFrom, headerKind, headerBody, format, headerRecord, PlaneBucket, bucketKind, bucketBody, bucketRecord, bucketFrom, entryKind, entryBody, entryRecord, entryFrom, endKind, endBody, endBytes, endRecord}
+use Rattle.plane.specs.Plane.{Plane, planeBytes, planeFrom, bucketsAt, entriesAt, endAt, whole, headerFits, bucketFits, bucketsWrong, entryFits, entriesWrong, endFits, wrongAt}
+use Rattle.plane.specs.Fits.{Every, Below, FitsBucket, FitsEntry, Fits}
+use Rattle.plane.proofs.Scan.{both, right, whole-length, Right, parts, bucketCount, entryCount, entriesIn, endIn}
+use Rattle.plane.proofs.Read.{length-readAll}
+
+-- each is below 256
+abbrev pub AllBytes : List ℕ → Type 0
+AllBytes p = (i : ℕ) → getD p i 0 < 256
+
+bytes-drop : (n : ℕ) (p : List ℕ) → AllBytes p → AllBytes (drop n p)
+bytes-drop n p b i = rw getD-drop (b (n + i))
+
+-- ---- things one after the other
+
+drop-more : (m size : ℕ) (p : List ℕ) → drop (suc m * size) p ≡ drop (m * size) (drop size p)
+drop-more m size p = ap (λ (k : ℕ). drop k p) (suc-mul m size ∙ add-comm (m * size) size) ∙ sym (drop-drop (m * size) size p)
+
+module _ {A : Type 0} (f : A → List ℕ) (size : ℕ) (read : List ℕ → A) where
+  -- one more, in front
+  bytes-front : (m : ℕ) (p : List ℕ) → f (read p) ++ drop size p ≡ p → bytesOf f (readAll size read m (drop size p)) ++ drop (m * size) (drop size p) ≡ drop size p
+      → bytesOf f (readAll size read (suc m) p) ++ drop (suc m * size) p ≡ p
+  unfolding bytesOf readAll
+  bytes-front m p e i =
+      rw (drop-more m size p, append-assoc, i) e
+
+  bytes-none : (p : List ℕ) → bytesOf f (readAll size read 0 p) ++ drop (0 * size) p ≡ p
+  unfolding bytesOf readAll
+  bytes-none p = rw zero-mul
+
+read-add : {A : Type 0} (size : ℕ) (read : List ℕ → A) (a b : ℕ) (p : List ℕ) → readAll size read (a + b) p ≡ readAll size read a p ++ readAll size read b (drop (a * size) p)
+unfolding readAll
+read-add size read zero b p = rw (zero-add, zero-mul)
+read-add size read (suc a) b p = rw (suc-add, read-add size read a b (drop size p), drop-more a size p)
+
+-- ---- words
+
+module _ (p : List ℕ) (n : wordBytes ≤ length p) (b : AllBytes p) where
+  size : length (take wordBytes p) ≡ wordBytes
+  size = length-take-le wordBytes p n
+
+  bytes : Bytes (take wordBytes p)
+  bytes i h = rw (getD-take wordBytes p i 0 (omega (arith, size))) (b i)
+
+  word-bytes : toBytes wordBytes (wordFrom p) ++ drop wordBytes p ≡ p
+  word-bytes = ap (λ (w : List ℕ). w ++ drop wordBytes p) (rw size at (to-from (take wordBytes p) bytes)) ∙ take-append-drop wordBytes p
+
+  word-lt : Below wordBytes (wordFrom p)
+  word-lt = rw size at (fromBytes-lt (take wordBytes p) bytes)
+
+words-bytes : (r : ℕ) (p : List ℕ) → r * wordBytes ≤ length p → AllBytes p → bytesOf (toBytes wordBytes) (readAll wordBytes wordFrom r p) ++ drop (r * wordBytes) p ≡ p
+words-bytes zero p h b = bytes-none (toBytes wordBytes) wordBytes wordFrom p
+words-bytes (suc r) p h b =
+    bytes-front (toBytes wordBytes) wordBytes wordFrom r p (word-bytes p (omega arith) b)
+    (words-bytes r (drop wordBytes p) (rw length-drop (omega arith)) (bytes-drop wordBytes p b))
+
+words-lt : (r : ℕ) (p : List ℕ) → r * wordBytes ≤ length p → AllBytes p → Every (Below wordBytes) (readAll wordBytes wordFrom r p)
+unfolding readAll
+words-lt zero p h b = tt
+words-lt (suc r) p h b = (word-lt p (omega arith) b, words-lt r (drop wordBytes p) (rw length-drop (omega arith)) (bytes-drop wordBytes p b))
+
+-- ---- records
+
+-- a record that is there starts with its kind
+front : (kind body : ℕ) (p : List ℕ) → whole kind body p ≡ true → kind ∷ drop 1 p ≡ p
+front kind body p e =
+    let k : getD p 0 0 ≡ kind = eqb-true (getD p 0 0) kind (both (leb (1 + body) (length p)) _ e .1) in
+    ap (λ (x : ℕ). x ∷ drop 1 p) (sym k) ∙ sym (drop-cons p 0 0 (omega (arith, whole-length kind body p e)))
+
+module _ (r : ℕ) (p : List ℕ) (e : bucketFits r p ≡ true) (b : AllBytes p) where
+  bucket-there : bucketBody r < length p
+  bucket-there = whole-length bucketKind (bucketBody r) p (both (whole bucketKind (bucketBody r) p) _ e .0)
+
+  room : r * wordBytes ≤ length (drop 2 p)
+  room = rw length-drop (omega (arith, bucket-there))
+
+  bucket-bytes : bucketRecord (bucketFrom r p) ++ drop (1 + bucketBody r) p ≡ p
+  bucket-bytes =
+      let n : 1 + bucketBody r ≡ 2 + r * wordBytes = omega arith in
+      rw (n, ← drop-drop (r * wordBytes) 2 p, words-bytes r (drop 2 p) room (bytes-drop 2 p b))
+      (ap (λ (q : List ℕ). bucketKind ∷ q) (sym (drop-cons p 1 0 (omega (arith, bucket-there)))) ∙ front bucketKind (bucketBody r) p (both (whole bucketKind (bucketBody r) p) _ e .0))
+
+  bucket-fit : FitsBucket r (bucketFrom r p)
+  bucket-fit = record {
+    low = leb-true (getD p 1 0) largestBound (both (whole bucketKind (bucketBody r) p) _ e .1);
+    wide = length-readAll wordBytes wordFrom r (drop 2 p);
+    words = words-lt r (drop 2 p) room (bytes-drop 2 p b);
+  }
+
+module _ (least : ℕ) (p : List ℕ) (e : entryFits least p ≡ true) (b : AllBytes p) where
+  entry-there : entryBody < length p
+  entry-there = whole-length entryKind entryBody p (both (whole entryKind entryBody p) _ e .0)
+
+  entry-bytes : entryRecord (entryFrom p) ++ drop (1 + entryBody) p ≡ p
+  entry-bytes =
+      let plan : getD p 9 0 ∷ drop 10 p ≡ drop wordBytes (drop 1 p) = sym (drop-cons p 9 0 entry-there) ∙ sym (drop-drop wordBytes 1 p) in
+      rw (append-assoc, plan, word-bytes (drop 1 p) (rw length-drop (omega (arith, entry-there))) (bytes-drop 1 p b))
+      (front entryKind entryBody p (both (whole entryKind entryBody p) _ e .0))
+
+  entry-fit : FitsEntry (entryFrom p)
+  entry-fit = record { word = word-lt (drop 1 p) (rw length-drop (omega (arith, entry-there))) (bytes-drop 1 p b); plan = b (1 + wordBytes) }
+
+module _ (r : ℕ) where
+  buckets-bytes : (m at : ℕ) (p : List ℕ) → bucketsWrong r m at p ≡ Nowhere → AllBytes p
+      → bytesOf bucketRecord (readAll (1 + bucketBody r) (bucketFrom r) m p) ++ drop (m * (1 + bucketBody r)) p ≡ p
+  unfolding bucketsWrong
+  buckets-bytes zero at p e b = bytes-none bucketRecord (1 + bucketBody r) (bucketFrom r) p
+  buckets-bytes (suc m) at p e b =
+      let f = right (bucketFits r p) _ at e in
+      bytes-front bucketRecord (1 + bucketBody r) (bucketFrom r) m p (bucket-bytes r p (f .0) b)
+      (buckets-bytes m (at + (1 + bucketBody r)) (drop (1 + bucketBody r) p) (f .1) (bytes-drop (1 + bucketBody r) p b))
+
+  buckets-fit : (m at : ℕ) (p : List ℕ) → bucketsWrong r m at p ≡ Nowhere → AllBytes p → Every (FitsBucket r) (readAll (1 + bucketBody r) (bucketFrom r) m p)
+  unfolding bucketsWrong readAll
+  buckets-fit zero at p e b = tt
+  buckets-fit (suc m) at p e b =
+      let f = right (bucketFits r p) _ at e in
+      (bucket-fit r p (f .0) b, buckets-fit m (at + (1 + bucketBody r)) (drop (1 + bucketBody r) p) (f .1) (bytes-drop (1 + bucketBody r) p b))
+
+entries-bytes : (least k at : ℕ) (p : List ℕ) → entriesWrong least k at p ≡ Nowhere → AllBytes p
+    → bytesOf entryRecord (readAll (1 + entryBody) entryFrom k p) ++ drop (k * (1 + entryBody)) p ≡ p
+unfolding entriesWrong
+entries-bytes least zero at p e b = bytes-none entryRecord (1 + entryBody) entryFrom p
+entries-bytes least (suc k) at p e b =
+    let f = right (entryFits least p) _ at e in
+    bytes-front entryRecord (1 + entryBody) entryFrom k p (entry-bytes least p (f .0) b)
+    (entries-bytes (suc (entryFrom p .word)) k (at + (1 + entryBody)) (drop (1 + entryBody) p) (f .1) (bytes-drop (1 + entryBody) p b))
+
+entries-fit : (least k at : ℕ) (p : List ℕ) → entriesWrong least k at p ≡ Nowhere → AllBytes p → Every FitsEntry (readAll (1 + entryBody) entryFrom k p)
+unfolding entriesWrong readAll
+entries-fit least zero at p e b = tt
+entries-fit least (suc k) at p e b =
+    let f = right (entryFits least p) _ at e in
+    (entry-fit least p (f .0) b, entries-fit (suc (entryFrom p .word)) k (at + (1 + entryBody)) (drop (1 + entryBody) p) (f .1) (bytes-drop (1 + entryBody) p b))
+
+-- each exceeds the one before
+entries-above : (w least k at : ℕ) (p : List ℕ) → w < least → entriesWrong least k at p ≡ Nowhere → Above w (readAll (1 + entryBody) entryFrom k p)
+unfolding entriesWrong readAll
+entries-above w least zero at p h e = tt
+entries-above w least (suc k) at p h e =
+    let f = right (entryFits least p) _ at e in
+    let n : least ≤ entryFrom p .word = leb-true least (entryFrom p .word) (both (whole entryKind entryBody p) _ (f .0) .1) in
+    (omega arith, entries-above w (suc (entryFrom p .word)) k (at + (1 + entryBody)) (drop (1 + entryBody) p) (omega arith) (f .1))
+
+entries-ascending : (least k at : ℕ) (p : List ℕ) → entriesWrong least k at p ≡ Nowhere → Ascending (readAll (1 + entryBody) entryFrom k p)
+unfolding entriesWrong readAll
+entries-ascending least zero at p e = tt
+entries-ascending least (suc k) at p e =
+    let w : ℕ = entryFrom p .word in
+    let f = right (entryFits least p) _ at e in
+    let q : List ℕ = drop (1 + entryBody) p in
+    (entries-above w (suc w) k (at + (1 + entryBody)) q (omega arith) (f .1), entries-ascending (suc w) k (at + (1 + entryBody)) q (f .1))
