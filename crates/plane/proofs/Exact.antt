@@ -9,7 +9,7 @@ use native.Mathlib.Omega.{arith}
 use borrow.Author.Tests.{leb-true, eqb-true}
 use lib.Dec.{leb, eqb}
 use lib.ListN.{length, getD, take, drop, length-append, length-drop, take-append-drop}
-use lib.Seq.{drop-cons, drop-drop, getD-take, getD-drop, length-take-le, take-suc, take-length}
+use lib.Seq.{drop-cons, drop-drop, getD-take, getD-drop, length-take-le, take-all}
 use Rattle.lists.specs.Entries.{Entry, Above, Ascending}
 use Rattle.codec.specs.Bytes.{fromBytes, toBytes, eqList}
 use Rattle.codec.proofs.Equal.{equal-eq}
@@ -171,3 +171,71 @@ entries-ascending least (suc k) at p e =
     let f = right (entryFits least p) _ at e in
     let q : List ℕ = drop (1 + entryBody) p in
     (entries-above w (suc w) k (at + (1 + entryBody)) q (omega arith) (f .1), entries-ascending (suc w) k (at + (1 + entryBody)) q (f .1))
+
+-- ---- the plane
+
+module _ (r : ℕ) (p : List ℕ) (e : wrongAt r p ≡ Nowhere) (b : AllBytes p) where
+  abbrev s : ℕ
+  s = 1 + bucketBody r
+
+  h : Right r p
+  h = parts r p e
+
+  head-bytes : headerRecord (getD p 2 0) (getD p 3 0) (getD p 4 0) ++ drop bucketsAt p ≡ p
+  head-bytes =
+      let a = both (whole headerKind headerBody p) _ (h .header) in
+      let there : headerBody < length p = whole-length headerKind headerBody p (a .0) in
+      let f : getD p 1 0 ≡ format = eqb-true (getD p 1 0) format (both (eqb (getD p 1 0) format) _ (a .1) .0) in
+      let tail : getD p 1 0 ∷ getD p 2 0 ∷ getD p 3 0 ∷ getD p 4 0 ∷ drop 5 p ≡ drop 1 p =
+      rw (← drop-cons p 4 0 (omega arith), ← drop-cons p 3 0 (omega arith), ← drop-cons p 2 0 (omega arith), ← drop-cons p 1 0 (omega arith)) in
+      ap (λ (x : ℕ). headerKind ∷ x ∷ getD p 2 0 ∷ getD p 3 0 ∷ getD p 4 0 ∷ drop 5 p) (sym f) ∙ ap (λ (q : List ℕ). headerKind ∷ q) tail ∙ front headerKind headerBody p (a .0)
+
+  end-bytes : endRecord ≡ drop (endIn r p) p
+  end-bytes =
+      let q : List ℕ = drop (endIn r p) p in
+      let a = both (whole endKind endBody q) _ (h .end) in
+      let t : take endBody (drop 1 q) ≡ drop 1 q = take-all endBody (drop 1 q) (rw length-drop (omega (arith, h .nothing))) in
+      ap (λ (x : List ℕ). endKind ∷ x) (sym (equal-eq (take endBody (drop 1 q)) endBytes (a .1)) ∙ t) ∙ front endKind endBody q (a .0)
+
+  two : planeFrom r p .level1 ++ planeFrom r p .level2 ≡ readAll s (bucketFrom r) (bucketCount p) (drop bucketsAt p)
+  unfolding planeFrom
+  two = sym (read-add s (bucketFrom r) (getD p 2 0) (getD p 3 0) (drop bucketsAt p) ∙ rw drop-drop refl)
+
+  base-bytes : bytesOf entryRecord (planeFrom r p .base) ++ endRecord ≡ drop (entriesIn r p) p
+  unfolding planeFrom
+  base-bytes =
+      rw (end-bytes, ← drop-drop (entryCount p * (1 + entryBody)) (entriesIn r p) p)
+      (entries-bytes 0 (entryCount p) (entriesIn r p) (drop (entriesIn r p) p) (h .entries) (bytes-drop (entriesIn r p) p b))
+
+  length1 : length (planeFrom r p .level1) ≡ getD p 2 0
+  unfolding planeFrom
+  length1 = length-readAll s (bucketFrom r) (getD p 2 0) _
+
+  length2 : length (planeFrom r p .level2) ≡ getD p 3 0
+  unfolding planeFrom
+  length2 = length-readAll s (bucketFrom r) (getD p 3 0) _
+
+  length0 : length (planeFrom r p .base) ≡ entryCount p
+  unfolding planeFrom
+  length0 = length-readAll (1 + entryBody) entryFrom (entryCount p) _
+
+  -- the bytes are those of the plane that they say
+  pub read-written : planeBytes (planeFrom r p) ≡ p
+  unfolding planeBytes
+  read-written =
+      rw (base-bytes, two, ← drop-drop (bucketCount p * s) bucketsAt p, buckets-bytes r (bucketCount p) bucketsAt (drop bucketsAt p) (h .buckets) (bytes-drop bucketsAt p b), length1, length2, length0)
+      head-bytes
+
+  -- which fits
+  pub read-fits : Fits r (planeFrom r p)
+  unfolding planeFrom
+  read-fits =
+      let a = both (whole headerKind headerBody p) _ (h .header) in
+      let c = both (inRange (getD p 2 0) (getD p 3 0)) _ (both (eqb (getD p 1 0) format) _ (a .1) .1) in
+      record {
+        range = rw (length1, length2) (c .0);
+        few = rw length0 (leb-true (entryCount p) baseLimit (c .1));
+        buckets = rw two (buckets-fit r (bucketCount p) bucketsAt (drop bucketsAt p) (h .buckets) (bytes-drop bucketsAt p b));
+        entries = entries-fit 0 (entryCount p) (entriesIn r p) (drop (entriesIn r p) p) (h .entries) (bytes-drop (entriesIn r p) p b);
+        ascending = entries-ascending 0 (entryCount p) (entriesIn r p) (drop (entriesIn r p) p) (h .entries);
+      }
