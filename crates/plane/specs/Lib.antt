@@ -2,4 +2,5 @@
 pub mod Record
 pub mod Plane
 pub mod Lookup
+pub mod Write
 pub mod Fits
