@@ -33,18 +33,23 @@ pub record Written : Type 0 where
   pub answer : Answer
   pub output : List ℕ
 
--- the bytes in front of the output, if they fit (cause 9); output past them is untouched
+-- turned down: the output stays as it was
+abbrev pub turnedDown : Answer → List ℕ → Written
+turnedDown a out = record { answer = a; output = out }
+
+-- accepted: the bytes in front; output past them is untouched
+abbrev pub inFront : List ℕ → List ℕ → Written
+inFront bytes out = record { answer = Accepted (length bytes); output = bytes ++ drop (length bytes) out }
+
+-- if they fit: cause 9
 abbrev pub putFront : List ℕ → List ℕ → Written
-putFront bytes out =
-    cond (ltb (length out) (length bytes)) (record { answer = ShortOutput (length bytes); output = out })
-    (record { answer = Accepted (length bytes); output = bytes ++ drop (length bytes) out })
+putFront bytes out = cond (ltb (length out) (length bytes)) (turnedDown (ShortOutput (length bytes)) out) (inFront bytes out)
 
 -- the writer: causes 4, 5, 9
 unfoldable pub writeCall : List ℕ → List ℕ → Written
 writeCall t out =
-    cond (shaped t)
-    (cond (sound t) (putFront (planeBytes (planeOf (tableOf t))) out) (record { answer = NotSound; output = out }))
-    (record { answer = WrongTable (length t); output = out })
+    cond (shaped t) (cond (sound t) (putFront (planeBytes (planeOf (tableOf t))) out) (turnedDown NotSound out))
+    (turnedDown (WrongTable (length t)) out)
 
 -- ---- statement 2: what the plane of a table gives
 

@@ -1,0 +1,74 @@
+-- The statements of document 01 about the plane, at its 64 rows and 8 solution words.
+-- Assumes nothing.
+use mathlib.Core.Path.{_≡_, refl, sym, ap, _∙_}
+use mathlib.Core.Bool.{Bool, true, false, cond}
+use mathlib.Core.List.{List, _++_}
+use mathlib.Core.Option.{some}
+use Prim.Native.Nat.{ℕ, _≤_, _<_}
+use native.Mathlib.Omega.{arith}
+use lib.Dec.{eqb, leb, ltb, lit≤}
+use lib.ListN.{length, getD, take, drop}
+use lib.Seq.{take-at}
+use Rattle.lists.proofs.Tests.{cases}
+use Rattle.hash.specs.Mix.{mixOf, unmixOf}
+use Rattle.answer.specs.declared.Answer.{Answer}
+use Rattle.answer.specs.declared.Answer.the-variants.{Accepted, WrongTable, NotSound, ShortOutput}
+use Rattle.identifier.specs.Identifier.{readOf}
+use Rattle.identifier.specs.declared.Read.{Read}
+use Rattle.identifier.specs.declared.Read.the-variants.{Word, Refused}
+use Rattle.concrete.specs.Test.{inRange, shapeTest}
+use Rattle.concrete.specs.Layout.{header, lengthOf}
+use Rattle.concrete.specs.Calls.{rows, solutions, tableOf, planIn, shaped, sound, FlatSound}
+use Rattle.concrete.proofs.Statements.{sound-exactly}
+use Rattle.plane.specs.declared.Wrong.the-variants.{Nowhere}
+use Rattle.plane.specs.Plane.{planeBytes, planeFrom, wrongAt}
+use Rattle.plane.specs.Lookup.{planFrom, looked, lookupRead, lookupCall}
+use Rattle.plane.specs.Fits.{Fits}
+use Rattle.plane.specs.Write.{planeOf, putFront, Written, turnedDown, inFront, writeCall, shownPlan, shownTo}
+use Rattle.plane.proofs.Scan.{both}
+use Rattle.plane.proofs.Round.{written-right, written-read}
+use Rattle.plane.proofs.Shown.{Words, plane-fits, shown, live-shown}
+
+module _ (t : List ℕ) (w : Words t) (k : shaped t ≡ true) (h : FlatSound t) where
+  in-range : inRange (getD t 0 0) (getD t 1 0) ≡ true
+  unfolding shapeTest
+  in-range = both (inRange (getD t 0 0) (getD t 1 0)) _ (both (leb header (length t)) _ k .1) .0
+
+  pub fits : Fits solutions (planeOf (tableOf t))
+  fits = plane-fits rows solutions t w unmixOf (lit≤ tt) (lit≤ tt) in-range (h .table)
+
+  -- the plane of a sound table, read again, gives for each identifier, live or not, the answer of the table's own XOR words or base list
+  pub shows : (id : List ℕ) → lookupCall id (planeBytes (planeOf (tableOf t))) ≡ shownTo (tableOf t) (readOf id)
+  unfolding lookupCall
+  shows id = go (readOf id)
+    where
+      go : (i : Read) → lookupRead (planeBytes (planeOf (tableOf t))) i ≡ shownTo (tableOf t) i
+      go (Refused a) = refl
+      go (Word v) =
+          rw (written-right solutions (planeOf (tableOf t)) fits, written-read solutions (planeOf (tableOf t)) fits)
+          (ap Accepted (shown rows solutions (tableOf t) v (h .table .level1 .some) (h .table .level2 .some)))
+
+-- ---- a call that is accepted has written the plane of a sound table, and nothing past it
+
+front-bytes : (b : Bool) (bytes out : List ℕ) (a : Answer) (n : ℕ) → (a ≡ Accepted n → ⊥) → cond b (turnedDown a out) (inFront bytes out) .answer ≡ Accepted n
+    → take n (cond b (turnedDown a out) (inFront bytes out) .output) ≡ bytes
+front-bytes true bytes out a n x e = absurd (x e)
+front-bytes false bytes out a n x e = let l : length bytes ≡ n = cc in take-at bytes (drop (length bytes) out) n l
+
+accepted-of : (b : Bool) (o : Written) (a : Answer) (out : List ℕ) (n : ℕ) → (a ≡ Accepted n → ⊥) → cond b o (turnedDown a out) .answer ≡ Accepted n → (b ≡ true) × (o .answer ≡ Accepted n)
+accepted-of true o a out n x e = (refl, e)
+accepted-of false o a out n x e = absurd (x e)
+
+module _ (t out : List ℕ) (n : ℕ) (e : writeCall t out .answer ≡ Accepted n) where
+  was-shaped : (shaped t ≡ true) × (cond (sound t) (putFront (planeBytes (planeOf (tableOf t))) out) (turnedDown NotSound out) .answer ≡ Accepted n)
+  unfolding writeCall
+  was-shaped = accepted-of (shaped t) _ (WrongTable (length t)) out n (λ x. let z : _≡_ {A = ℕ} 0 1 = cc in omega arith) e
+
+  was-sound : (sound t ≡ true) × (putFront (planeBytes (planeOf (tableOf t))) out .answer ≡ Accepted n)
+  was-sound = accepted-of (sound t) _ NotSound out n (λ x. let z : _≡_ {A = ℕ} 0 1 = cc in omega arith) (was-shaped .1)
+
+  was-written : take n (writeCall t out .output) ≡ planeBytes (planeOf (tableOf t))
+  unfolding writeCall
+  was-written =
+      let bytes : List ℕ = planeBytes (planeOf (tableOf t)) in
+      rw (was-shaped .0, was-sound .0) (front-bytes (ltb (length out) (length bytes)) bytes out (ShortOutput (length bytes)) n (λ x. let z : _≡_ {A = ℕ} 0 1 = cc in omega arith) (was-sound .1))
