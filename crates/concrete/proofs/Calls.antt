@@ -10,7 +10,7 @@ use mathlib.Core.List.{List, List·Permᴰ}
 use lib.Dec.{ltb, leb}
 use lib.ListN.{length, getD}
 use borrow.Author.Tests.{eqb-true, eq-eqb, leb-true, le-leb, ltb-false}
-use Rattle.lists.specs.Entries.{Entry, find, insert, update, remove}
+use Rattle.lists.specs.Entries.{Entry, find, update, remove}
 use Rattle.lists.proofs.Tests.{cond-true, and-one, and-two, and-both}
 use Rattle.hash.specs.Mix.{mixOf, unmixOf}
 use Rattle.hash.proofs.Inverse.{mix-lt, unmix-lt, unmix-mix, mix-unmix}
@@ -23,14 +23,14 @@ use Rattle.identifier.proofs.Words.{word-lt}
 use Rattle.bucket.specs.declared.Bucket.{Bucket}
 use Rattle.model.specs.Levels.{firstLevel, secondLevel}
 use Rattle.model.specs.Model as M
-use Rattle.model.specs.Model.{baseLimit, State, Call, add, change, withdraw, query, opened, withLive, settled, base, stepAdd, stepLive, step}
+use Rattle.model.specs.Model.{baseLimit, State, Call, add, change, withdraw, query, opened, withLive, wouldLeave, base, stepAdd, stepLive, step}
 use Rattle.model.specs.Request.{subject, askOf, serveRead, serve}
 use Rattle.concrete.specs.Table as T
 use Rattle.concrete.specs.Table.{Table}
-use Rattle.concrete.specs.Layout.{numbersOf, unusedIn, lengthOf}
+use Rattle.concrete.specs.Layout.{mostBuckets1, inRange, numbersOf, unusedIn, lengthOf}
 use Rattle.concrete.specs.Content.{entriesOf}
 use Rattle.concrete.specs.Sound.{SoundLevel, SoundTable}
-use Rattle.concrete.specs.Test.{mostBuckets1, inRange, shapeTest}
+use Rattle.concrete.specs.Test.{shapeTest}
 use Rattle.concrete.specs.Calls.{rows, solutions, tableOf, planIn, shaped, sound, FlatSound, Outcome, turnedDown, joined, replaced, queried, served, callRead, call}
 use Rattle.concrete.specs.History.{PlanFits, flatState}
 use Rattle.concrete.proofs.Numbers.{AllShaped, ShapedTable, Laid, header-read, back, laid}
@@ -136,17 +136,17 @@ module _ (t : List ℕ) (s : State) (h : FlatStands t s) where
     by-plan f g k = subst⁻¹ (λ (o : Option ℕ). Match (f o) (g (find w (s .live)))) (stands-look w l) (k (find w (s .live)) refl)
 
     live-match : (u : Table) (es : List Entry) → ((q : ℕ) → find w (s .live) ≡ some q → Stands rows solutions mixOf u (withLive s es))
-        → Match (replaced t u (planIn t w)) (stepLive firstLevel secondLevel s es (find w (s .live)))
-    live-match u es k = by-plan (replaced t u) (stepLive firstLevel secondLevel s es) go
+        → Match (replaced t u (planIn t w)) (stepLive s es (find w (s .live)))
+    live-match u es k = by-plan (replaced t u) (stepLive s es) go
       where
-        go : (o : Option ℕ) → find w (s .live) ≡ o → Match (replaced t u o) (stepLive firstLevel secondLevel s es o)
+        go : (o : Option ℕ) → find w (s .live) ≡ o → Match (replaced t u o) (stepLive s es o)
         go none e = record { says = refl; stands = h }
         go (some q) e = record { says = refl; stands = numbers-stand u (withLive s es) (k q e) range }
 
     query-match : Match (queried t (planIn t w)) (step firstLevel secondLevel s (query w))
-    query-match = by-plan (queried t) (stepLive firstLevel secondLevel s (s .live)) go
+    query-match = by-plan (queried t) (stepLive s (s .live)) go
       where
-        go : (o : Option ℕ) → find w (s .live) ≡ o → Match (queried t o) (stepLive firstLevel secondLevel s (s .live) o)
+        go : (o : Option ℕ) → find w (s .live) ≡ o → Match (queried t o) (stepLive s (s .live) o)
         go none e = record { says = refl; stands = h }
         go (some q) e = record { says = refl; stands = h }
 
@@ -161,7 +161,7 @@ module _ (t : List ℕ) (s : State) (h : FlatStands t s) where
         u = T.addedTo rows solutions mixOf T₀ (record { word = w; plan = p })
 
         t′ : State
-        t′ = settled firstLevel secondLevel s (insert (record { word = w; plan = p }) (s .live))
+        t′ = wouldLeave firstLevel secondLevel s (record { word = w; plan = p })
 
         go : (o : Option ℕ) → find w (s .live) ≡ o → Match (joined t u o) (stepAdd firstLevel secondLevel s e o)
         go (some q) f = record { says = refl; stands = h }

@@ -23,13 +23,13 @@ use Rattle.bucket.specs.declared.Bucket.{Bucket}
 use Rattle.bucket.specs.Bucket.{largestBound, emptyBucket}
 use Rattle.settle.proofs.Hold.{Holds, holds-empty}
 use Rattle.model.specs.Levels.{dueAs, due, passed}
-use Rattle.model.specs.Model.{baseLimit, State, opened, withLive, settled, base}
+use Rattle.model.specs.Model.{baseLimit, State, opened, withLive, wouldLeave, base}
 use Rattle.model.proofs.Levels.{passed-words}
-use Rattle.model.proofs.Arrivals.{arrive, arrives}
+use Rattle.model.proofs.Arrivals.{joined, joined-perm, arrive, arrives}
 use Rattle.model.proofs.Valid.{Valid, valid-opened, valid-live, valid-settled}
 use Rattle.model.proofs.AddSteps.{first, first-settled, second-settled}
 use Rattle.concrete.specs.Table.{Table, Placed, bounds, index, second, onSecond, bucketOf, put, holds, planIn, openTable, touch, changedIn, withdrawnFrom, arriveAt, arriveAll, addedTo}
-use Rattle.concrete.proofs.Level.{Fits, Small, joined, joined-perm, firstLevel, secondLevel, within, pass, LevelHolds, level-perm, Arrived, arrive-law, ArrivedAll, arrive-all}
+use Rattle.concrete.proofs.Level.{Fits, Small, firstLevel, secondLevel, within, pass, LevelHolds, level-perm, Arrived, arrive-law, ArrivedAll, arrive-all}
 use Rattle.concrete.proofs.Touch.{Edit, withdraw-edit, change-edit, holds-test, level-find, level-past, level-touch, touch-bounds}
 
 module _ (S : ℕ → ℕ) where
@@ -136,10 +136,10 @@ module _ (n r : ℕ) (S : ℕ → ℕ) (keeps : (x : ℕ) → x < 2 ^ n → S x 
   -- ---- states whose live words are in order
 
   module _ (s : State) (v : Valid (firstLevel S) (secondLevel S) s) (small : Small n r (s .live)) where
-    pub small-passes : Small n r (passes S s)
+    small-passes : Small n r (passes S s)
     small-passes e m = small e (keep-out _ (s .live) e m .0)
 
-    pub distinct-later : Distinct (later S s)
+    distinct-later : Distinct (later S s)
     distinct-later =
         distinct-renamed (second S) (2 ^ n) inj (passes S s) (λ e m. small-passes e m .0) (keep-distinct _ (s .live) (ascending-distinct (s .live) (v .ascending)))
 
@@ -266,7 +266,7 @@ module _ (n r : ℕ) (S : ℕ → ℕ) (keeps : (x : ℕ) → x < 2 ^ n → S x 
     module _ (e : Entry) (fits : Fits n r e) (fresh : find (e .word) (s .live) ≡ none) where
       -- the state that the model comes to
       abbrev t : State
-      t = settled (firstLevel S) (secondLevel S) s (insert e (s .live))
+      t = wouldLeave (firstLevel S) (secondLevel S) s e
 
       abbrev p1 : Placed
       p1 = arriveAt n r S (T .level1) e

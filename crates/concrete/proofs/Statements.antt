@@ -2,34 +2,37 @@
 -- t is the list of the table's numbers, `tableOf t` the table that it holds.
 -- Assumes nothing.
 use Prim.Native.Nat.{ℕ, _+_, _*_, _^_, _<_}
-use mathlib.Core.Path.{_≡_, _∙_, sym}
+use mathlib.Core.Path.{_≡_, ap, _∙_, sym}
 use mathlib.Core.Bool.{true, false}
 use mathlib.Core.Logic.{_↔_}
 use mathlib.Core.Option.{none, some}
 use mathlib.Core.List.{List, _++_, List·Permᴰ}
 use lib.ListN.{length, getD, set, take, drop}
-use Rattle.lists.specs.Entries.{Entry, words, find, insert}
+use Rattle.lists.specs.Entries.{Entry, words, find}
 use Rattle.gf2.specs.Bound.{Largest}
 use Rattle.hash.specs.Mix.{mixOf, unmixOf}
-use Rattle.answer.specs.declared.Answer.the-variants.{Accepted, NotLive, Full}
+use Rattle.answer.specs.declared.Answer.{Answer}
+use Rattle.answer.specs.declared.Answer.the-variants.{Accepted, WrongTable, NotSound, NotLive, Full}
 use Rattle.answer.specs.Numbers.{numberOf}
 use Rattle.identifier.specs.Identifier.{readOf}
-use Rattle.identifier.specs.declared.Read.the-variants.{Word}
+use Rattle.identifier.specs.declared.Read.the-variants.{Word, Refused}
 use Rattle.bucket.specs.declared.Bucket.{Bucket}
-use Rattle.bucket.specs.Words.{bucketWords, wordsOf, bucketFrom}
+use Rattle.bucket.specs.Words.{bucketWords, wordsOf, bucketFrom, Shaped}
 use Rattle.model.specs.Levels.{firstLevel, secondLevel, passed, due}
-use Rattle.model.specs.Model.{State, Call, add, query, opened, settled, base}
-use Rattle.model.specs.History.{accepted, after, answers, Alike, Refines, addsIn, withdrawalsIn, told}
+use Rattle.model.specs.Model.{State, Call, add, query, opened, wouldLeave, base}
+use Rattle.model.specs.Request.{subject}
+use Rattle.model.specs.Machine.{accepted, after, answers, Alike, Refines}
+use Rattle.model.specs.History.{addsIn, withdrawalsIn, told}
 use Rattle.model.proofs.Statements as Model
 use Rattle.concrete.specs.Table.{Table, bounds, nth, addedTo}
 use Rattle.concrete.specs.Layout.{basePairs, numbersOf, bucketPlace}
 use Rattle.concrete.specs.Content.{entriesOf}
 use Rattle.concrete.specs.AtOnce.{addedAtOnce}
 use Rattle.concrete.specs.Sound.{SoundTable}
-use Rattle.concrete.specs.Calls.{rows, solutions, tableOf, planIn, shaped, sound, FlatSound, openCall, call}
+use Rattle.concrete.specs.Calls.{rows, solutions, tableOf, planIn, shaped, sound, FlatSound, turnedDown, openCall, queried, served, call}
 use Rattle.concrete.specs.History.{Put, tables, states, Opened, acceptedCalls, flatState, Same}
 use Rattle.concrete.proofs.Numbers as Numbers
-use Rattle.concrete.proofs.Numbers.{ShapedTable}
+use Rattle.concrete.proofs.Numbers.{AllShaped, ShapedTable}
 use Rattle.concrete.proofs.AtOnce as AtOnce
 use Rattle.concrete.proofs.Calls as Calls
 use Rattle.concrete.proofs.Calls.{FlatStands}
@@ -90,6 +93,10 @@ module _ (T : Table) (h : ShapedTable rows solutions T) where
       ≡ set (take (bucketPlace rows solutions (length (T .level1) + length (T .level2))) (numbersOf T) ++ basePairs es) 2 (length es)
   write-base = Numbers.write-base rows solutions T h
 
+-- a level keeps its lengths where a bucket of the right lengths is written
+pub set-shaped : (bs : List Bucket) (i : ℕ) (b : Bucket) → AllShaped rows solutions bs → Shaped rows solutions b → AllShaped rows solutions (set bs i b)
+set-shaped = Numbers.set-shaped rows solutions
+
 -- the live count replaced
 pub write-count : (T : Table) (c : ℕ) → numbersOf (record { level1 = T .level1; level2 = T .level2; base = T .base; count = c }) ≡ set (numbersOf T) 3 c
 write-count = Numbers.write-count rows solutions
@@ -106,8 +113,23 @@ document-order = AtOnce.at-once rows solutions mixOf
 pub sound-exactly : (t : List ℕ) → shaped t ≡ true → ((i : ℕ) → getD t i 0 < 2 ^ 64) → (sound t ≡ true) ↔ FlatSound t
 sound-exactly = Calls.sound-exactly
 
--- ---- "When a call is turned down": kept as it was
+-- ---- "When a call is turned down"
 
+-- "Order is the table's order": causes 1 and 2, then 4, then 5, then those of the call itself (`served`)
+module _ (t : List ℕ) (c : Call (List ℕ)) where
+  pub cause-identifier : (a : Answer) → readOf (subject c) ≡ Refused a → call t c ≡ turnedDown a t
+  cause-identifier = History.by-identifier t c
+
+  pub cause-4 : (w : ℕ) → readOf (subject c) ≡ Word w → shaped t ≡ false → call t c ≡ turnedDown (WrongTable (length t)) t
+  cause-4 = History.by-shape t c
+
+  pub cause-5 : (w : ℕ) → readOf (subject c) ≡ Word w → shaped t ≡ true → sound t ≡ false → call t c ≡ turnedDown NotSound t
+  cause-5 = History.by-sound t c
+
+  pub causes-else : (w : ℕ) → readOf (subject c) ≡ Word w → shaped t ≡ true → sound t ≡ true → call t c ≡ served t w c
+  causes-else = History.by-word t c
+
+-- "Kept as it was"
 pub refused-keeps : (t : List ℕ) (c : Call (List ℕ)) → accepted (call t c .answer) ≡ false → call t c .table ≡ t
 refused-keeps = History.call-refused
 
@@ -139,13 +161,24 @@ stands-one = Calls.stands-shows
 -- ---- sound tables, also those handed in from elsewhere
 
 module _ (t : List ℕ) (k : shaped t ≡ true) (h : FlatSound t) where
-  -- "query the plan": a query of a live word gives its plan
-  pub query-live : (i : List ℕ) (w p : ℕ) → readOf i ≡ Word w → find w (flatState t .live) ≡ some p → call t (query i) ≡ record { answer = Accepted p; table = t }
-  query-live = History.query-live t k h
+  -- "In a sound table handed in from elsewhere the live words are those of its occupied rows and base entries"
+  pub live-entries : List·Permᴰ (entriesOf rows unmixOf (tableOf t)) (flatState t .live)
+  live-entries = History.sound-entries t k h
 
-  -- of any other word cause 7
+  -- the three tests find the plan of a live word, and nothing for any other
+  pub live-plans : (w : ℕ) → w < 2 ^ 64 → planIn t w ≡ find w (flatState t .live)
+  live-plans = History.sound-look t k h
+
+  -- "live count = occupied rows + base count"
+  pub live-count : getD t 3 0 ≡ length (flatState t .live)
+  live-count = History.sound-count t k h
+
+  -- "query the plan", and 7 where the word is not live
+  pub query-live : (i : List ℕ) (w p : ℕ) → readOf i ≡ Word w → find w (flatState t .live) ≡ some p → call t (query i) ≡ record { answer = Accepted p; table = t }
+  query-live i w p e f = History.query-is t k h i w e ∙ ap (queried t) f
+
   pub query-other : (i : List ℕ) (w : ℕ) → readOf i ≡ Word w → find w (flatState t .live) ≡ none → call t (query i) ≡ record { answer = NotLive; table = t }
-  query-other = History.query-other t k h
+  query-other i w e f = History.query-is t k h i w e ∙ ap (queried t) f
 
   module _ (i : List ℕ) (p : ℕ) (l : p < 256) where
     -- statement 3, the rule of the bounds: after an accepted add each is the largest number, not above the old one, under which no
@@ -167,7 +200,7 @@ module _ (t : List ℕ) (k : shaped t ≡ true) (h : FlatSound t) where
     -- statement 3, the rule of the base list: refused as full exactly when more than 64 words would fall to the base list under the bounds
     -- that the add would so leave
     pub full-exactly : (w : ℕ) → readOf i ≡ Word w → find w (flatState t .live) ≡ none
-        → (call t (add i p) .answer ≡ Full) ↔ (64 < length (base firstLevel secondLevel (settled firstLevel secondLevel (flatState t) (insert (record { word = w; plan = p }) (flatState t .live)))))
+        → (call t (add i p) .answer ≡ Full) ↔ (64 < length (base firstLevel secondLevel (wouldLeave firstLevel secondLevel (flatState t) (record { word = w; plan = p }))))
     full-exactly = History.rule-full t k h i p l
 
 -- ---- "A list of calls": t is what an accepted opening left, ps any calls, refused ones included
@@ -190,8 +223,8 @@ module _ (t : List ℕ) (o : Opened t) (ps : List Put) where
   pub always-sound : (shaped (after tables t ps) ≡ true) × (sound (after tables t ps) ≡ true) × FlatSound (after tables t ps)
   always-sound = stands-sound (after tables t ps) _ (History.after-stands t o ps)
 
-  pub never : (c : Call (List ℕ)) → (numberOf (call (after tables t ps) c .answer) ≡ 4 → ⊥) × (numberOf (call (after tables t ps) c .answer) ≡ 5 → ⊥)
-  never = History.never (after tables t ps) (always-sound .0) (always-sound .1)
+  pub never-4-5 : (p : Put) → (numberOf (call (after tables t ps) (p .call) .answer) ≡ 4 → ⊥) × (numberOf (call (after tables t ps) (p .call) .answer) ≡ 5 → ⊥)
+  never-4-5 = History.never t o ps
 
   -- "After each call its occupied rows and base entries hold just the live words, and its stored bounds are these": the model's
   pub holds-live : List·Permᴰ (entriesOf rows unmixOf (tableOf (after tables t ps))) (after states (opened (o .buckets1) (o .buckets2)) ps .live)
@@ -209,3 +242,7 @@ module _ (t : List ℕ) (o : Opened t) (ps : List Put) where
   -- accepted add or change; every other word is not live
   pub plan : (v : ℕ) → v < 2 ^ 64 → planIn (after tables t ps) v ≡ told v (acceptedCalls t ps)
   plan = History.plan-after t o ps
+
+  -- so a query of an identifier gives the last accepted plan of its word (`queried`: Accepted), or says that it is not live
+  pub query-tells : (i : List ℕ) (w : ℕ) → readOf i ≡ Word w → call (after tables t ps) (query i) ≡ queried (after tables t ps) (told w (acceptedCalls t ps))
+  query-tells = History.query-after t o ps

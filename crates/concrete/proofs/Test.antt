@@ -20,7 +20,7 @@ use Rattle.gf2.proofs.Chosen.{Row, elem→row}
 use Rattle.eliminate.specs.declared.Rows.{Rows}
 use Rattle.eliminate.specs.Exact.{FoundFree}
 use Rattle.eliminate.specs.Elimination.{soundRows}
-use Rattle.eliminate.proofs.Free.{decides-free, found-is}
+use Rattle.eliminate.proofs.Exact.{decides-free, found-is}
 use Rattle.bucket.specs.declared.Bucket.{Bucket}
 use Rattle.bucket.specs.Bucket.{Sound, largestBound, live}
 use Rattle.bucket.specs.Words.{bucketWords, bucketFrom, Shaped}

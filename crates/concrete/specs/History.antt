@@ -7,7 +7,7 @@ use Rattle.hash.specs.Mix.{unmixOf}
 use Rattle.answer.specs.declared.Answer.the-variants.{Accepted}
 use Rattle.model.specs.Model.{State, Call, add, change, withdraw, query}
 use Rattle.model.specs.Request.{byWord, serve}
-use Rattle.model.specs.History.{Machine, acceptedOf}
+use Rattle.model.specs.Machine.{Machine, acceptedOf}
 use Rattle.concrete.specs.Content.{stateOf}
 use Rattle.concrete.specs.Calls.{rows, solutions, tableOf, openCall, call}
 

@@ -3,7 +3,7 @@
 use Prim.Native.Nat.{ℕ, _<_}
 use native.Mathlib.Omega.{arith}
 use mathlib.Core.Path.{_≡_, refl, sym, ap, _∙_}
-use mathlib.Core.Bool.{false}
+use mathlib.Core.Bool.{false, not}
 use mathlib.Core.Logic.{inl, inr, ⊎-elim}
 use mathlib.Core.List.{List}
 use mathlib.Core.Option.{Option, none, some}
@@ -30,7 +30,7 @@ Reads i (Refused a) = (0 < numberOf a) × (numberOf a < 3)
 reads : (i : List ℕ) → Reads i (readOf i)
 unfolding readOf
 reads i =
-    by-test (Reads i) (sized (length i)) (λ t. by-test (Reads i) (ltb (firstRefused i) (length i)) (λ u. omega arith) (λ u. refl)) (λ t. omega arith)
+    by-test (Reads i) (not (sized (length i))) (λ t. omega arith) (λ t. by-test (Reads i) (ltb (firstRefused i) (length i)) (λ u. omega arith) (λ u. refl))
 
 pub serve-each : (s : State) (c : Call (List ℕ)) → Follows firstLevel secondLevel s (byWord c) (serve s c)
 serve-each s c = go (readOf (subject c)) (reads (subject c))

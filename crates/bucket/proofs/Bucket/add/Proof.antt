@@ -13,12 +13,6 @@ product-requires c κs = search needs
 lowest-requires : tie.Need-lowest-requires
 lowest-requires c κs = search needs
 
-mul-col-step : tie.Need-mul-col-step
-mul-col-step c = search needs
-
-array-read-col-step : tie.Need-array-read-col-step
-array-read-col-step c = search needs
-
 power-requires : tie.Need-power-requires
 power-requires c κs = search needs
 
@@ -61,8 +55,6 @@ add-spec =
     (tie.spec
     product-requires
     lowest-requires
-    mul-col-step
-    array-read-col-step
     power-requires
     col-step-requires
     mul-sol-step
