@@ -16,7 +16,7 @@ use Rattle.codec.proofs.Equal.{equal-eq}
 use Rattle.codec.proofs.Round.{Bytes, to-from, fromBytes-lt}
 use Rattle.bucket.specs.Bucket.{largestBound}
 use Rattle.model.specs.Model.{baseLimit}
-use Rattle.concrete.specs.Test.{inRange}
+use Rattle.concrete.specs.Layout.{inRange}
 use Rattle.plane.specs.declared.Wrong.{Wrong}
 use Rattle.plane.specs.declared.Wrong.the-variants.{Nowhere, At}
 use Rattle.plane.specs.Record.{bytesOf, readAll, wordBytes, wordFrom, headerKind, headerBody, format, headerRecord, PlaneBucket, bucketKind, bucketBody, bucketRecord, bucketFrom, entryKind, entryBody, entryRecord, entryFrom, endKind, endBody, endBytes, endRecord}

@@ -13,7 +13,7 @@ use lib.ListN.{length, getD, take, drop, length-drop}
 use lib.Seq.{take-all, drop-drop}
 use Rattle.lists.proofs.Tests.{true→T}
 use Rattle.model.specs.Model.{baseLimit}
-use Rattle.concrete.specs.Test.{inRange, mostBuckets1, mostBuckets2}
+use Rattle.concrete.specs.Layout.{inRange, mostBuckets1, mostBuckets2}
 use Rattle.plane.specs.declared.Wrong.{Wrong}
 use Rattle.plane.specs.declared.Wrong.the-variants.{Nowhere, At}
 use Rattle.plane.specs.Record.{headerKind, headerBody, format, bucketKind, bucketBody, entryKind, entryBody, entryFrom, endBody}

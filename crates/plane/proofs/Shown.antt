@@ -24,8 +24,7 @@ use Rattle.bucket.specs.Words.{bucketWords, bucketFrom}
 use Rattle.settle.specs.Settle.{SoundBucket, planOf}
 use Rattle.concrete.specs.Table as C
 use Rattle.concrete.specs.Table.{Table}
-use Rattle.concrete.specs.Layout.{levelFrom, bucketPlace, tableFrom}
-use Rattle.concrete.specs.Test.{inRange}
+use Rattle.concrete.specs.Layout.{inRange, levelFrom, bucketPlace, tableFrom}
 use Rattle.concrete.specs.Sound.{SoundTable}
 use Rattle.concrete.proofs.Numbers.{header-read}
 use Rattle.plane.specs.declared.Held.the-variants.{Plan, Passed}

@@ -16,8 +16,8 @@ use Rattle.answer.specs.declared.Answer.the-variants.{Accepted, WrongTable, Not
 use Rattle.identifier.specs.Identifier.{readOf}
 use Rattle.identifier.specs.declared.Read.{Read}
 use Rattle.identifier.specs.declared.Read.the-variants.{Word, Refused}
-use Rattle.concrete.specs.Test.{inRange, shapeTest}
-use Rattle.concrete.specs.Layout.{header, lengthOf}
+use Rattle.concrete.specs.Test.{shapeTest}
+use Rattle.concrete.specs.Layout.{inRange, header}
 use Rattle.concrete.specs.Calls.{rows, solutions, tableOf, planIn, shaped, sound, FlatSound}
 use Rattle.concrete.proofs.Statements.{sound-exactly}
 use Rattle.plane.specs.declared.Wrong.the-variants.{Nowhere}

@@ -10,7 +10,7 @@ use Rattle.codec.specs.Bytes.{eqList}
 use Rattle.lists.specs.Entries.{Entry}
 use Rattle.bucket.specs.Bucket.{largestBound}
 use Rattle.model.specs.Model.{baseLimit}
-use Rattle.concrete.specs.Test.{inRange}
+use Rattle.concrete.specs.Layout.{inRange}
 use Rattle.plane.specs.declared.Wrong.{Wrong}
 use Rattle.plane.specs.declared.Wrong.the-variants.{Nowhere, At}
 use Rattle.plane.specs.Record.{PlaneBucket, bytesOf, readAll, headerKind, headerBody, format, headerRecord, bucketKind, bucketBody, bucketRecord, bucketFrom, entryKind, entryBody, entryRecord, entryFrom, endKind, endBody, endBytes, endRecord}

@@ -11,7 +11,7 @@ ghost use Prim.Native.Nat.{suc, _+_, _*_, _≤_, _<_};
 ghost use lib.ListN.{length, getD, drop};
 ghost use Rattle.lists.specs.Entries.{find};
 ghost use Rattle.gf2.specs.Vectors.{product};
-ghost use Rattle.concrete.specs.Test.{inRange};
+ghost use Rattle.concrete.specs.Layout.{inRange};
 ghost use Rattle.plane.specs.declared.Wrong.the-variants.{Nowhere};
 ghost use Rattle.plane.specs.Record.{readAll, bucketFrom, entryFrom};
 ghost use Rattle.plane.specs.Plane.{whole, headerFits, bucketFits, bucketsWrong, entriesWrong, endFits, endWrong, recordsWrong, wrongAt, planeFrom};
