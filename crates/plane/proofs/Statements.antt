@@ -16,10 +16,15 @@ use Rattle.answer.specs.declared.Answer.the-variants.{Accepted, WrongTable, Not
 use Rattle.identifier.specs.Identifier.{readOf}
 use Rattle.identifier.specs.declared.Read.{Read}
 use Rattle.identifier.specs.declared.Read.the-variants.{Word, Refused}
+use Rattle.identifier.proofs.Causes.{read-word}
+use Rattle.identifier.proofs.Words.{word-lt}
+use Rattle.model.specs.History.{told}
+use Rattle.model.specs.Machine.{after}
 use Rattle.concrete.specs.Test.{shapeTest}
 use Rattle.concrete.specs.Layout.{inRange, header}
 use Rattle.concrete.specs.Calls.{rows, solutions, tableOf, planIn, shaped, sound, FlatSound}
-use Rattle.concrete.proofs.Statements.{sound-exactly}
+use Rattle.concrete.specs.History.{Put, tables, Opened, acceptedCalls}
+use Rattle.concrete.proofs.Statements.{sound-exactly, plan}
 use Rattle.plane.specs.declared.Wrong.the-variants.{Nowhere}
 use Rattle.plane.specs.Plane.{planeBytes, planeFrom, wrongAt}
 use Rattle.plane.specs.Lookup.{planFrom, looked, lookupRead, lookupCall}
@@ -72,3 +77,18 @@ module _ (t out : List ℕ) (n : ℕ) (e : writeCall t out .answer ≡ Accepted 
   was-written =
       let bytes : List ℕ = planeBytes (planeOf (tableOf t)) in
       rw (was-shaped .0, was-sound .0) (front-bytes (ltb (length out) (length bytes)) bytes out (ShortOutput (length bytes)) n (λ x. let z : _≡_ {A = ℕ} 0 1 = cc in omega arith) (was-sound .1))
+
+  -- statement 2, the plane's half: written from a table (of 64-bit numbers) and read again, the plane gives for each identifier, live or
+  -- not, the answer of the table's own XOR words or base list
+  module _ (w : Words t) where
+    pub statement-2 : (id : List ℕ) → lookupCall id (take n (writeCall t out .output)) ≡ shownTo (tableOf t) (readOf id)
+    statement-2 id = ap (lookupCall id) was-written ∙ shows t w (was-shaped .0) (sound-exactly t (was-shaped .0) w .0 (was-sound .0)) id
+
+    -- so a live identifier gets its word's plan
+    pub live-plan : (id : List ℕ) (v p : ℕ) → readOf id ≡ Word v → planIn t v ≡ some p → lookupCall id (take n (writeCall t out .output)) ≡ Accepted p
+    live-plan id v p i e = statement-2 id ∙ ap (shownTo (tableOf t)) i ∙ ap Accepted (live-shown rows solutions (tableOf t) v p e)
+
+-- after any list of calls every live identifier gets its word's last accepted plan from the plane
+pub last-plan : (t : List ℕ) (o : Opened t) (ps : List Put) (out : List ℕ) (n : ℕ) → Words (after tables t ps) → writeCall (after tables t ps) out .answer ≡ Accepted n
+    → (id : List ℕ) (v p : ℕ) → readOf id ≡ Word v → told v (acceptedCalls t ps) ≡ some p → lookupCall id (take n (writeCall (after tables t ps) out .output)) ≡ Accepted p
+last-plan t o ps out n w e id v p i h = live-plan (after tables t ps) out n e w id v p i (plan t o ps v (rw (read-word id v .0 i .2) (word-lt id)) ∙ h)
