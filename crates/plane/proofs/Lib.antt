@@ -5,3 +5,4 @@ pub mod Round
 pub mod Exact
 pub mod Shown
 pub mod Statements
+pub mod Put

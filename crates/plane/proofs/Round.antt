@@ -41,7 +41,7 @@ module _ {A : Type 0} (f : A → List ℕ) where
 
   module _ (size : ℕ) where
     -- things of `size` bytes each
-    abbrev Sized : A → Type 0
+    abbrev pub Sized : A → Type 0
     Sized x = length (f x) ≡ size
 
     pub length-bytes : (xs : List A) → Every Sized xs → length (bytesOf f xs) ≡ length xs * size

@@ -3,4 +3,5 @@ pub mod Record
 pub mod Plane
 pub mod Lookup
 pub mod Write
+pub mod Steps
 pub mod Fits

@@ -10,11 +10,14 @@ ghost use mathlib.Core.Path.{_≡_};
 ghost use Prim.Native.Nat.{suc, _+_, _*_, _≤_, _<_};
 ghost use lib.ListN.{length, getD, drop};
 ghost use Rattle.lists.specs.Entries.{find};
+ghost use Rattle.codec.specs.Bytes.{toBytes};
+ghost use Rattle.codec.specs.Parts.{written};
 ghost use Rattle.gf2.specs.Vectors.{product};
 ghost use Rattle.concrete.specs.Layout.{inRange};
 ghost use Rattle.plane.specs.declared.Wrong.the-variants.{Nowhere};
-ghost use Rattle.plane.specs.Record.{readAll, bucketFrom, entryFrom};
+ghost use Rattle.plane.specs.Record.{bytesOf, readAll, bucketRecord, bucketFrom, entryRecord, entryFrom, endRecord};
 ghost use Rattle.plane.specs.Plane.{whole, headerFits, bucketFits, bucketsWrong, entriesWrong, endFits, endWrong, recordsWrong, wrongAt, planeFrom};
+ghost use Rattle.plane.specs.Steps.{seenFrom, pairFrom};
 ghost use Rattle.plane.specs.Lookup.{orStranger, levelPlan, secondPlan, planFrom, looked, lookupCall};
 
 // Where a plane is wrong first.
@@ -358,4 +361,45 @@ pub fn lookup(id: &[u8], plane: &[u8]) -> Answer
         Read::Word(w) => lookup_word(w, plane),
         Read::Refused(a) => a,
     }
+}
+
+// Writes the words from the offset at on, 8 bytes each.
+pub(crate) fn put_words(out: &mut [u8], at: usize, words: &[u64])
+    requires { ⌜ at + length (now words) * 8 ≤ length (now out) ⌝ }
+    ensures { λ _. ⌜ now (out .exit) ≡ written at (bytesOf (toBytes 8) (now (words .entry))) (now (out .entry)) ⌝ }
+{
+    let mut i = 0;
+    while i < words.len() {
+        codec::put_u64(out, at + i * 8, words[i]);
+        i += 1;
+    }
+}
+
+// Writes the record of the bucket whose numbers are b at the offset at.
+pub(crate) fn put_bucket(out: &mut [u8], at: usize, b: &[u64])
+    requires { do ⌜ (length (now b) ≡ (← ⟦Bucket::WORDS⟧)) × (seenFrom (now b) .bound < 256) × (at + (← ⟦Record::BUCKET_LEN⟧) ≤ length (now out)) ⌝ }
+    ensures { λ _. ⌜ now (out .exit) ≡ written at (bucketRecord (seenFrom (now (b .entry)))) (now (out .entry)) ⌝ }
+{
+    out[at] = Record::BUCKET;
+    out[at + 1] = b[Bucket::BOUND_AT] as u8;
+    put_words(out, at + 2, &b[Bucket::SOLUTIONS_AT..Bucket::BOUND_AT]);
+}
+
+// Writes the record of the base pair e at the offset at.
+pub(crate) fn put_entry(out: &mut [u8], at: usize, word: u64, plan: u64)
+    requires { do ⌜ (plan < 256) × (at + (← ⟦Record::ENTRY_LEN⟧) ≤ length (now out)) ⌝ }
+    ensures { λ _. ⌜ now (out .exit) ≡ written at (entryRecord (record { word = word; plan = plan })) (now (out .entry)) ⌝ }
+{
+    out[at] = Record::ENTRY;
+    codec::put_u64(out, at + 1, word);
+    out[at + Record::ENTRY_BODY] = plan as u8;
+}
+
+// Writes the end at the offset at.
+pub(crate) fn put_end(out: &mut [u8], at: usize)
+    requires { do ⌜ at + (← ⟦Record::END_LEN⟧) ≤ length (now out) ⌝ }
+    ensures { λ _. ⌜ now (out .exit) ≡ written at endRecord (now (out .entry)) ⌝ }
+{
+    out[at] = Record::END;
+    codec::put_bytes(out, at + 1, b"END\n");
 }
