@@ -23,7 +23,7 @@ use Rattle.plane.specs.Record.{bytesOf, readAll, wordBytes, wordFrom, he
 use Rattle.plane.specs.Plane.{Plane, planeBytes, planeFrom, bucketsAt, entriesAt, endAt, whole, headerFits, bucketFits, bucketsWrong, entryFits, entriesWrong, endFits, wrongAt}
 use Rattle.plane.specs.Fits.{Every, Below, FitsBucket, FitsEntry, Fits}
 use Rattle.plane.proofs.Scan.{both, right, whole-length, Right, parts, bucketCount, entryCount, entriesIn, endIn}
-use Rattle.plane.proofs.Read.{length-readAll}
+use Rattle.plane.proofs.Read.{drop-more, length-readAll, read-add}
 
 -- each is below 256
 abbrev pub AllBytes : List ℕ → Type 0
@@ -33,9 +33,6 @@ bytes-drop : (n : ℕ) (p : List ℕ) → AllBytes p → AllBytes (drop n p)
 bytes-drop n p b i = rw getD-drop (b (n + i))
 
 -- ---- things one after the other
-
-drop-more : (m size : ℕ) (p : List ℕ) → drop (suc m * size) p ≡ drop (m * size) (drop size p)
-drop-more m size p = ap (λ (k : ℕ). drop k p) (suc-mul m size ∙ add-comm (m * size) size) ∙ sym (drop-drop (m * size) size p)
 
 module _ {A : Type 0} (f : A → List ℕ) (size : ℕ) (read : List ℕ → A) where
   -- one more, in front
@@ -48,11 +45,6 @@ module _ {A : Type 0} (f : A → List ℕ) (size : ℕ) (read : List ℕ → A) 
   bytes-none : (p : List ℕ) → bytesOf f (readAll size read 0 p) ++ drop (0 * size) p ≡ p
   unfolding bytesOf readAll
   bytes-none p = rw zero-mul
-
-read-add : {A : Type 0} (size : ℕ) (read : List ℕ → A) (a b : ℕ) (p : List ℕ) → readAll size read (a + b) p ≡ readAll size read a p ++ readAll size read b (drop (a * size) p)
-unfolding readAll
-read-add size read zero b p = rw (zero-add, zero-mul)
-read-add size read (suc a) b p = rw (suc-add, read-add size read a b (drop size p), drop-more a size p)
 
 -- ---- words
 

@@ -2,16 +2,21 @@
 -- Assumes nothing.
 use mathlib.Core.Path.{_≡_, refl, sym, ap, ap₂, _∙_}
 use mathlib.Core.List.{List, [], _∷_, _++_, append-nil}
-use Prim.Native.Nat.{ℕ, zero, suc, _+_, _*_, _≤_, _<_}
+use Prim.Native.Nat.{ℕ, zero, suc, _+_, _-_, _*_, _≤_, _<_}
+use native.Mathlib.Nat.{suc-mul, add-zero}
 use native.Mathlib.Numerals.{add-one}
 use native.Mathlib.Omega.{arith}
-use lib.ListN.{length, getD, set, take, drop, length-set}
-use lib.Seq.{take-suc, length-take-le}
+use lib.ListN.{length, getD, set, take, drop, length-set, length-append, length-drop}
+use lib.Seq.{getD-drop, take-suc, length-take-le}
 use Rattle.codec.specs.Bytes.{toBytes}
 use Rattle.codec.specs.Parts.{written}
-use Rattle.codec.proofs.Part.{length-written, written-one, written-more, written-append}
+use Rattle.codec.proofs.Part.{length-written, written-none, written-one, written-more, written-append}
 use Rattle.codec.proofs.Round.{length-toBytes}
-use Rattle.plane.specs.Record.{bytesOf, readAll, wordBytes, entryKind, entryRecord}
+use Rattle.bucket.specs.Words.{bucketWords, bucketFrom}
+use Rattle.concrete.proofs.Numbers.{from-part}
+use Rattle.plane.specs.Record.{bytesOf, readAll, wordBytes, bucketBody, bucketRecord, entryKind, entryBody, entryRecord}
+use Rattle.plane.proofs.Read.{length-readAll, read-add}
+use Rattle.plane.specs.Steps.{seenFrom, pairFrom}
 use Rattle.plane.specs.Fits.{Every}
 use Rattle.plane.proofs.Round.{Sized, bytes-append, length-bytes}
 
@@ -45,15 +50,62 @@ module _ {A : Type 0} (f : A → List ℕ) (size : ℕ) where
       ∙ sym (written-append a (bytesOf f xs) (f x) t)
       ∙ ap (λ (p : List ℕ). written a p t) (ap (λ (p : List ℕ). bytesOf f xs ++ p) (sym (bytes-one x)) ∙ sym (bytes-append f xs (x ∷ [])))
 
+  pub read-none : (step : ℕ) (read : List ℕ → A) (a : ℕ) (p t : List ℕ) → t ≡ written a (bytesOf f (readAll step read 0 p)) t
+  unfolding bytesOf readAll
+  read-none step read a p t = sym (written-none a t)
+
+  -- the first i of the things read from p are written
+  pub read-next : (step : ℕ) (read : List ℕ → A) (i a : ℕ) (p t : List ℕ) → Every (Sized f size) (readAll step read i p)
+      → written (a + i * size) (f (read (drop (i * step) p))) (written a (bytesOf f (readAll step read i p)) t) ≡ written a (bytesOf f (readAll step read (i + 1) p)) t
+  unfolding readAll
+  read-next step read i a p t h =
+      ap (λ (k : ℕ). written (a + k * size) (f (read (drop (i * step) p))) (written a (bytesOf f (readAll step read i p)) t)) (sym (length-readAll step read i p))
+      ∙ put-next (readAll step read i p) (read (drop (i * step) p)) a t h
+      ∙ ap (λ (l : List A). written a (bytesOf f l) t) (sym (read-add step read i 1 p))
+
+words-sized : (xs : List ℕ) → Every (Sized (toBytes wordBytes) wordBytes) xs
+words-sized [] = tt
+words-sized (x ∷ xs) = (length-toBytes wordBytes x, words-sized xs)
+
 -- the words before i are written
 pub words-next : (words : List ℕ) (i a : ℕ) (t : List ℕ) → i < length words
     → written (a + i * wordBytes) (toBytes wordBytes (getD words i 0)) (written a (bytesOf (toBytes wordBytes) (take i words)) t)
     ≡ written a (bytesOf (toBytes wordBytes) (take (i + 1) words)) t
 words-next words i a t h =
     ap (λ (k : ℕ). written (a + k * wordBytes) (toBytes wordBytes (getD words i 0)) (written a (bytesOf (toBytes wordBytes) (take i words)) t)) (sym (length-take-le i words (omega arith)))
-    ∙ put-next (toBytes wordBytes) wordBytes (take i words) (getD words i 0) a t (all (take i words))
+    ∙ put-next (toBytes wordBytes) wordBytes (take i words) (getD words i 0) a t (words-sized (take i words))
     ∙ ap (λ (l : List ℕ). written a (bytesOf (toBytes wordBytes) l) t) (sym (rw add-one (take-suc words i 0 h)))
-  where
-    all : (xs : List ℕ) → Every (Sized (toBytes wordBytes) wordBytes) xs
-    all [] = tt
-    all (x ∷ xs) = (length-toBytes wordBytes x, all xs)
+
+-- a bucket in a part of just its numbers
+pub bucket-here : (n r k : ℕ) (xs : List ℕ) → bucketFrom n r (take (k + bucketWords n r - k) (drop k xs)) ≡ bucketFrom n r (drop k xs)
+bucket-here n r k xs =
+    let w : k + bucketWords n r - k ≡ bucketWords n r = omega arith in
+    rw w (from-part n r (drop k xs))
+
+-- the length of the record of a bucket
+bucket-size : (n r : ℕ) (xs : List ℕ) → bucketWords n r ≤ length xs → Sized bucketRecord (1 + bucketBody r) (seenFrom n r xs)
+unfolding bucketFrom
+bucket-size n r xs h =
+    let l : length (take r (drop (n + 1) xs)) ≡ r = length-take-le r (drop (n + 1) xs) (rw length-drop (omega arith)) in
+    omega (arith, length-bytes (toBytes wordBytes) wordBytes (take r (drop (n + 1) xs)) (words-sized (take r (drop (n + 1) xs))))
+
+pub buckets-sized : (n r i : ℕ) (xs : List ℕ) → i * bucketWords n r ≤ length xs → Every (Sized bucketRecord (1 + bucketBody r)) (readAll (bucketWords n r) (seenFrom n r) i xs)
+unfolding readAll
+buckets-sized n r zero xs h = tt
+buckets-sized n r (suc i) xs h =
+    let k : i * bucketWords n r + bucketWords n r ≤ length xs = rw (suc-mul i (bucketWords n r)) at h in
+    (bucket-size n r xs (omega arith), buckets-sized n r i (drop (bucketWords n r) xs) (rw length-drop (omega arith)))
+
+entries-sized : (i : ℕ) (xs : List ℕ) → Every (Sized entryRecord (1 + entryBody)) (readAll 2 pairFrom i xs)
+unfolding readAll
+entries-sized zero xs = tt
+entries-sized (suc i) xs = (rw length-append (omega (arith, length-toBytes wordBytes (getD xs 0 0))), entries-sized i (drop 2 xs))
+
+-- the next pair
+pub entries-next : (i a : ℕ) (p t : List ℕ)
+    → written (a + i * (1 + entryBody)) (entryRecord (record { word = getD p (i * 2) 0; plan = getD p (i * 2 + 1) 0 })) (written a (bytesOf entryRecord (readAll 2 pairFrom i p)) t)
+    ≡ written a (bytesOf entryRecord (readAll 2 pairFrom (i + 1) p)) t
+entries-next i a p t =
+    ap₂ (λ (w q : ℕ). written (a + i * (1 + entryBody)) (entryRecord (record { word = w; plan = q })) (written a (bytesOf entryRecord (readAll 2 pairFrom i p)) t))
+    (sym (getD-drop (i * 2) p 0 0 ∙ ap (λ (k : ℕ). getD p k 0) (add-zero (i * 2)))) (sym (getD-drop (i * 2) p 1 0))
+    ∙ read-next entryRecord (1 + entryBody) 2 pairFrom i a p t (entries-sized i p)

@@ -1,10 +1,10 @@
 -- Things read from bytes one after the other: how many, each by its place, and the loops that look for one.
 -- Assumes nothing.
 use mathlib.Core.Path.{_≡_, refl, sym, ap, _∙_}
-use mathlib.Core.List.{List, [], _∷_}
+use mathlib.Core.List.{List, [], _∷_, _++_}
 use mathlib.Core.Option.{Option, some}
 use Prim.Native.Nat.{ℕ, zero, suc, _+_, _-_, _*_, _/_, _≤_, _<_}
-use native.Mathlib.Nat.{suc-mul, zero-add, suc-add, add-comm, mod-lt, not-suc-le-zero, le-of-suc-le-suc}
+use native.Mathlib.Nat.{suc-mul, zero-mul, zero-add, suc-add, add-comm, mod-lt, not-suc-le-zero, le-of-suc-le-suc}
 use native.Mathlib.Numerals.{sub-one}
 use native.Mathlib.Omega.{arith}
 use borrow.Author.Tests.{lt-ltb, le-ltb, eq-eqb, ne-eqb}
@@ -19,6 +19,9 @@ use Rattle.plane.specs.declared.Held.the-variants.{Plan, Passed}
 use Rattle.plane.specs.Record.{readAll, wordBytes, wordFrom, bucketBody, bucketFrom, entryBody, entryFrom}
 use Rattle.plane.specs.Lookup.{bucketOf, levelPlan}
 
+pub drop-more : (m size : ℕ) (p : List ℕ) → drop (suc m * size) p ≡ drop (m * size) (drop size p)
+drop-more m size p = ap (λ (k : ℕ). drop k p) (suc-mul m size ∙ add-comm (m * size) size) ∙ sym (drop-drop (m * size) size p)
+
 module _ {A : Type 0} (size : ℕ) (read : List ℕ → A) where
   pub length-readAll : (m : ℕ) (p : List ℕ) → length (readAll size read m p) ≡ m
   unfolding readAll
@@ -32,6 +35,12 @@ module _ {A : Type 0} (size : ℕ) (read : List ℕ → A) where
   getD-readAll (suc m) (suc i) p d h =
       getD-readAll m i (drop size p) d (le-of-suc-le-suc h)
       ∙ ap read (drop-drop (i * size) size p ∙ ap (λ (k : ℕ). drop k p) (sym (suc-mul i size ∙ add-comm (i * size) size)))
+
+  -- more of them
+  pub read-add : (a b : ℕ) (p : List ℕ) → readAll size read (a + b) p ≡ readAll size read a p ++ readAll size read b (drop (a * size) p)
+  unfolding readAll
+  read-add zero b p = rw (zero-add, zero-mul)
+  read-add (suc a) b p = rw (suc-add, read-add a b (drop size p), drop-more a size p)
 
 -- ---- a record in a part of just its bytes
 

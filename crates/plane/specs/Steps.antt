@@ -5,13 +5,12 @@ use mathlib.Core.List.{List}
 use lib.ListN.{getD}
 use Rattle.lists.specs.Entries.{Entry}
 use Rattle.bucket.specs.Words.{bucketFrom}
-use Rattle.concrete.specs.Calls.{rows, solutions}
 use Rattle.plane.specs.Record.{PlaneBucket}
 use Rattle.plane.specs.Write.{seenOf}
 
--- the bucket in front, as the posts see it
-abbrev pub seenFrom : List ℕ → PlaneBucket
-seenFrom xs = seenOf (bucketFrom rows solutions xs)
+-- the bucket in front, of n rows and r solution words, as the posts see it
+abbrev pub seenFrom : ℕ → ℕ → List ℕ → PlaneBucket
+seenFrom n r xs = seenOf (bucketFrom n r xs)
 
 -- the base pair in front
 abbrev pub pairFrom : List ℕ → Entry

@@ -7,16 +7,19 @@ use bucket::Bucket;
 use identifier::Identifier;
 use identifier::Read;
 ghost use mathlib.Core.Path.{_≡_};
-ghost use Prim.Native.Nat.{suc, _+_, _*_, _≤_, _<_};
+ghost use Prim.Native.Nat.{ℕ, suc, _+_, _*_, _≤_, _<_};
 ghost use lib.ListN.{length, getD, drop};
 ghost use Rattle.lists.specs.Entries.{find};
 ghost use Rattle.codec.specs.Bytes.{toBytes};
 ghost use Rattle.codec.specs.Parts.{written};
 ghost use Rattle.gf2.specs.Vectors.{product};
+ghost use Rattle.bucket.specs.Words.{bucketWords};
 ghost use Rattle.concrete.specs.Layout.{inRange};
 ghost use Rattle.plane.specs.declared.Wrong.the-variants.{Nowhere};
 ghost use Rattle.plane.specs.Record.{bytesOf, readAll, bucketRecord, bucketFrom, entryRecord, entryFrom, endRecord};
 ghost use Rattle.plane.specs.Plane.{whole, headerFits, bucketFits, bucketsWrong, entriesWrong, endFits, endWrong, recordsWrong, wrongAt, planeFrom};
+ghost use Rattle.concrete.specs.Calls.{rows, solutions, tableOf, shaped, sound};
+ghost use Rattle.plane.specs.Write.{planeOf, inFront};
 ghost use Rattle.plane.specs.Steps.{seenFrom, pairFrom};
 ghost use Rattle.plane.specs.Lookup.{orStranger, levelPlan, secondPlan, planFrom, looked, lookupCall};
 
@@ -377,8 +380,8 @@ pub(crate) fn put_words(out: &mut [u8], at: usize, words: &[u64])
 
 // Writes the record of the bucket whose numbers are b at the offset at.
 pub(crate) fn put_bucket(out: &mut [u8], at: usize, b: &[u64])
-    requires { do ⌜ (length (now b) ≡ (← ⟦Bucket::WORDS⟧)) × (seenFrom (now b) .bound < 256) × (at + (← ⟦Record::BUCKET_LEN⟧) ≤ length (now out)) ⌝ }
-    ensures { λ _. ⌜ now (out .exit) ≡ written at (bucketRecord (seenFrom (now (b .entry)))) (now (out .entry)) ⌝ }
+    requires { do ⌜ (length (now b) ≡ (← ⟦Bucket::WORDS⟧)) × (seenFrom rows solutions (now b) .bound < 256) × (at + (← ⟦Record::BUCKET_LEN⟧) ≤ length (now out)) ⌝ }
+    ensures { λ _. ⌜ now (out .exit) ≡ written at (bucketRecord (seenFrom rows solutions (now (b .entry)))) (now (out .entry)) ⌝ }
 {
     out[at] = Record::BUCKET;
     out[at + 1] = b[Bucket::BOUND_AT] as u8;
@@ -393,6 +396,34 @@ pub(crate) fn put_entry(out: &mut [u8], at: usize, word: u64, plan: u64)
     out[at] = Record::ENTRY;
     codec::put_u64(out, at + 1, word);
     out[at + Record::ENTRY_BODY] = plan as u8;
+}
+
+// Writes the records of m buckets, whose numbers stand one after the other in b, from the offset at on.
+pub(crate) fn put_buckets(out: &mut [u8], at: usize, b: &[u64], m: usize)
+    requires { do ⌜ (m * (← ⟦Bucket::WORDS⟧) ≤ length (now b)) × (at + m * (← ⟦Record::BUCKET_LEN⟧) ≤ length (now out)) ⌝ }
+    requires low { ⌜ ((i : ℕ) → i < m → seenFrom rows solutions (drop (i * bucketWords rows solutions) (now b)) .bound < 256) ⌝ }
+    ensures { λ _. do ⌜ now (out .exit) ≡ written at (bytesOf bucketRecord (readAll (← ⟦Bucket::WORDS⟧ .entry) (seenFrom rows solutions) m (now (b .entry)))) (now (out .entry)) ⌝ }
+{
+    let mut i = 0;
+    while i < m {
+        let from = i * Bucket::WORDS;
+        let to = from + Bucket::WORDS;
+        put_bucket(out, at + i * Record::BUCKET_LEN, &b[from..to]);
+        i += 1;
+    }
+}
+
+// Writes the records of k base entries, whose pairs stand in front, from the offset at on.
+pub(crate) fn put_entries(out: &mut [u8], at: usize, pairs: &[u64], k: usize)
+    requires { do ⌜ (k * 2 ≤ length (now pairs)) × (at + k * (← ⟦Record::ENTRY_LEN⟧) ≤ length (now out)) ⌝ }
+    requires plans { ⌜ ((i : ℕ) → i < k → pairFrom (drop (i * 2) (now pairs)) .plan < 256) ⌝ }
+    ensures { λ _. ⌜ now (out .exit) ≡ written at (bytesOf entryRecord (readAll 2 pairFrom k (now (pairs .entry)))) (now (out .entry)) ⌝ }
+{
+    let mut i = 0;
+    while i < k {
+        put_entry(out, at + i * Record::ENTRY_LEN, pairs[i * 2], pairs[i * 2 + 1]);
+        i += 1;
+    }
 }
 
 // Writes the end at the offset at.
