@@ -13,10 +13,12 @@ use Rattle.codec.specs.Parts.{written}
 use Rattle.codec.proofs.Part.{length-written, written-none, written-one, written-more, written-append}
 use Rattle.codec.proofs.Round.{length-toBytes}
 use Rattle.bucket.specs.Words.{bucketWords, bucketFrom}
+use Rattle.concrete.specs.Layout.{header, bucketPlace}
 use Rattle.concrete.proofs.Numbers.{from-part}
-use Rattle.plane.specs.Record.{bytesOf, readAll, wordBytes, bucketBody, bucketRecord, entryKind, entryBody, entryRecord}
+use Rattle.plane.specs.Record.{bytesOf, readAll, wordBytes, bucketBody, bucketRecord, entryKind, entryBody, entryRecord, endRecord}
+use Rattle.plane.specs.Plane.{bucketsAt, entriesAt, endAt}
 use Rattle.plane.proofs.Read.{length-readAll, read-add}
-use Rattle.plane.specs.Steps.{seenFrom, pairFrom}
+use Rattle.plane.specs.Steps.{seenFrom, pairFrom, recordsOf}
 use Rattle.plane.specs.Fits.{Every}
 use Rattle.plane.proofs.Round.{Sized, bytes-append, length-bytes}
 
@@ -109,3 +111,22 @@ entries-next i a p t =
     ap₂ (λ (w q : ℕ). written (a + i * (1 + entryBody)) (entryRecord (record { word = w; plan = q })) (written a (bytesOf entryRecord (readAll 2 pairFrom i p)) t))
     (sym (getD-drop (i * 2) p 0 0 ∙ ap (λ (k : ℕ). getD p k 0) (add-zero (i * 2)))) (sym (getD-drop (i * 2) p 1 0))
     ∙ read-next entryRecord (1 + entryBody) 2 pairFrom i a p t (entries-sized i p)
+
+-- three parts one after the other
+three : (a m k : ℕ) (B E F t o1 o2 : List ℕ) → length B ≡ m → length E ≡ k → o1 ≡ written a B t → o2 ≡ written (a + m) E o1
+    → written (a + m + k) F o2 ≡ written a (B ++ (E ++ F)) t
+three a m k B E F t o1 o2 b e f g =
+    rw (g, f, ← b, ← e) (sym (written-append a B (E ++ F) t ∙ written-append (a + length B) E F (written a B t)))
+
+pub records-put : (n r m k : ℕ) (t out o1 o2 o3 : List ℕ) → bucketPlace n r m + k * 2 ≤ length t
+    → o1 ≡ written bucketsAt (bytesOf bucketRecord (readAll (bucketWords n r) (seenFrom n r) m (drop header t))) out
+    → o2 ≡ written (entriesAt r m) (bytesOf entryRecord (readAll 2 pairFrom k (drop (bucketPlace n r m) t))) o1
+    → o3 ≡ written (endAt r m k) endRecord o2 → o3 ≡ written bucketsAt (recordsOf n r m k t) out
+records-put n r m k t out o1 o2 o3 h e f g =
+    let bs = readAll (bucketWords n r) (seenFrom n r) m (drop header t) in
+    let es = readAll 2 pairFrom k (drop (bucketPlace n r m) t) in
+    g
+    ∙ three bucketsAt (m * (1 + bucketBody r)) (k * (1 + entryBody)) (bytesOf bucketRecord bs) (bytesOf entryRecord es) endRecord out o1 o2
+    (length-bytes bucketRecord (1 + bucketBody r) bs (buckets-sized n r m (drop header t) (rw length-drop (omega arith))) ∙ ap (λ (i : ℕ). i * (1 + bucketBody r)) (length-readAll (bucketWords n r) (seenFrom n r) m (drop header t)))
+    (length-bytes entryRecord (1 + entryBody) es (entries-sized k (drop (bucketPlace n r m) t)) ∙ ap (λ (i : ℕ). i * (1 + entryBody)) (length-readAll 2 pairFrom k (drop (bucketPlace n r m) t)))
+    e f

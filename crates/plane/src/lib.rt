@@ -7,6 +7,7 @@ use bucket::Bucket;
 use identifier::Identifier;
 use identifier::Read;
 ghost use mathlib.Core.Path.{_≡_};
+ghost use mathlib.Core.Bool.{true};
 ghost use Prim.Native.Nat.{ℕ, suc, _+_, _*_, _≤_, _<_};
 ghost use lib.ListN.{length, getD, drop};
 ghost use Rattle.lists.specs.Entries.{find};
@@ -14,13 +15,13 @@ ghost use Rattle.codec.specs.Bytes.{toBytes};
 ghost use Rattle.codec.specs.Parts.{written};
 ghost use Rattle.gf2.specs.Vectors.{product};
 ghost use Rattle.bucket.specs.Words.{bucketWords};
-ghost use Rattle.concrete.specs.Layout.{inRange};
+ghost use Rattle.concrete.specs.Layout.{inRange, header, bucketPlace};
 ghost use Rattle.plane.specs.declared.Wrong.the-variants.{Nowhere};
-ghost use Rattle.plane.specs.Record.{bytesOf, readAll, bucketRecord, bucketFrom, entryRecord, entryFrom, endRecord};
-ghost use Rattle.plane.specs.Plane.{whole, headerFits, bucketFits, bucketsWrong, entriesWrong, endFits, endWrong, recordsWrong, wrongAt, planeFrom};
+ghost use Rattle.plane.specs.Record.{bytesOf, readAll, headerRecord, bucketRecord, bucketFrom, entryRecord, entryFrom, endRecord};
+ghost use Rattle.plane.specs.Plane.{planeBytes, bucketsAt, planeLength, whole, headerFits, bucketFits, bucketsWrong, entriesWrong, endFits, endWrong, recordsWrong, wrongAt, planeFrom};
 ghost use Rattle.concrete.specs.Calls.{rows, solutions, tableOf, shaped, sound};
 ghost use Rattle.plane.specs.Write.{planeOf, inFront};
-ghost use Rattle.plane.specs.Steps.{seenFrom, pairFrom};
+ghost use Rattle.plane.specs.Steps.{seenFrom, pairFrom, recordsOf};
 ghost use Rattle.plane.specs.Lookup.{orStranger, levelPlan, secondPlan, planFrom, looked, lookupCall};
 
 // Where a plane is wrong first.
@@ -79,6 +80,9 @@ const MOST_BUCKETS_2: u8 = 32;
 const BASE_LIMIT: u8 = 64;
 
 const LARGEST_BOUND: u8 = 8;
+
+// The numbers of a table before its buckets.
+const TABLE_HEADER: usize = 4;
 
 // The plan of a word due to the base list and not in it.
 const STRANGER_PLAN: u64 = 0;
@@ -433,4 +437,36 @@ pub(crate) fn put_end(out: &mut [u8], at: usize)
 {
     out[at] = Record::END;
     codec::put_bytes(out, at + 1, b"END\n");
+}
+
+// Writes the header.
+pub(crate) fn put_header(out: &mut [u8], buckets1: u64, buckets2: u64, entries: u64)
+    requires { ⌜ (buckets1 < 256) × (buckets2 < 256) × (entries < 256) ⌝ }
+    ensures { λ _. ⌜ now (out .exit) ≡ written 0 (headerRecord buckets1 buckets2 entries) (now (out .entry)) ⌝ }
+{
+    let head = [Record::HEADER, Record::FORMAT, buckets1 as u8, buckets2 as u8, entries as u8];
+    codec::put_bytes(out, 0, &head);
+}
+
+// Writes the records after the header, of these numbers of buckets and base entries of the table t.
+pub(crate) fn put_records(out: &mut [u8], t: &[u64], buckets: usize, entries: usize)
+    requires { do ⌜ (bucketPlace rows solutions buckets + entries * 2 ≤ length (now t)) × (planeLength solutions buckets entries ≤ length (now out)) ⌝ }
+    requires low { ⌜ ((i : ℕ) → i < buckets → seenFrom rows solutions (drop (i * bucketWords rows solutions) (drop header (now t))) .bound < 256) ⌝ }
+    requires plans { ⌜ ((i : ℕ) → i < entries → pairFrom (drop (i * 2) (drop (bucketPlace rows solutions buckets) (now t))) .plan < 256) ⌝ }
+    ensures { λ _. ⌜ now (out .exit) ≡ written bucketsAt (recordsOf rows solutions buckets entries (now (t .entry))) (now (out .entry)) ⌝ }
+{
+    let pairs_at = TABLE_HEADER + buckets * Bucket::WORDS;
+    let entries_at = Record::BUCKETS_AT + buckets * Record::BUCKET_LEN;
+    put_buckets(out, Record::BUCKETS_AT, &t[TABLE_HEADER..], buckets);
+    put_entries(out, entries_at, &t[pairs_at..], entries);
+    put_end(out, entries_at + entries * Record::ENTRY_LEN);
+}
+
+// Writes the plane of the sound table t in front of the output, which has room for it.
+pub(crate) fn write_plane(t: &[u64], out: &mut [u8])
+    requires { ⌜ (shaped (now t) ≡ true) × (sound (now t) ≡ true) × (length (planeBytes (planeOf (tableOf (now t)))) ≤ length (now out)) ⌝ }
+    ensures { λ _. ⌜ now (out .exit) ≡ inFront (planeBytes (planeOf (tableOf (now (t .entry))))) (now (out .entry)) .output ⌝ }
+{
+    put_header(out, t[0], t[1], t[2]);
+    put_records(out, t, (t[0] + t[1]) as usize, t[2] as usize);
 }
