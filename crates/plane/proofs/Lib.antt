@@ -6,3 +6,4 @@ pub mod Exact
 pub mod Shown
 pub mod Statements
 pub mod Put
+pub mod Through

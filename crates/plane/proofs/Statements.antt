@@ -1,13 +1,14 @@
 -- The statements of document 01 about the plane, at its 64 rows and 8 solution words.
 -- Assumes nothing.
 use mathlib.Core.Path.{_≡_, refl, sym, ap, _∙_}
-use mathlib.Core.Bool.{Bool, true, false, cond}
+use mathlib.Core.Bool.{Bool, true, false, cond, _&&_}
 use mathlib.Core.List.{List, _++_}
 use mathlib.Core.Option.{some}
-use Prim.Native.Nat.{ℕ, _≤_, _<_}
+use Prim.Native.Nat.{ℕ, _+_, _≤_}
 use native.Mathlib.Omega.{arith}
+use borrow.Author.Tests.{leb-true, eqb-true}
 use lib.Dec.{eqb, leb, ltb, lit≤}
-use lib.ListN.{length, getD, take, drop}
+use lib.ListN.{length, getD, take, drop, length-map}
 use lib.Seq.{take-at}
 use Rattle.lists.proofs.Tests.{cases}
 use Rattle.hash.specs.Mix.{mixOf, unmixOf}
@@ -18,20 +19,21 @@ use Rattle.identifier.specs.declared.Read.{Read}
 use Rattle.identifier.specs.declared.Read.the-variants.{Word, Refused}
 use Rattle.identifier.proofs.Causes.{read-word}
 use Rattle.identifier.proofs.Words.{word-lt}
+use Rattle.model.specs.Model.{baseLimit}
 use Rattle.model.specs.History.{told}
 use Rattle.model.specs.Machine.{after}
 use Rattle.concrete.specs.Test.{shapeTest}
-use Rattle.concrete.specs.Layout.{inRange, header}
+use Rattle.concrete.specs.Layout.{mostBuckets1, mostBuckets2, inRange, header, lengthOf}
 use Rattle.concrete.specs.Calls.{rows, solutions, tableOf, planIn, shaped, sound, FlatSound}
 use Rattle.concrete.specs.History.{Put, tables, Opened, acceptedCalls}
-use Rattle.concrete.proofs.Statements.{sound-exactly, plan}
+use Rattle.concrete.proofs.Statements.{sound-exactly, header-read, plan}
 use Rattle.plane.specs.declared.Wrong.the-variants.{Nowhere}
-use Rattle.plane.specs.Plane.{planeBytes, planeFrom, wrongAt}
+use Rattle.plane.specs.Plane.{planeBytes, planeLength}
 use Rattle.plane.specs.Lookup.{planFrom, looked, lookupRead, lookupCall}
 use Rattle.plane.specs.Fits.{Fits}
-use Rattle.plane.specs.Write.{planeOf, putFront, Written, turnedDown, inFront, writeCall, shownPlan, shownTo}
+use Rattle.plane.specs.Write.{seenOf, planeOf, putFront, Written, turnedDown, inFront, writeCall, shownPlan, shownTo}
 use Rattle.plane.proofs.Scan.{both}
-use Rattle.plane.proofs.Round.{written-right, written-read}
+use Rattle.plane.proofs.Round.{plane-length, written-right, written-read}
 use Rattle.plane.proofs.Shown.{Words, plane-fits, shown, live-shown}
 
 module _ (t : List ℕ) (w : Words t) (k : shaped t ≡ true) (h : FlatSound t) where
@@ -52,6 +54,33 @@ module _ (t : List ℕ) (w : Words t) (k : shaped t ≡ true) (h : FlatSound t) 
       go (Word v) =
           rw (written-right solutions (planeOf (tableOf t)) fits, written-read solutions (planeOf (tableOf t)) fits)
           (ap Accepted (shown rows solutions (tableOf t) v (h .table .level1 .some) (h .table .level2 .some)))
+
+-- what the writer knows of a sound table t
+pub record Known (t : List ℕ) : Type 0 where
+  pub size : length t ≡ lengthOf rows solutions (getD t 0 0) (getD t 1 0)
+  pub most1 : getD t 0 0 ≤ mostBuckets1
+  pub most2 : getD t 1 0 ≤ mostBuckets2
+  pub few : getD t 2 0 ≤ baseLimit
+  pub fits : Fits solutions (planeOf (tableOf t))
+  pub long : length (planeBytes (planeOf (tableOf t))) ≡ planeLength solutions (getD t 0 0 + getD t 1 0) (getD t 2 0)
+
+pub known : (t : List ℕ) → Words t → shaped t ≡ true → sound t ≡ true → Known t
+unfolding shapeTest
+known t w k q =
+    let h : FlatSound t = sound-exactly t k w .0 q in
+    let f : Fits solutions (planeOf (tableOf t)) = fits t w k h in
+    let r = header-read t in
+    let c = both (inRange (getD t 0 0) (getD t 1 0)) _ (both (leb header (length t)) _ k .1) in
+    let d = both (leb 1 (getD t 0 0) && leb (getD t 0 0) mostBuckets1) _ (c .0) in
+    record {
+      size = eqb-true (length t) (lengthOf rows solutions (getD t 0 0) (getD t 1 0)) (c .1);
+      most1 = leb-true (getD t 0 0) mostBuckets1 (both (leb 1 (getD t 0 0)) _ (d .0) .1);
+      most2 = leb-true (getD t 1 0) mostBuckets2 (both (leb 1 (getD t 1 0)) _ (d .1) .1);
+      few = rw (r .2) at (h .table .fits);
+      fits = f;
+      long = plane-length solutions (planeOf (tableOf t)) f
+          ∙ rw (length-map (tableOf t .level1) seenOf, length-map (tableOf t .level2) seenOf, r .0, r .1, r .2) refl;
+    }
 
 -- ---- a call that is accepted has written the plane of a sound table, and nothing past it
 
