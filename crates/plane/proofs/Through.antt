@@ -5,9 +5,11 @@ use mathlib.Core.List.{List, [], _∷_, _++_, map}
 use Prim.Native.Nat.{ℕ, zero, suc, _+_, _*_, _≤_, _<_}
 use native.Mathlib.Nat.{zero-add, not-suc-le-zero, le-of-suc-le-suc}
 use native.Mathlib.Omega.{arith}
+use borrow.Author.Tests.{lt-ltb, le-ltb}
 use lib.ListN.{length, getD, drop, length-map}
 use lib.Seq.{drop-drop}
 use Rattle.lists.specs.Entries.{Entry}
+use Rattle.answer.specs.declared.Answer.the-variants.{Accepted, ShortOutput}
 use Rattle.codec.specs.Parts.{written}
 use Rattle.codec.proofs.Part.{written-fits, written-append}
 use Rattle.bucket.specs.declared.Bucket.{Bucket}
@@ -18,7 +20,7 @@ use Rattle.concrete.proofs.Numbers.{header-read}
 use Rattle.plane.specs.Record.{bytesOf, readAll, PlaneBucket, headerRecord, bucketRecord, entryRecord, endRecord}
 use Rattle.plane.specs.Plane.{planeBytes, bucketsAt}
 use Rattle.plane.specs.Fits.{Every, FitsBucket, FitsEntry, Fits}
-use Rattle.plane.specs.Write.{seenOf, planeOf, inFront}
+use Rattle.plane.specs.Write.{seenOf, planeOf, inFront, putFront}
 use Rattle.plane.specs.Steps.{seenFrom, pairFrom, recordsOf}
 use Rattle.plane.proofs.Read.{length-readAll, getD-readAll, read-add}
 
@@ -93,3 +95,11 @@ front-put n r xs out o h e =
     ∙ ap (λ (p : List ℕ). written 0 p out) (sym (plane-bytes n r xs))
     ∙ written-fits 0 (planeBytes (planeOf (tableFrom n r xs))) out (omega arith)
     ∙ rw zero-add refl
+
+-- an output without room for the bytes, and one with room
+module _ (bytes out : List ℕ) (n : ℕ) (e : n ≡ length bytes) where
+  pub put-short : length out < n → (ShortOutput n ≡ putFront bytes out .answer) × (out ≡ putFront bytes out .output)
+  put-short h = rw (e, lt-ltb (length out) (length bytes) (rw e at h)) (refl, refl)
+
+  pub put-fits : (o : List ℕ) → n ≤ length out → o ≡ inFront bytes out .output → (Accepted n ≡ putFront bytes out .answer) × (o ≡ putFront bytes out .output)
+  put-fits o h f = rw (e, le-ltb (length out) (length bytes) (rw e at h)) (refl, f)

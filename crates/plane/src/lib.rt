@@ -20,7 +20,7 @@ ghost use Rattle.plane.specs.declared.Wrong.the-variants.{Nowhere};
 ghost use Rattle.plane.specs.Record.{bytesOf, readAll, headerRecord, bucketRecord, bucketFrom, entryRecord, entryFrom, endRecord};
 ghost use Rattle.plane.specs.Plane.{planeBytes, bucketsAt, planeLength, whole, headerFits, bucketFits, bucketsWrong, entriesWrong, endFits, endWrong, recordsWrong, wrongAt, planeFrom};
 ghost use Rattle.concrete.specs.Calls.{rows, solutions, tableOf, shaped, sound};
-ghost use Rattle.plane.specs.Write.{planeOf, inFront};
+ghost use Rattle.plane.specs.Write.{planeOf, inFront, putFront};
 ghost use Rattle.plane.specs.Steps.{seenFrom, pairFrom, recordsOf};
 ghost use Rattle.plane.specs.Lookup.{orStranger, levelPlan, secondPlan, planFrom, looked, lookupCall};
 
@@ -469,4 +469,25 @@ pub(crate) fn write_plane(t: &[u64], out: &mut [u8])
 {
     put_header(out, t[0], t[1], t[2]);
     put_records(out, t, (t[0] + t[1]) as usize, t[2] as usize);
+}
+
+// The length of a plane.
+pub(crate) fn plane_len(buckets: u64, entries: u64) -> u64
+    requires { ⌜ (buckets ≤ 80) × (entries ≤ 64) ⌝ }
+    ensures { λ r. ⌜ r ≡ planeLength solutions buckets entries ⌝ }
+{
+    10 + buckets * 66 + entries * 10
+}
+
+// Writes the plane of the sound table t, if the output has room for it: cause 9.
+pub(crate) fn write_sound(t: &[u64], out: &mut [u8]) -> Answer
+    requires { ⌜ (shaped (now t) ≡ true) × (sound (now t) ≡ true) ⌝ }
+    ensures { λ r. ⌜ (r ≡ putFront (planeBytes (planeOf (tableOf (now (t .entry))))) (now (out .entry)) .answer) × (now (out .exit) ≡ putFront (planeBytes (planeOf (tableOf (now (t .entry))))) (now (out .entry)) .output) ⌝ }
+{
+    let needed = plane_len(t[0] + t[1], t[2]);
+    if (out.len() as u64) < needed {
+        return Answer::ShortOutput(needed);
+    }
+    write_plane(t, out);
+    Answer::Accepted(needed)
 }
