@@ -1,26 +1,25 @@
 -- What is right was written: bytes that are wrong nowhere are those of the plane that they say, which fits.
 -- Assumes nothing.
-use mathlib.Core.Path.{_≡_, refl, sym, ap, ap₂, _∙_, subst}
-use mathlib.Core.Bool.{Bool, true, _&&_}
-use mathlib.Core.List.{List, [], _∷_, _++_, append-assoc}
-use Prim.Native.Nat.{ℕ, zero, suc, _+_, _-_, _*_, _^_, _≤_, _<_}
-use native.Mathlib.Nat.{suc-mul, zero-mul, zero-add, suc-add, add-comm}
+use mathlib.Core.Path.{_≡_, refl, sym, ap, _∙_}
+use mathlib.Core.Bool.{true}
+use mathlib.Core.List.{List, _∷_, _++_, append-assoc}
+use Prim.Native.Nat.{ℕ, zero, suc, _+_, _-_, _*_, _≤_, _<_}
+use native.Mathlib.Nat.{zero-mul}
 use native.Mathlib.Omega.{arith}
 use borrow.Author.Tests.{leb-true, eqb-true}
 use lib.Dec.{leb, eqb}
-use lib.ListN.{length, getD, take, drop, length-append, length-drop, take-append-drop}
+use lib.ListN.{length, getD, take, drop, length-drop, take-append-drop}
 use lib.Seq.{drop-cons, drop-drop, getD-take, getD-drop, length-take-le, take-all}
-use Rattle.lists.specs.Entries.{Entry, Above, Ascending}
-use Rattle.codec.specs.Bytes.{fromBytes, toBytes, eqList}
+use Rattle.lists.specs.Entries.{Above, Ascending}
+use Rattle.codec.specs.Bytes.{toBytes}
 use Rattle.codec.proofs.Equal.{equal-eq}
 use Rattle.codec.proofs.Round.{Bytes, to-from, fromBytes-lt}
 use Rattle.bucket.specs.Bucket.{largestBound}
 use Rattle.model.specs.Model.{baseLimit}
 use Rattle.concrete.specs.Layout.{inRange}
-use Rattle.plane.specs.declared.Wrong.{Wrong}
-use Rattle.plane.specs.declared.Wrong.the-variants.{Nowhere, At}
-use Rattle.plane.specs.Record.{bytesOf, readAll, wordBytes, wordFrom, headerKind, headerBody, format, headerRecord, PlaneBucket, bucketKind, bucketBody, bucketRecord, bucketFrom, entryKind, entryBody, entryRecord, entryFrom, endKind, endBody, endBytes, endRecord}
-use Rattle.plane.specs.Plane.{Plane, planeBytes, planeFrom, bucketsAt, entriesAt, endAt, whole, headerFits, bucketFits, bucketsWrong, entryFits, entriesWrong, endFits, wrongAt}
+use Rattle.plane.specs.declared.Wrong.the-variants.{Nowhere}
+use Rattle.plane.specs.Record.{bytesOf, readAll, wordBytes, wordFrom, headerKind, headerBody, format, headerRecord, bucketKind, bucketBody, bucketRecord, bucketFrom, entryKind, entryBody, entryRecord, entryFrom, endKind, endBody, endBytes, endRecord, bucketLength, entryLength}
+use Rattle.plane.specs.Plane.{planeBytes, planeFrom, bucketsAt, whole, bucketFits, bucketsWrong, entryFits, entriesWrong, wrongAt}
 use Rattle.plane.specs.Fits.{Every, Below, FitsBucket, FitsEntry, Fits}
 use Rattle.plane.proofs.Scan.{both, right, whole-length, Right, parts, bucketCount, entryCount, entriesIn, endIn}
 use Rattle.plane.proofs.Read.{drop-more, length-readAll, read-add}
@@ -87,9 +86,9 @@ module _ (r : ℕ) (p : List ℕ) (e : bucketFits r p ≡ true) (b : AllBytes p)
   room : r * wordBytes ≤ length (drop 2 p)
   room = rw length-drop (omega (arith, bucket-there))
 
-  bucket-bytes : bucketRecord (bucketFrom r p) ++ drop (1 + bucketBody r) p ≡ p
+  bucket-bytes : bucketRecord (bucketFrom r p) ++ drop (bucketLength r) p ≡ p
   bucket-bytes =
-      let n : 1 + bucketBody r ≡ 2 + r * wordBytes = omega arith in
+      let n : bucketLength r ≡ 2 + r * wordBytes = omega arith in
       rw (n, ← drop-drop (r * wordBytes) 2 p, words-bytes r (drop 2 p) room (bytes-drop 2 p b))
       (ap (λ (q : List ℕ). bucketKind ∷ q) (sym (drop-cons p 1 0 (omega (arith, bucket-there)))) ∙ front bucketKind (bucketBody r) p (both (whole bucketKind (bucketBody r) p) _ e .0))
 
@@ -104,7 +103,7 @@ module _ (least : ℕ) (p : List ℕ) (e : entryFits least p ≡ true) (b : AllB
   entry-there : entryBody < length p
   entry-there = whole-length entryKind entryBody p (both (whole entryKind entryBody p) _ e .0)
 
-  entry-bytes : entryRecord (entryFrom p) ++ drop (1 + entryBody) p ≡ p
+  entry-bytes : entryRecord (entryFrom p) ++ drop entryLength p ≡ p
   entry-bytes =
       let plan : getD p 9 0 ∷ drop 10 p ≡ drop wordBytes (drop 1 p) = sym (drop-cons p 9 0 entry-there) ∙ sym (drop-drop wordBytes 1 p) in
       rw (append-assoc, plan, word-bytes (drop 1 p) (rw length-drop (omega (arith, entry-there))) (bytes-drop 1 p b))
@@ -115,60 +114,60 @@ module _ (least : ℕ) (p : List ℕ) (e : entryFits least p ≡ true) (b : AllB
 
 module _ (r : ℕ) where
   buckets-bytes : (m at : ℕ) (p : List ℕ) → bucketsWrong r m at p ≡ Nowhere → AllBytes p
-      → bytesOf bucketRecord (readAll (1 + bucketBody r) (bucketFrom r) m p) ++ drop (m * (1 + bucketBody r)) p ≡ p
+      → bytesOf bucketRecord (readAll (bucketLength r) (bucketFrom r) m p) ++ drop (m * (bucketLength r)) p ≡ p
   unfolding bucketsWrong
-  buckets-bytes zero at p e b = bytes-none bucketRecord (1 + bucketBody r) (bucketFrom r) p
+  buckets-bytes zero at p e b = bytes-none bucketRecord (bucketLength r) (bucketFrom r) p
   buckets-bytes (suc m) at p e b =
       let f = right (bucketFits r p) _ at e in
-      bytes-front bucketRecord (1 + bucketBody r) (bucketFrom r) m p (bucket-bytes r p (f .0) b)
-      (buckets-bytes m (at + (1 + bucketBody r)) (drop (1 + bucketBody r) p) (f .1) (bytes-drop (1 + bucketBody r) p b))
+      bytes-front bucketRecord (bucketLength r) (bucketFrom r) m p (bucket-bytes r p (f .0) b)
+      (buckets-bytes m (at + (bucketLength r)) (drop (bucketLength r) p) (f .1) (bytes-drop (bucketLength r) p b))
 
-  buckets-fit : (m at : ℕ) (p : List ℕ) → bucketsWrong r m at p ≡ Nowhere → AllBytes p → Every (FitsBucket r) (readAll (1 + bucketBody r) (bucketFrom r) m p)
+  buckets-fit : (m at : ℕ) (p : List ℕ) → bucketsWrong r m at p ≡ Nowhere → AllBytes p → Every (FitsBucket r) (readAll (bucketLength r) (bucketFrom r) m p)
   unfolding bucketsWrong readAll
   buckets-fit zero at p e b = tt
   buckets-fit (suc m) at p e b =
       let f = right (bucketFits r p) _ at e in
-      (bucket-fit r p (f .0) b, buckets-fit m (at + (1 + bucketBody r)) (drop (1 + bucketBody r) p) (f .1) (bytes-drop (1 + bucketBody r) p b))
+      (bucket-fit r p (f .0) b, buckets-fit m (at + (bucketLength r)) (drop (bucketLength r) p) (f .1) (bytes-drop (bucketLength r) p b))
 
 entries-bytes : (least k at : ℕ) (p : List ℕ) → entriesWrong least k at p ≡ Nowhere → AllBytes p
-    → bytesOf entryRecord (readAll (1 + entryBody) entryFrom k p) ++ drop (k * (1 + entryBody)) p ≡ p
+    → bytesOf entryRecord (readAll entryLength entryFrom k p) ++ drop (k * entryLength) p ≡ p
 unfolding entriesWrong
-entries-bytes least zero at p e b = bytes-none entryRecord (1 + entryBody) entryFrom p
+entries-bytes least zero at p e b = bytes-none entryRecord entryLength entryFrom p
 entries-bytes least (suc k) at p e b =
     let f = right (entryFits least p) _ at e in
-    bytes-front entryRecord (1 + entryBody) entryFrom k p (entry-bytes least p (f .0) b)
-    (entries-bytes (suc (entryFrom p .word)) k (at + (1 + entryBody)) (drop (1 + entryBody) p) (f .1) (bytes-drop (1 + entryBody) p b))
+    bytes-front entryRecord entryLength entryFrom k p (entry-bytes least p (f .0) b)
+    (entries-bytes (suc (entryFrom p .word)) k (at + entryLength) (drop entryLength p) (f .1) (bytes-drop entryLength p b))
 
-entries-fit : (least k at : ℕ) (p : List ℕ) → entriesWrong least k at p ≡ Nowhere → AllBytes p → Every FitsEntry (readAll (1 + entryBody) entryFrom k p)
+entries-fit : (least k at : ℕ) (p : List ℕ) → entriesWrong least k at p ≡ Nowhere → AllBytes p → Every FitsEntry (readAll entryLength entryFrom k p)
 unfolding entriesWrong readAll
 entries-fit least zero at p e b = tt
 entries-fit least (suc k) at p e b =
     let f = right (entryFits least p) _ at e in
-    (entry-fit least p (f .0) b, entries-fit (suc (entryFrom p .word)) k (at + (1 + entryBody)) (drop (1 + entryBody) p) (f .1) (bytes-drop (1 + entryBody) p b))
+    (entry-fit least p (f .0) b, entries-fit (suc (entryFrom p .word)) k (at + entryLength) (drop entryLength p) (f .1) (bytes-drop entryLength p b))
 
 -- each exceeds the one before
-entries-above : (w least k at : ℕ) (p : List ℕ) → w < least → entriesWrong least k at p ≡ Nowhere → Above w (readAll (1 + entryBody) entryFrom k p)
+entries-above : (w least k at : ℕ) (p : List ℕ) → w < least → entriesWrong least k at p ≡ Nowhere → Above w (readAll entryLength entryFrom k p)
 unfolding entriesWrong readAll
 entries-above w least zero at p h e = tt
 entries-above w least (suc k) at p h e =
     let f = right (entryFits least p) _ at e in
     let n : least ≤ entryFrom p .word = leb-true least (entryFrom p .word) (both (whole entryKind entryBody p) _ (f .0) .1) in
-    (omega arith, entries-above w (suc (entryFrom p .word)) k (at + (1 + entryBody)) (drop (1 + entryBody) p) (omega arith) (f .1))
+    (omega arith, entries-above w (suc (entryFrom p .word)) k (at + entryLength) (drop entryLength p) (omega arith) (f .1))
 
-entries-ascending : (least k at : ℕ) (p : List ℕ) → entriesWrong least k at p ≡ Nowhere → Ascending (readAll (1 + entryBody) entryFrom k p)
+entries-ascending : (least k at : ℕ) (p : List ℕ) → entriesWrong least k at p ≡ Nowhere → Ascending (readAll entryLength entryFrom k p)
 unfolding entriesWrong readAll
 entries-ascending least zero at p e = tt
 entries-ascending least (suc k) at p e =
     let w : ℕ = entryFrom p .word in
     let f = right (entryFits least p) _ at e in
-    let q : List ℕ = drop (1 + entryBody) p in
-    (entries-above w (suc w) k (at + (1 + entryBody)) q (omega arith) (f .1), entries-ascending (suc w) k (at + (1 + entryBody)) q (f .1))
+    let q : List ℕ = drop entryLength p in
+    (entries-above w (suc w) k (at + entryLength) q (omega arith) (f .1), entries-ascending (suc w) k (at + entryLength) q (f .1))
 
 -- ---- the plane
 
 module _ (r : ℕ) (p : List ℕ) (e : wrongAt r p ≡ Nowhere) (b : AllBytes p) where
   abbrev s : ℕ
-  s = 1 + bucketBody r
+  s = bucketLength r
 
   h : Right r p
   h = parts r p e
@@ -196,7 +195,7 @@ module _ (r : ℕ) (p : List ℕ) (e : wrongAt r p ≡ Nowhere) (b : AllBytes p)
   base-bytes : bytesOf entryRecord (planeFrom r p .base) ++ endRecord ≡ drop (entriesIn r p) p
   unfolding planeFrom
   base-bytes =
-      rw (end-bytes, ← drop-drop (entryCount p * (1 + entryBody)) (entriesIn r p) p)
+      rw (end-bytes, ← drop-drop (entryCount p * entryLength) (entriesIn r p) p)
       (entries-bytes 0 (entryCount p) (entriesIn r p) (drop (entriesIn r p) p) (h .entries) (bytes-drop (entriesIn r p) p b))
 
   length1 : length (planeFrom r p .level1) ≡ getD p 2 0
@@ -209,7 +208,7 @@ module _ (r : ℕ) (p : List ℕ) (e : wrongAt r p ≡ Nowhere) (b : AllBytes p)
 
   length0 : length (planeFrom r p .base) ≡ entryCount p
   unfolding planeFrom
-  length0 = length-readAll (1 + entryBody) entryFrom (entryCount p) _
+  length0 = length-readAll entryLength entryFrom (entryCount p) _
 
   -- the bytes are those of the plane that they say
   pub read-written : planeBytes (planeFrom r p) ≡ p

@@ -4,6 +4,7 @@ pub mod Read
 pub mod Round
 pub mod Exact
 pub mod Shown
-pub mod Statements
 pub mod Put
 pub mod Through
+pub mod Accepted
+pub mod Statements

@@ -1,21 +1,21 @@
 -- What the writer's steps ask for: bytes written one after the other.
 -- Assumes nothing.
-use mathlib.Core.Path.{_≡_, refl, sym, ap, ap₂, _∙_}
+use mathlib.Core.Path.{_≡_, sym, ap, ap₂, _∙_}
 use mathlib.Core.List.{List, [], _∷_, _++_, append-nil}
 use Prim.Native.Nat.{ℕ, zero, suc, _+_, _-_, _*_, _≤_, _<_}
 use native.Mathlib.Nat.{suc-mul, add-zero}
 use native.Mathlib.Numerals.{add-one}
 use native.Mathlib.Omega.{arith}
-use lib.ListN.{length, getD, set, take, drop, length-set, length-append, length-drop}
+use lib.ListN.{length, getD, set, take, drop, length-append, length-drop}
 use lib.Seq.{getD-drop, take-suc, length-take-le}
 use Rattle.codec.specs.Bytes.{toBytes}
 use Rattle.codec.specs.Parts.{written}
-use Rattle.codec.proofs.Part.{length-written, written-none, written-one, written-more, written-append}
+use Rattle.codec.proofs.Part.{written-none, written-one, written-more, written-append}
 use Rattle.codec.proofs.Round.{length-toBytes}
 use Rattle.bucket.specs.Words.{bucketWords, bucketFrom}
 use Rattle.concrete.specs.Layout.{header, bucketPlace}
 use Rattle.concrete.proofs.Numbers.{from-part}
-use Rattle.plane.specs.Record.{bytesOf, readAll, wordBytes, bucketBody, bucketRecord, entryKind, entryBody, entryRecord, endRecord}
+use Rattle.plane.specs.Record.{bytesOf, readAll, wordBytes, bucketRecord, entryKind, entryRecord, endRecord, bucketLength, entryLength}
 use Rattle.plane.specs.Plane.{bucketsAt, entriesAt, endAt}
 use Rattle.plane.proofs.Read.{length-readAll, read-add}
 use Rattle.plane.specs.Steps.{seenFrom, pairFrom, recordsOf}
@@ -85,32 +85,32 @@ bucket-here n r k xs =
     rw w (from-part n r (drop k xs))
 
 -- the length of the record of a bucket
-bucket-size : (n r : ℕ) (xs : List ℕ) → bucketWords n r ≤ length xs → Sized bucketRecord (1 + bucketBody r) (seenFrom n r xs)
+bucket-size : (n r : ℕ) (xs : List ℕ) → bucketWords n r ≤ length xs → Sized bucketRecord (bucketLength r) (seenFrom n r xs)
 unfolding bucketFrom
 bucket-size n r xs h =
     let l : length (take r (drop (n + 1) xs)) ≡ r = length-take-le r (drop (n + 1) xs) (rw length-drop (omega arith)) in
     omega (arith, length-bytes (toBytes wordBytes) wordBytes (take r (drop (n + 1) xs)) (words-sized (take r (drop (n + 1) xs))))
 
-pub buckets-sized : (n r i : ℕ) (xs : List ℕ) → i * bucketWords n r ≤ length xs → Every (Sized bucketRecord (1 + bucketBody r)) (readAll (bucketWords n r) (seenFrom n r) i xs)
+pub buckets-sized : (n r i : ℕ) (xs : List ℕ) → i * bucketWords n r ≤ length xs → Every (Sized bucketRecord (bucketLength r)) (readAll (bucketWords n r) (seenFrom n r) i xs)
 unfolding readAll
 buckets-sized n r zero xs h = tt
 buckets-sized n r (suc i) xs h =
     let k : i * bucketWords n r + bucketWords n r ≤ length xs = rw (suc-mul i (bucketWords n r)) at h in
     (bucket-size n r xs (omega arith), buckets-sized n r i (drop (bucketWords n r) xs) (rw length-drop (omega arith)))
 
-entries-sized : (i : ℕ) (xs : List ℕ) → Every (Sized entryRecord (1 + entryBody)) (readAll 2 pairFrom i xs)
+entries-sized : (i : ℕ) (xs : List ℕ) → Every (Sized entryRecord entryLength) (readAll 2 pairFrom i xs)
 unfolding readAll
 entries-sized zero xs = tt
 entries-sized (suc i) xs = (rw length-append (omega (arith, length-toBytes wordBytes (getD xs 0 0))), entries-sized i (drop 2 xs))
 
 -- the next pair
 pub entries-next : (i a : ℕ) (p t : List ℕ)
-    → written (a + i * (1 + entryBody)) (entryRecord (record { word = getD p (i * 2) 0; plan = getD p (i * 2 + 1) 0 })) (written a (bytesOf entryRecord (readAll 2 pairFrom i p)) t)
+    → written (a + i * entryLength) (entryRecord (record { word = getD p (i * 2) 0; plan = getD p (i * 2 + 1) 0 })) (written a (bytesOf entryRecord (readAll 2 pairFrom i p)) t)
     ≡ written a (bytesOf entryRecord (readAll 2 pairFrom (i + 1) p)) t
 entries-next i a p t =
-    ap₂ (λ (w q : ℕ). written (a + i * (1 + entryBody)) (entryRecord (record { word = w; plan = q })) (written a (bytesOf entryRecord (readAll 2 pairFrom i p)) t))
+    ap₂ (λ (w q : ℕ). written (a + i * entryLength) (entryRecord (record { word = w; plan = q })) (written a (bytesOf entryRecord (readAll 2 pairFrom i p)) t))
     (sym (getD-drop (i * 2) p 0 0 ∙ ap (λ (k : ℕ). getD p k 0) (add-zero (i * 2)))) (sym (getD-drop (i * 2) p 1 0))
-    ∙ read-next entryRecord (1 + entryBody) 2 pairFrom i a p t (entries-sized i p)
+    ∙ read-next entryRecord entryLength 2 pairFrom i a p t (entries-sized i p)
 
 -- three parts one after the other
 three : (a m k : ℕ) (B E F t o1 o2 : List ℕ) → length B ≡ m → length E ≡ k → o1 ≡ written a B t → o2 ≡ written (a + m) E o1
@@ -126,7 +126,7 @@ records-put n r m k t out o1 o2 o3 h e f g =
     let bs = readAll (bucketWords n r) (seenFrom n r) m (drop header t) in
     let es = readAll 2 pairFrom k (drop (bucketPlace n r m) t) in
     g
-    ∙ three bucketsAt (m * (1 + bucketBody r)) (k * (1 + entryBody)) (bytesOf bucketRecord bs) (bytesOf entryRecord es) endRecord out o1 o2
-    (length-bytes bucketRecord (1 + bucketBody r) bs (buckets-sized n r m (drop header t) (rw length-drop (omega arith))) ∙ ap (λ (i : ℕ). i * (1 + bucketBody r)) (length-readAll (bucketWords n r) (seenFrom n r) m (drop header t)))
-    (length-bytes entryRecord (1 + entryBody) es (entries-sized k (drop (bucketPlace n r m) t)) ∙ ap (λ (i : ℕ). i * (1 + entryBody)) (length-readAll 2 pairFrom k (drop (bucketPlace n r m) t)))
+    ∙ three bucketsAt (m * (bucketLength r)) (k * entryLength) (bytesOf bucketRecord bs) (bytesOf entryRecord es) endRecord out o1 o2
+    (length-bytes bucketRecord (bucketLength r) bs (buckets-sized n r m (drop header t) (rw length-drop (omega arith))) ∙ ap (λ (i : ℕ). i * (bucketLength r)) (length-readAll (bucketWords n r) (seenFrom n r) m (drop header t)))
+    (length-bytes entryRecord entryLength es (entries-sized k (drop (bucketPlace n r m) t)) ∙ ap (λ (i : ℕ). i * entryLength) (length-readAll 2 pairFrom k (drop (bucketPlace n r m) t)))
     e f

@@ -2,7 +2,7 @@
 -- Assumes nothing.
 use mathlib.Core.Path.{_≡_, refl, sym, ap, _∙_}
 use mathlib.Core.List.{List, [], _∷_, _++_}
-use mathlib.Core.Option.{Option, some}
+use mathlib.Core.Option.{some}
 use Prim.Native.Nat.{ℕ, zero, suc, _+_, _-_, _*_, _/_, _≤_, _<_}
 use native.Mathlib.Nat.{suc-mul, zero-mul, zero-add, suc-add, add-comm, mod-lt, not-suc-le-zero, le-of-suc-le-suc}
 use native.Mathlib.Numerals.{sub-one}
@@ -16,7 +16,7 @@ use Rattle.gf2.specs.Vectors.{product}
 use Rattle.hash.specs.Mix.{mixOf}
 use Rattle.identifier.specs.Place.{thresholdAt, bucketAt}
 use Rattle.plane.specs.declared.Held.the-variants.{Plan, Passed}
-use Rattle.plane.specs.Record.{readAll, wordBytes, wordFrom, bucketBody, bucketFrom, entryBody, entryFrom}
+use Rattle.plane.specs.Record.{readAll, wordBytes, wordFrom, bucketFrom, entryFrom, bucketLength, entryLength}
 use Rattle.plane.specs.Lookup.{bucketOf, levelPlan}
 
 pub drop-more : (m size : ℕ) (p : List ℕ) → drop (suc m * size) p ≡ drop (m * size) (drop size p)
@@ -56,17 +56,17 @@ part-words (suc r) p =
     let more : wordBytes * suc r ≡ wordBytes + wordBytes * r = omega arith in
     rw (more, take-take wordBytes (wordBytes + wordBytes * r) p (omega arith), drop-take wordBytes (wordBytes * r) p, part-words r (drop wordBytes p))
 
-pub bucket-part : (r at : ℕ) (p : List ℕ) → bucketFrom r (take (at + (1 + bucketBody r) - at) (drop at p)) ≡ bucketFrom r (drop at p)
+pub bucket-part : (r at : ℕ) (p : List ℕ) → bucketFrom r (take (at + (bucketLength r) - at) (drop at p)) ≡ bucketFrom r (drop at p)
 bucket-part r at p =
-    let size : at + (1 + bucketBody r) - at ≡ 2 + wordBytes * r = omega arith in
+    let size : at + (bucketLength r) - at ≡ 2 + wordBytes * r = omega arith in
     rw (size, getD-take (2 + wordBytes * r) (drop at p) 1 0 (omega arith), drop-take 2 (wordBytes * r) (drop at p), part-words r (drop 2 (drop at p)))
 
-pub entry-part : (at : ℕ) (p : List ℕ) → entryFrom (take (at + (1 + entryBody) - at) (drop at p)) ≡ entryFrom (drop at p)
+pub entry-part : (at : ℕ) (p : List ℕ) → entryFrom (take (at + entryLength - at) (drop at p)) ≡ entryFrom (drop at p)
 entry-part at p =
-    let ten : at + (1 + entryBody) - at ≡ 1 + entryBody = omega arith in
+    let ten : at + entryLength - at ≡ entryLength = omega arith in
     rw ten (go (drop at p))
   where
-    go : (q : List ℕ) → entryFrom (take (1 + entryBody) q) ≡ entryFrom q
+    go : (q : List ℕ) → entryFrom (take entryLength q) ≡ entryFrom q
     go [] = refl
     go (x ∷ q) = rw (take-take 8 9 q (lit≤ tt), getD-take 9 q 8 0 (lit< tt))
 
@@ -76,29 +76,29 @@ word-at r i p h = sym (getD-readAll wordBytes wordFrom r i (drop 2 p) 0 h ∙ ap
 
 -- the entry in front, of `left` ones, has the word v, or another word w
 pub find-here : (v left w : ℕ) (p : List ℕ) → 0 < left → w ≡ entryFrom p .word → w ≡ v
-    → find v (readAll (1 + entryBody) entryFrom left p) ≡ some (entryFrom p .plan)
+    → find v (readAll entryLength entryFrom left p) ≡ some (entryFrom p .plan)
 unfolding readAll
 find-here v zero w p h e i = absurd (omega arith)
 find-here v (suc k) w p h e i = rw (eq-eqb v (entryFrom p .word) (sym i ∙ e))
 
 pub find-next : (v left at w : ℕ) (p : List ℕ) → 0 < left → w ≡ entryFrom (drop at p) .word → (w ≡ v → ⊥)
-    → find v (readAll (1 + entryBody) entryFrom left (drop at p)) ≡ find v (readAll (1 + entryBody) entryFrom (left - 1) (drop (at + (1 + entryBody)) p))
+    → find v (readAll entryLength entryFrom left (drop at p)) ≡ find v (readAll entryLength entryFrom (left - 1) (drop (at + entryLength) p))
 unfolding readAll
 find-next v zero at w p h e i = absurd (omega arith)
-find-next v (suc k) at w p h e i = rw (ne-eqb v (entryFrom (drop at p) .word) (λ j. i (e ∙ sym j)), drop-drop (1 + entryBody) at p, sub-one)
+find-next v (suc k) at w p h e i = rw (ne-eqb v (entryFrom (drop at p) .word) (λ j. i (e ∙ sym j)), drop-drop entryLength at p, sub-one)
 
 -- the bucket of v, of a level of m
 pub level-bucket : (r m v : ℕ) (p : List ℕ) → 0 < m
-    → bucketOf (readAll (1 + bucketBody r) (bucketFrom r) m p) v ≡ bucketFrom r (drop (bucketAt m (mixOf v) * (1 + bucketBody r)) p)
+    → bucketOf (readAll (bucketLength r) (bucketFrom r) m p) v ≡ bucketFrom r (drop (bucketAt m (mixOf v) * (bucketLength r)) p)
 level-bucket r m v p h =
-    rw (length-readAll (1 + bucketBody r) (bucketFrom r) m p)
-    (getD-readAll (1 + bucketBody r) (bucketFrom r) m (bucketAt m (mixOf v)) p (record { bound = 0; sols = [] }) (mod-lt (mixOf v / 8) h))
+    rw (length-readAll (bucketLength r) (bucketFrom r) m p)
+    (getD-readAll (bucketLength r) (bucketFrom r) m (bucketAt m (mixOf v)) p (record { bound = 0; sols = [] }) (mod-lt (mixOf v / 8) h))
 
-module _ (r m v at : ℕ) (p : List ℕ) (some : 0 < m) (e : at ≡ bucketAt m (mixOf v) * (1 + bucketBody r)) where
-  pub level-held : thresholdAt (mixOf v) < getD (drop at p) 1 0 → levelPlan (readAll (1 + bucketBody r) (bucketFrom r) m p) v ≡ Plan (product (bucketFrom r (drop at p) .sols) v)
+module _ (r m v at : ℕ) (p : List ℕ) (some : 0 < m) (e : at ≡ bucketAt m (mixOf v) * (bucketLength r)) where
+  pub level-held : thresholdAt (mixOf v) < getD (drop at p) 1 0 → levelPlan (readAll (bucketLength r) (bucketFrom r) m p) v ≡ Plan (product (bucketFrom r (drop at p) .sols) v)
   unfolding levelPlan
   level-held h = rw (level-bucket r m v p some, ← e, lt-ltb (thresholdAt (mixOf v)) (getD (drop at p) 1 0) h)
 
-  pub level-passed : getD (drop at p) 1 0 ≤ thresholdAt (mixOf v) → levelPlan (readAll (1 + bucketBody r) (bucketFrom r) m p) v ≡ Passed
+  pub level-passed : getD (drop at p) 1 0 ≤ thresholdAt (mixOf v) → levelPlan (readAll (bucketLength r) (bucketFrom r) m p) v ≡ Passed
   unfolding levelPlan
   level-passed h = rw (level-bucket r m v p some, ← e, le-ltb (thresholdAt (mixOf v)) (getD (drop at p) 1 0) h)

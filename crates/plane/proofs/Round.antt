@@ -3,12 +3,11 @@
 use mathlib.Core.Path.{_≡_, refl, sym, ap, ap₂, _∙_}
 use mathlib.Core.Bool.{true}
 use mathlib.Core.List.{List, [], _∷_, _++_, append-assoc}
-use Prim.Native.Nat.{ℕ, zero, suc, _+_, _*_, _^_, _≤_, _<_}
+use Prim.Native.Nat.{ℕ, suc, _+_, _*_, _≤_}
 use native.Mathlib.Nat.{suc-mul, zero-mul}
 use native.Mathlib.Omega.{arith}
 use borrow.Author.Tests.{le-leb}
-use lib.Dec.{leb}
-use lib.ListN.{length, getD, take, drop, length-append}
+use lib.ListN.{length, drop, length-append}
 use lib.Seq.{take-at, drop-at, getD-at, drop-append-add, drop-drop}
 use Rattle.lists.specs.Entries.{Entry, Above, Ascending}
 use Rattle.codec.specs.Bytes.{fromBytes, toBytes}
@@ -16,9 +15,8 @@ use Rattle.codec.proofs.Equal.{equal-refl}
 use Rattle.codec.proofs.Round.{length-toBytes, from-to}
 use Rattle.bucket.specs.Bucket.{largestBound}
 use Rattle.model.specs.Model.{baseLimit}
-use Rattle.plane.specs.declared.Wrong.{Wrong}
-use Rattle.plane.specs.declared.Wrong.the-variants.{Nowhere, At}
-use Rattle.plane.specs.Record.{bytesOf, readAll, wordBytes, wordFrom, headerBody, headerRecord, PlaneBucket, bucketBody, bucketRecord, bucketFrom, entryBody, entryRecord, entryFrom, endBytes, endRecord}
+use Rattle.plane.specs.declared.Wrong.the-variants.{Nowhere}
+use Rattle.plane.specs.Record.{bytesOf, readAll, wordBytes, wordFrom, headerBody, headerRecord, PlaneBucket, bucketRecord, bucketFrom, entryRecord, entryFrom, endBytes, endRecord, bucketLength, entryLength}
 use Rattle.plane.specs.Plane.{bucketFits, entryFits, Plane, planeBytes, planeFrom, bucketsAt, entriesAt, endAt, planeLength, bucketsWrong, entriesWrong, wrongAt}
 use Rattle.plane.proofs.Scan.{Right, nowhere, buckets-next, entries-next}
 use Rattle.plane.specs.Fits.{Every, Below, FitsBucket, FitsEntry, Fits}
@@ -70,17 +68,16 @@ word-back x h =
 words-back : (r : ℕ) (b : PlaneBucket) → FitsBucket r b → Every (Back (toBytes wordBytes) wordBytes wordFrom) (b .sols)
 words-back r b h = every word-back (b .sols) (h .words)
 
-bucket-back : (r : ℕ) (b : PlaneBucket) → FitsBucket r b → Back bucketRecord (1 + bucketBody r) (bucketFrom r) b
+bucket-back : (r : ℕ) (b : PlaneBucket) → FitsBucket r b → Back bucketRecord (bucketLength r) (bucketFrom r) b
 bucket-back r b h = (
   omega (arith, length-bytes (toBytes wordBytes) wordBytes (b .sols) (every (λ x k. k .0) (b .sols) (words-back r b h)), h .wide),
   λ q. ap (λ (s : List ℕ). record { bound = b .bound; sols = s }) (rw (← h .wide) (read-back (toBytes wordBytes) wordBytes wordFrom (b .sols) q (words-back r b h))),
 )
 
-entry-back : (e : Entry) → FitsEntry e → Back entryRecord (1 + entryBody) entryFrom e
+entry-back : (e : Entry) → FitsEntry e → Back entryRecord entryLength entryFrom e
 entry-back e h =
     let t : List ℕ = toBytes wordBytes (e .word) in
-    let n : length t ≡ wordBytes = length-toBytes wordBytes (e .word) in
-    (
+    let n : length t ≡ wordBytes = length-toBytes wordBytes (e .word) in (
       rw length-append (omega arith),
       λ q. rw append-assoc (ap₂ (λ (w p : ℕ). record { word = w; plan = p }) (word-back (e .word) (h .word) .1 (e .plan ∷ q)) (getD-at t (e .plan) q 0 wordBytes n)),
     )
@@ -90,8 +87,8 @@ entry-back e h =
 module _ (r : ℕ) where
   bucket-fits : (b : PlaneBucket) (q : List ℕ) → FitsBucket r b → bucketFits r (bucketRecord b ++ q) ≡ true
   bucket-fits b q h =
-      let n : 1 + bucketBody r ≤ length (bucketRecord b ++ q) = rw length-append (omega (arith, bucket-back r b h .0)) in
-      rw (le-leb (1 + bucketBody r) (length (bucketRecord b ++ q)) n, le-leb (b .bound) largestBound (h .low))
+      let n : bucketLength r ≤ length (bucketRecord b ++ q) = rw length-append (omega (arith, bucket-back r b h .0)) in
+      rw (le-leb (bucketLength r) (length (bucketRecord b ++ q)) n, le-leb (b .bound) largestBound (h .low))
 
   buckets-right : (bs : List PlaneBucket) (q : List ℕ) (at : ℕ) → Every (FitsBucket r) bs → bucketsWrong r (length bs) at (bytesOf bucketRecord bs ++ q) ≡ Nowhere
   unfolding bytesOf bucketsWrong
@@ -100,7 +97,7 @@ module _ (r : ℕ) where
       let rest : List ℕ = bytesOf bucketRecord bs ++ q in
       ap (bucketsWrong r (suc (length bs)) at) (append-assoc (bucketRecord b) (bytesOf bucketRecord bs) q)
       ∙ buckets-next r (length bs) at (bucketRecord b ++ rest) (bucket-fits b rest (h .0))
-      (rw (drop-at (bucketRecord b) rest (1 + bucketBody r) (bucket-back r b (h .0) .0)) (buckets-right bs q (at + (1 + bucketBody r)) (h .1)))
+      (rw (drop-at (bucketRecord b) rest (bucketLength r) (bucket-back r b (h .0) .0)) (buckets-right bs q (at + (bucketLength r)) (h .1)))
 
 -- the first word is at least `least`
 abbrev From : ℕ → List Entry → Type 0
@@ -117,9 +114,9 @@ from-zero (e ∷ es) = omega arith
 
 entry-fits : (least : ℕ) (e : Entry) (q : List ℕ) → FitsEntry e → least ≤ e .word → entryFits least (entryRecord e ++ q) ≡ true
 entry-fits least e q h f =
-    let n : 1 + entryBody ≤ length (entryRecord e ++ q) = rw length-append (omega (arith, entry-back e h .0)) in
+    let n : entryLength ≤ length (entryRecord e ++ q) = rw length-append (omega (arith, entry-back e h .0)) in
     let w : entryFrom (entryRecord e ++ q) .word ≡ e .word = ap (λ (x : Entry). x .word) (entry-back e h .1 q) in
-    rw (le-leb (1 + entryBody) (length (entryRecord e ++ q)) n, w, le-leb least (e .word) f)
+    rw (le-leb entryLength (length (entryRecord e ++ q)) n, w, le-leb least (e .word) f)
 
 entries-right : (es : List Entry) (q : List ℕ) (least at : ℕ) → Every FitsEntry es → Ascending es → From least es
     → entriesWrong least (length es) at (bytesOf entryRecord es ++ q) ≡ Nowhere
@@ -130,7 +127,7 @@ entries-right (e ∷ es) q least at h a f =
     let w : entryFrom (entryRecord e ++ rest) .word ≡ e .word = ap (λ (x : Entry). x .word) (entry-back e (h .0) .1 rest) in
     ap (entriesWrong least (suc (length es)) at) (append-assoc (entryRecord e) (bytesOf entryRecord es) q)
     ∙ entries-next least (length es) at (entryRecord e ++ rest) (entry-fits least e rest (h .0) f)
-    (rw (w, drop-at (entryRecord e) rest (1 + entryBody) (entry-back e (h .0) .0)) (entries-right es q (suc (e .word)) (at + (1 + entryBody)) (h .1) (a .1) (from-above (e .word) es (a .0))))
+    (rw (w, drop-at (entryRecord e) rest entryLength (entry-back e (h .0) .0)) (entries-right es q (suc (e .word)) (at + entryLength) (h .1) (a .1) (from-above (e .word) es (a .0))))
 
 -- ---- the plane
 
@@ -147,22 +144,22 @@ module _ (r : ℕ) (P : Plane) (h : Fits r P) where
   abbrev E : List ℕ
   E = bytesOf entryRecord (P .base)
 
-  length-B : length B ≡ m * (1 + bucketBody r)
+  length-B : length B ≡ m * (bucketLength r)
   length-B =
-      length-bytes bucketRecord (1 + bucketBody r) (P .level1 ++ P .level2) (every (λ b f. bucket-back r b f .0) (P .level1 ++ P .level2) (h .buckets))
-      ∙ ap (λ (n : ℕ). n * (1 + bucketBody r)) (length-append (P .level1) (P .level2))
+      length-bytes bucketRecord (bucketLength r) (P .level1 ++ P .level2) (every (λ b f. bucket-back r b f .0) (P .level1 ++ P .level2) (h .buckets))
+      ∙ ap (λ (n : ℕ). n * (bucketLength r)) (length-append (P .level1) (P .level2))
 
-  length-E : length E ≡ k * (1 + entryBody)
-  length-E = length-bytes entryRecord (1 + entryBody) (P .base) (every (λ e f. entry-back e f .0) (P .base) (h .entries))
+  length-E : length E ≡ k * entryLength
+  length-E = length-bytes entryRecord entryLength (P .base) (every (λ e f. entry-back e f .0) (P .base) (h .entries))
 
   at-entries : drop (entriesAt r m) (planeBytes P) ≡ E ++ endRecord
   unfolding planeBytes
   at-entries =
-      drop-append-add (headerRecord (length (P .level1)) (length (P .level2)) k) (B ++ (E ++ endRecord)) (m * (1 + bucketBody r))
-      ∙ drop-at B (E ++ endRecord) (m * (1 + bucketBody r)) length-B
+      drop-append-add (headerRecord (length (P .level1)) (length (P .level2)) k) (B ++ (E ++ endRecord)) (m * (bucketLength r))
+      ∙ drop-at B (E ++ endRecord) (m * (bucketLength r)) length-B
 
   at-end : drop (endAt r m k) (planeBytes P) ≡ endRecord
-  at-end = sym (drop-drop (k * (1 + entryBody)) (entriesAt r m) (planeBytes P)) ∙ ap (drop (k * (1 + entryBody))) at-entries ∙ drop-at E endRecord (k * (1 + entryBody)) length-E
+  at-end = sym (drop-drop (k * entryLength) (entriesAt r m) (planeBytes P)) ∙ ap (drop (k * entryLength)) at-entries ∙ drop-at E endRecord (k * entryLength) length-E
 
   -- document 01's length of a plane
   pub plane-length : length (planeBytes P) ≡ planeLength r m k
@@ -183,7 +180,7 @@ module _ (r : ℕ) (P : Plane) (h : Fits r P) where
   written-right = nowhere r (planeBytes P) right
 
   -- the buckets of each level
-  all : (bs : List PlaneBucket) → Every (FitsBucket r) bs → Every (Back bucketRecord (1 + bucketBody r) (bucketFrom r)) bs
+  all : (bs : List PlaneBucket) → Every (FitsBucket r) bs → Every (Back bucketRecord (bucketLength r) (bucketFrom r)) bs
   all bs f = every (bucket-back r) bs f
 
   two : Every (FitsBucket r) (P .level1) × Every (FitsBucket r) (P .level2)
@@ -197,21 +194,21 @@ module _ (r : ℕ) (P : Plane) (h : Fits r P) where
   at-second : drop (entriesAt r (length (P .level1))) (planeBytes P) ≡ bytesOf bucketRecord (P .level2) ++ (E ++ endRecord)
   unfolding planeBytes
   at-second =
-      let n : ℕ = length (P .level1) * (1 + bucketBody r) in
+      let n : ℕ = length (P .level1) * (bucketLength r) in
       drop-append-add (headerRecord (length (P .level1)) (length (P .level2)) k) (B ++ (E ++ endRecord)) n
       ∙ ap (drop n) split
       ∙ drop-at (bytesOf bucketRecord (P .level1)) (bytesOf bucketRecord (P .level2) ++ (E ++ endRecord)) n
-      (length-bytes bucketRecord (1 + bucketBody r) (P .level1) (every (λ b f. f .0) (P .level1) (all (P .level1) (two .0))))
+      (length-bytes bucketRecord (bucketLength r) (P .level1) (every (λ b f. f .0) (P .level1) (all (P .level1) (two .0))))
 
   -- the plane that was written is read
   pub written-read : planeFrom r (planeBytes P) ≡ P
   unfolding planeBytes planeFrom
   written-read =
-      let level : ℕ → List ℕ → List PlaneBucket = readAll (1 + bucketBody r) (bucketFrom r) in
+      let level : ℕ → List ℕ → List PlaneBucket = readAll (bucketLength r) (bucketFrom r) in
       let e1 : level (length (P .level1)) (B ++ (E ++ endRecord)) ≡ P .level1 =
-      ap (level (length (P .level1))) split ∙ read-back bucketRecord (1 + bucketBody r) (bucketFrom r) (P .level1) (bytesOf bucketRecord (P .level2) ++ (E ++ endRecord)) (all (P .level1) (two .0)) in
+      ap (level (length (P .level1))) split ∙ read-back bucketRecord (bucketLength r) (bucketFrom r) (P .level1) (bytesOf bucketRecord (P .level2) ++ (E ++ endRecord)) (all (P .level1) (two .0)) in
       let e2 : level (length (P .level2)) (drop (entriesAt r (length (P .level1))) (planeBytes P)) ≡ P .level2 =
-      ap (level (length (P .level2))) at-second ∙ read-back bucketRecord (1 + bucketBody r) (bucketFrom r) (P .level2) (E ++ endRecord) (all (P .level2) (two .1)) in
-      let e3 : readAll (1 + entryBody) entryFrom k (drop (entriesAt r m) (planeBytes P)) ≡ P .base =
-      ap (readAll (1 + entryBody) entryFrom k) at-entries ∙ read-back entryRecord (1 + entryBody) entryFrom (P .base) endRecord (every entry-back (P .base) (h .entries)) in
+      ap (level (length (P .level2))) at-second ∙ read-back bucketRecord (bucketLength r) (bucketFrom r) (P .level2) (E ++ endRecord) (all (P .level2) (two .1)) in
+      let e3 : readAll entryLength entryFrom k (drop (entriesAt r m) (planeBytes P)) ≡ P .base =
+      ap (readAll entryLength entryFrom k) at-entries ∙ read-back entryRecord entryLength entryFrom (P .base) endRecord (every entry-back (P .base) (h .entries)) in
       λ i. record { level1 = e1 i; level2 = e2 i; base = e3 i }

@@ -1,6 +1,6 @@
 -- What the loops over the records of a plane ask for: a record that fits, one that does not, and none left.
 -- Assumes nothing.
-use mathlib.Core.Path.{_≡_, refl, sym, ap, _∙_}
+use mathlib.Core.Path.{_≡_, refl, sym, _∙_}
 use mathlib.Core.Bool.{Bool, true, false, cond, not, _&&_}
 use mathlib.Core.List.{List}
 use Prim.Native.Nat.{ℕ, zero, suc, _+_, _-_, _*_, _≤_, _<_}
@@ -16,7 +16,7 @@ use Rattle.model.specs.Model.{baseLimit}
 use Rattle.concrete.specs.Layout.{inRange, mostBuckets1, mostBuckets2}
 use Rattle.plane.specs.declared.Wrong.{Wrong}
 use Rattle.plane.specs.declared.Wrong.the-variants.{Nowhere, At}
-use Rattle.plane.specs.Record.{headerKind, headerBody, format, bucketKind, bucketBody, entryKind, entryBody, entryFrom, endBody}
+use Rattle.plane.specs.Record.{headerKind, headerBody, format, bucketKind, bucketBody, entryKind, entryBody, entryFrom, bucketLength, entryLength, endLength}
 use Rattle.plane.specs.Plane.{whole, headerFits, bucketFits, bucketsWrong, entryFits, entriesWrong, endFits, endWrong, orNext, recordsWrong, wrongAt, bucketsAt, entriesAt, endAt, planeLength}
 
 -- two tests that hold
@@ -61,7 +61,7 @@ whole-next kind body at p e =
 
 module _ (r : ℕ) where
   pub buckets-step : (left at : ℕ) (p : List ℕ) → 0 < left → bucketFits r (drop at p) ≡ true
-      → bucketsWrong r left at (drop at p) ≡ bucketsWrong r (left - 1) (at + (1 + bucketBody r)) (drop (at + (1 + bucketBody r)) p)
+      → bucketsWrong r left at (drop at p) ≡ bucketsWrong r (left - 1) (at + (bucketLength r)) (drop (at + (bucketLength r)) p)
   unfolding bucketsWrong
   buckets-step zero at p h e = absurd (omega arith)
   buckets-step (suc m) at p h e = rw (e, drop-drop, sub-one)
@@ -72,20 +72,20 @@ module _ (r : ℕ) where
   buckets-here (suc m) at p h e = rw e
 
   -- one that fits, and nothing wrong after it
-  pub buckets-next : (m at : ℕ) (p : List ℕ) → bucketFits r p ≡ true → bucketsWrong r m (at + (1 + bucketBody r)) (drop (1 + bucketBody r) p) ≡ Nowhere
+  pub buckets-next : (m at : ℕ) (p : List ℕ) → bucketFits r p ≡ true → bucketsWrong r m (at + (bucketLength r)) (drop (bucketLength r) p) ≡ Nowhere
       → bucketsWrong r (suc m) at p ≡ Nowhere
   unfolding bucketsWrong
   buckets-next m at p e f = rw (e, f)
 
   -- m buckets that fit are there
-  pub buckets-room : (m at : ℕ) (p : List ℕ) → bucketsWrong r m at p ≡ Nowhere → m * (1 + bucketBody r) ≤ length p
+  pub buckets-room : (m at : ℕ) (p : List ℕ) → bucketsWrong r m at p ≡ Nowhere → m * (bucketLength r) ≤ length p
   unfolding bucketsWrong
   buckets-room zero at p e = omega arith
   buckets-room (suc m) at p e =
-      let f : (bucketFits r p ≡ true) × (bucketsWrong r m (at + (1 + bucketBody r)) (drop (1 + bucketBody r) p) ≡ Nowhere) = right (bucketFits r p) _ at e in
+      let f : (bucketFits r p ≡ true) × (bucketsWrong r m (at + (bucketLength r)) (drop (bucketLength r) p) ≡ Nowhere) = right (bucketFits r p) _ at e in
       let n : bucketBody r < length p = whole-length bucketKind (bucketBody r) p (both (whole bucketKind (bucketBody r) p) _ (f .0) .0) in
-      let i : m * (1 + bucketBody r) ≤ length p - (1 + bucketBody r) = rw length-drop at (buckets-room m _ _ (f .1)) in
-      rw (suc-mul m (1 + bucketBody r)) (omega arith)
+      let i : m * (bucketLength r) ≤ length p - (bucketLength r) = rw length-drop at (buckets-room m _ _ (f .1)) in
+      rw (suc-mul m (bucketLength r)) (omega arith)
 
 -- a base entry that is cut, one whose word w is too small, and one that fits
 pub entries-cut : (least left at : ℕ) (p : List ℕ) → 0 < left → whole entryKind entryBody p ≡ false → entriesWrong least left at p ≡ At at
@@ -100,23 +100,23 @@ entries-low least zero at w p h e i l = absurd (omega arith)
 entries-low least (suc k) at w p h e i l = rw (e, ← i, lt-leb least w l)
 
 pub entries-step : (least left at w : ℕ) (p : List ℕ) → 0 < left → whole entryKind entryBody (drop at p) ≡ true → w ≡ entryFrom (drop at p) .word → least ≤ w
-    → entriesWrong least left at (drop at p) ≡ entriesWrong (suc w) (left - 1) (at + (1 + entryBody)) (drop (at + (1 + entryBody)) p)
+    → entriesWrong least left at (drop at p) ≡ entriesWrong (suc w) (left - 1) (at + entryLength) (drop (at + entryLength) p)
 unfolding entriesWrong
 entries-step least zero at w p h e i l = absurd (omega arith)
-entries-step least (suc k) at w p h e i l = rw (e, ← i, le-leb least w l, drop-drop (1 + entryBody) at p, sub-one)
+entries-step least (suc k) at w p h e i l = rw (e, ← i, le-leb least w l, drop-drop entryLength at p, sub-one)
 
-pub entries-next : (least k at : ℕ) (p : List ℕ) → entryFits least p ≡ true → entriesWrong (suc (entryFrom p .word)) k (at + (1 + entryBody)) (drop (1 + entryBody) p) ≡ Nowhere
+pub entries-next : (least k at : ℕ) (p : List ℕ) → entryFits least p ≡ true → entriesWrong (suc (entryFrom p .word)) k (at + entryLength) (drop entryLength p) ≡ Nowhere
     → entriesWrong least (suc k) at p ≡ Nowhere
 unfolding entriesWrong
 entries-next least k at p e f = rw (e, f)
 
-pub entries-room : (least k at : ℕ) (p : List ℕ) → entriesWrong least k at p ≡ Nowhere → k * (1 + entryBody) ≤ length p
+pub entries-room : (least k at : ℕ) (p : List ℕ) → entriesWrong least k at p ≡ Nowhere → k * entryLength ≤ length p
 unfolding entriesWrong
 entries-room least zero at p e = omega arith
 entries-room least (suc k) at p e =
-    let f = right (entryFits least p) (entriesWrong (suc (entryFrom p .word)) k (at + (1 + entryBody)) (drop (1 + entryBody) p)) at e in
+    let f = right (entryFits least p) (entriesWrong (suc (entryFrom p .word)) k (at + entryLength) (drop entryLength p)) at e in
     let n : entryBody < length p = whole-length entryKind entryBody p (both (whole entryKind entryBody p) _ (f .0) .0) in
-    let i : k * (1 + entryBody) ≤ length p - (1 + entryBody) = rw length-drop at (entries-room _ k _ _ (f .1)) in
+    let i : k * entryLength ≤ length p - entryLength = rw length-drop at (entries-room _ k _ _ (f .1)) in
     omega arith
 
 -- the end: not there, with bytes after it, and right
@@ -124,11 +124,11 @@ module _ (at : ℕ) (p : List ℕ) where
   pub end-cut : endFits p ≡ false → endWrong at p ≡ At at
   end-cut e = rw e
 
-  pub end-more : endFits p ≡ true → (length p ≡ 1 + endBody → ⊥) → endWrong at p ≡ At (at + (1 + endBody))
-  end-more e h = rw (e, ne-eqb (length p) (1 + endBody) h)
+  pub end-more : endFits p ≡ true → (length p ≡ endLength → ⊥) → endWrong at p ≡ At (at + endLength)
+  end-more e h = rw (e, ne-eqb (length p) endLength h)
 
-  pub end-right : endFits p ≡ true → length p ≡ 1 + endBody → endWrong at p ≡ Nowhere
-  end-right e h = rw (e, eq-eqb (length p) (1 + endBody) h)
+  pub end-right : endFits p ≡ true → length p ≡ endLength → endWrong at p ≡ Nowhere
+  end-right e h = rw (e, eq-eqb (length p) endLength h)
 
 -- what a header that fits says
 pub record Header (p : List ℕ) : Type 0 where
@@ -182,7 +182,7 @@ module _ (r : ℕ) (p : List ℕ) where
     pub buckets : bucketsWrong r (bucketCount p) bucketsAt (drop bucketsAt p) ≡ Nowhere
     pub entries : entriesWrong 0 (entryCount p) (entriesIn r p) (drop (entriesIn r p) p) ≡ Nowhere
     pub end : endFits (drop (endIn r p) p) ≡ true
-    pub nothing : length (drop (endIn r p) p) ≡ 1 + endBody
+    pub nothing : length (drop (endIn r p) p) ≡ endLength
 
   pub nowhere : Right → wrongAt r p ≡ Nowhere
   unfolding wrongAt
@@ -195,18 +195,18 @@ module _ (r : ℕ) (p : List ℕ) where
       let h = right (headerFits p) (recordsWrong r (bucketCount p) (entryCount p) p) 0 e in
       let n1 = next (bucketsWrong r (bucketCount p) bucketsAt (drop bucketsAt p)) _ (h .1) in
       let n2 = next (entriesWrong 0 (entryCount p) (entriesIn r p) (drop (entriesIn r p) p)) _ (n1 .1) in
-      let f = right (endFits q) (cond (eqb (length q) (1 + endBody)) Nowhere (At (endIn r p + (1 + endBody)))) (endIn r p) (n2 .1) in
+      let f = right (endFits q) (cond (eqb (length q) endLength) Nowhere (At (endIn r p + endLength))) (endIn r p) (n2 .1) in
       record {
         header = h .0;
         buckets = n1 .0;
         entries = n2 .0;
         end = f .0;
-        nothing = eqb-true (length q) (1 + endBody) (right (eqb (length q) (1 + endBody)) Nowhere _ (f .1) .0);
+        nothing = eqb-true (length q) endLength (right (eqb (length q) endLength) Nowhere _ (f .1) .0);
       }
 
   pub right-length : Right → length p ≡ planeLength r (bucketCount p) (entryCount p)
   right-length h =
-      let e : length p - endIn r p ≡ 1 + endBody = rw length-drop at (h .nothing) in
+      let e : length p - endIn r p ≡ endLength = rw length-drop at (h .nothing) in
       omega arith
 
   -- what a right plane's header and length say

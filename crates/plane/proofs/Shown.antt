@@ -1,23 +1,17 @@
 -- Statement 2's half of the plane: a plane that was written from a table and is read again gives, for every identifier, the answer of
 -- the table's own solution words or base list; so a live word's plan.
 -- Assumes nothing.
-use mathlib.Core.Path.{_≡_, refl, sym, ap, ap₂, _∙_}
+use mathlib.Core.Path.{_≡_, refl, ap, _∙_}
 use mathlib.Core.Bool.{Bool, true, false, cond}
 use mathlib.Core.List.{List, [], _∷_, _++_, map, List·Memᴰ, List·Memᴰ·head, List·Memᴰ·tail}
 use mathlib.Core.Option.{Option, none, some}
 use Prim.Native.Nat.{ℕ, zero, suc, suc-le-suc, _+_, _/_, _^_, _≤_, _<_}
 use native.Mathlib.Nat.{mod-lt, zero-lt-suc, lt-of-lt-of-le, not-suc-le-zero, le-of-suc-le-suc}
-use native.Mathlib.Omega.{arith}
 use lib.Seq.{getD-drop}
 use lib.ListN.{length, getD, take, drop, length-map}
-use Rattle.lists.specs.Entries.{Entry, find}
 use Rattle.lists.proofs.Entries.{none≢some}
 use Rattle.hash.specs.Mix.{mixOf}
-use Rattle.answer.specs.declared.Answer.the-variants.{Accepted}
 use Rattle.identifier.specs.Place.{secondOf, bucketAt}
-use Rattle.identifier.specs.Identifier.{readOf}
-use Rattle.identifier.specs.declared.Read.{Read}
-use Rattle.identifier.specs.declared.Read.the-variants.{Word, Refused}
 use Rattle.bucket.specs.declared.Bucket.{Bucket}
 use Rattle.bucket.specs.Bucket.{live, lookup}
 use Rattle.bucket.specs.Words.{bucketWords, bucketFrom}
@@ -28,12 +22,10 @@ use Rattle.concrete.specs.Layout.{inRange, levelFrom, bucketPlace, tableFrom}
 use Rattle.concrete.specs.Sound.{SoundTable}
 use Rattle.concrete.proofs.Numbers.{header-read}
 use Rattle.plane.specs.declared.Held.the-variants.{Plan, Passed}
-use Rattle.plane.specs.declared.Wrong.the-variants.{Nowhere}
 use Rattle.plane.specs.Record.{wordBytes, PlaneBucket}
-use Rattle.plane.specs.Plane.{Plane, planeBytes, planeFrom, wrongAt}
-use Rattle.plane.specs.Lookup.{bucketOf, holds, levelPlan, orElse, orStranger, secondPlan, planFrom, looked, lookupRead, lookupCall}
+use Rattle.plane.specs.Lookup.{bucketOf, holds, levelPlan, orElse, orStranger, secondPlan, planFrom}
 use Rattle.plane.specs.Fits.{Every, Below, FitsBucket, FitsEntry, Fits}
-use Rattle.plane.specs.Write.{seenOf, planeOf, shownPlan, shownTo}
+use Rattle.plane.specs.Write.{seenOf, planeOf, shownPlan}
 
 -- ---- the plan of a word
 

@@ -1,123 +1,77 @@
--- The statements of document 01 about the plane, at its 64 rows and 8 solution words.
+-- The statements of document 01 about the plane.
 -- Assumes nothing.
-use mathlib.Core.Path.{_≡_, refl, sym, ap, _∙_}
-use mathlib.Core.Bool.{Bool, true, false, cond, _&&_}
-use mathlib.Core.List.{List, _++_}
+use mathlib.Core.Logic.{_↔_}
+use mathlib.Core.Path.{_≡_, refl, ap, _∙_}
+use mathlib.Core.List.{List}
 use mathlib.Core.Option.{some}
-use Prim.Native.Nat.{ℕ, _+_, _≤_}
+use Prim.Native.Nat.{ℕ, _+_, _*_}
 use native.Mathlib.Omega.{arith}
-use borrow.Author.Tests.{leb-true, eqb-true}
-use lib.Dec.{eqb, leb, ltb, lit≤}
-use lib.ListN.{length, getD, take, drop, length-map}
-use lib.Seq.{take-at}
-use Rattle.lists.proofs.Tests.{cases}
-use Rattle.hash.specs.Mix.{mixOf, unmixOf}
-use Rattle.answer.specs.declared.Answer.{Answer}
-use Rattle.answer.specs.declared.Answer.the-variants.{Accepted, WrongTable, NotSound, ShortOutput}
+use lib.ListN.{length, take}
+use Rattle.answer.specs.declared.Answer.the-variants.{Accepted}
 use Rattle.identifier.specs.Identifier.{readOf}
-use Rattle.identifier.specs.declared.Read.{Read}
-use Rattle.identifier.specs.declared.Read.the-variants.{Word, Refused}
+use Rattle.identifier.specs.declared.Read.the-variants.{Word}
 use Rattle.identifier.proofs.Causes.{read-word}
 use Rattle.identifier.proofs.Words.{word-lt}
 use Rattle.model.specs.Model.{baseLimit}
 use Rattle.model.specs.History.{told}
 use Rattle.model.specs.Machine.{after}
-use Rattle.concrete.specs.Test.{shapeTest}
-use Rattle.concrete.specs.Layout.{mostBuckets1, mostBuckets2, inRange, header, lengthOf}
-use Rattle.concrete.specs.Calls.{rows, solutions, tableOf, planIn, shaped, sound, FlatSound}
+use Rattle.concrete.specs.Layout.{mostBuckets1, mostBuckets2}
+use Rattle.concrete.specs.Calls.{rows, solutions, tableOf, planIn}
 use Rattle.concrete.specs.History.{Put, tables, Opened, acceptedCalls}
-use Rattle.concrete.proofs.Statements.{sound-exactly, header-read, plan}
+use Rattle.concrete.proofs.Statements.{sound-exactly, always-sound, plan}
 use Rattle.plane.specs.declared.Wrong.the-variants.{Nowhere}
-use Rattle.plane.specs.Plane.{planeBytes, planeLength}
-use Rattle.plane.specs.Lookup.{planFrom, looked, lookupRead, lookupCall}
-use Rattle.plane.specs.Fits.{Fits}
-use Rattle.plane.specs.Write.{seenOf, planeOf, putFront, Written, turnedDown, inFront, writeCall, shownPlan, shownTo}
-use Rattle.plane.proofs.Scan.{both}
+use Rattle.plane.specs.Plane.{Plane, planeBytes, planeLength, planeFrom, wrongAt}
+use Rattle.plane.specs.Lookup.{lookupCall}
+use Rattle.plane.specs.Fits.{Fits, OfPlane}
+use Rattle.plane.specs.Write.{planeOf, putFront, writeCall, shownTo}
 use Rattle.plane.proofs.Round.{plane-length, written-right, written-read}
-use Rattle.plane.proofs.Shown.{Words, plane-fits, shown, live-shown}
+use Rattle.plane.proofs.Exact.{AllBytes, read-written, read-fits}
+use Rattle.plane.proofs.Accepted.{shows, was-shaped, was-sound, was-written}
+use Rattle.plane.proofs.Shown.{Words, live-shown}
 
-module _ (t : List ℕ) (w : Words t) (k : shaped t ≡ true) (h : FlatSound t) where
-  in-range : inRange (getD t 0 0) (getD t 1 0) ≡ true
-  unfolding shapeTest
-  in-range = both (inRange (getD t 0 0) (getD t 1 0)) _ (both (leb header (length t)) _ k .1) .0
+-- ---- "The plane", at every number r of solution words
 
-  pub fits : Fits solutions (planeOf (tableOf t))
-  fits = plane-fits rows solutions t w unmixOf (lit≤ tt) (lit≤ tt) in-range (h .table)
+-- wrong nowhere exactly if the bytes are those of a plane within the limits
+pub right-exactly : (r : ℕ) (p : List ℕ) → AllBytes p → (wrongAt r p ≡ Nowhere) ↔ OfPlane r p
+right-exactly r p b = (
+  λ e. record { plane = planeFrom r p; fits = read-fits r p e b; bytes = read-written r p e b },
+  λ o. rw (o .bytes) at (written-right r (o .plane) (o .fits)),
+)
 
-  -- the plane of a sound table, read again, gives for each identifier, live or not, the answer of the table's own XOR words or base list
-  pub shows : (id : List ℕ) → lookupCall id (planeBytes (planeOf (tableOf t))) ≡ shownTo (tableOf t) (readOf id)
-  unfolding lookupCall
-  shows id = go (readOf id)
-    where
-      go : (i : Read) → lookupRead (planeBytes (planeOf (tableOf t))) i ≡ shownTo (tableOf t) i
-      go (Refused a) = refl
-      go (Word v) =
-          rw (written-right solutions (planeOf (tableOf t)) fits, written-read solutions (planeOf (tableOf t)) fits)
-          (ap Accepted (shown rows solutions (tableOf t) v (h .table .level1 .some) (h .table .level2 .some)))
+-- the plane that was written is read
+pub read-back : (r : ℕ) (P : Plane) → Fits r P → planeFrom r (planeBytes P) ≡ P
+read-back = written-read
 
--- what the writer knows of a sound table t
-pub record Known (t : List ℕ) : Type 0 where
-  pub size : length t ≡ lengthOf rows solutions (getD t 0 0) (getD t 1 0)
-  pub most1 : getD t 0 0 ≤ mostBuckets1
-  pub most2 : getD t 1 0 ≤ mostBuckets2
-  pub few : getD t 2 0 ≤ baseLimit
-  pub fits : Fits solutions (planeOf (tableOf t))
-  pub long : length (planeBytes (planeOf (tableOf t))) ≡ planeLength solutions (getD t 0 0 + getD t 1 0) (getD t 2 0)
+-- "Length 10 + 66 × buckets + 10 × entries, so 142 to 5,930"
+pub length-is : (P : Plane) → Fits solutions P → length (planeBytes P) ≡ 10 + 66 * (length (P .level1) + length (P .level2)) + 10 * length (P .base)
+length-is P h = plane-length solutions P h ∙ omega arith
 
-pub known : (t : List ℕ) → Words t → shaped t ≡ true → sound t ≡ true → Known t
-unfolding shapeTest
-known t w k q =
-    let h : FlatSound t = sound-exactly t k w .0 q in
-    let f : Fits solutions (planeOf (tableOf t)) = fits t w k h in
-    let r = header-read t in
-    let c = both (inRange (getD t 0 0) (getD t 1 0)) _ (both (leb header (length t)) _ k .1) in
-    let d = both (leb 1 (getD t 0 0) && leb (getD t 0 0) mostBuckets1) _ (c .0) in
-    record {
-      size = eqb-true (length t) (lengthOf rows solutions (getD t 0 0) (getD t 1 0)) (c .1);
-      most1 = leb-true (getD t 0 0) mostBuckets1 (both (leb 1 (getD t 0 0)) _ (d .0) .1);
-      most2 = leb-true (getD t 1 0) mostBuckets2 (both (leb 1 (getD t 1 0)) _ (d .1) .1);
-      few = rw (r .2) at (h .table .fits);
-      fits = f;
-      long = plane-length solutions (planeOf (tableOf t)) f
-          ∙ rw (length-map (tableOf t .level1) seenOf, length-map (tableOf t .level2) seenOf, r .0, r .1, r .2) refl;
-    }
+pub shortest : planeLength solutions 2 0 ≡ 142
+shortest = refl
 
--- ---- a call that is accepted has written the plane of a sound table, and nothing past it
+pub longest : planeLength solutions (mostBuckets1 + mostBuckets2) baseLimit ≡ 5930
+longest = refl
 
-front-bytes : (b : Bool) (bytes out : List ℕ) (a : Answer) (n : ℕ) → (a ≡ Accepted n → ⊥) → cond b (turnedDown a out) (inFront bytes out) .answer ≡ Accepted n
-    → take n (cond b (turnedDown a out) (inFront bytes out) .output) ≡ bytes
-front-bytes true bytes out a n x e = absurd (x e)
-front-bytes false bytes out a n x e = let l : length bytes ≡ n = cc in take-at bytes (drop (length bytes) out) n l
+-- ---- statement 2, the plane's half. A table has numbers of 64 bits
 
-accepted-of : (b : Bool) (o : Written) (a : Answer) (out : List ℕ) (n : ℕ) → (a ≡ Accepted n → ⊥) → cond b o (turnedDown a out) .answer ≡ Accepted n → (b ≡ true) × (o .answer ≡ Accepted n)
-accepted-of true o a out n x e = (refl, e)
-accepted-of false o a out n x e = absurd (x e)
+module _ (t out : List ℕ) (n : ℕ) (e : writeCall t out .answer ≡ Accepted n) (w : Words t) where
+  -- written from a table and read again, the plane gives for each identifier, live or not, the answer of the table's own XOR words or base list
+  pub statement-2 : (id : List ℕ) → lookupCall id (take n (writeCall t out .output)) ≡ shownTo (tableOf t) (readOf id)
+  statement-2 id =
+      let k = was-shaped t out n e .0 in
+      ap (lookupCall id) (was-written t out n e) ∙ shows t w k (sound-exactly t k w .0 (was-sound t out n e .0)) id
 
-module _ (t out : List ℕ) (n : ℕ) (e : writeCall t out .answer ≡ Accepted n) where
-  was-shaped : (shaped t ≡ true) × (cond (sound t) (putFront (planeBytes (planeOf (tableOf t))) out) (turnedDown NotSound out) .answer ≡ Accepted n)
-  unfolding writeCall
-  was-shaped = accepted-of (shaped t) _ (WrongTable (length t)) out n (λ x. let z : _≡_ {A = ℕ} 0 1 = cc in omega arith) e
-
-  was-sound : (sound t ≡ true) × (putFront (planeBytes (planeOf (tableOf t))) out .answer ≡ Accepted n)
-  was-sound = accepted-of (sound t) _ NotSound out n (λ x. let z : _≡_ {A = ℕ} 0 1 = cc in omega arith) (was-shaped .1)
-
-  was-written : take n (writeCall t out .output) ≡ planeBytes (planeOf (tableOf t))
-  unfolding writeCall
-  was-written =
-      let bytes : List ℕ = planeBytes (planeOf (tableOf t)) in
-      rw (was-shaped .0, was-sound .0) (front-bytes (ltb (length out) (length bytes)) bytes out (ShortOutput (length bytes)) n (λ x. let z : _≡_ {A = ℕ} 0 1 = cc in omega arith) (was-sound .1))
-
-  -- statement 2, the plane's half: written from a table (of 64-bit numbers) and read again, the plane gives for each identifier, live or
-  -- not, the answer of the table's own XOR words or base list
-  module _ (w : Words t) where
-    pub statement-2 : (id : List ℕ) → lookupCall id (take n (writeCall t out .output)) ≡ shownTo (tableOf t) (readOf id)
-    statement-2 id = ap (lookupCall id) was-written ∙ shows t w (was-shaped .0) (sound-exactly t (was-shaped .0) w .0 (was-sound .0)) id
-
-    -- so a live identifier gets its word's plan
-    pub live-plan : (id : List ℕ) (v p : ℕ) → readOf id ≡ Word v → planIn t v ≡ some p → lookupCall id (take n (writeCall t out .output)) ≡ Accepted p
-    live-plan id v p i e = statement-2 id ∙ ap (shownTo (tableOf t)) i ∙ ap Accepted (live-shown rows solutions (tableOf t) v p e)
+  -- so a live identifier gets its word's plan
+  pub live-plan : (id : List ℕ) (v p : ℕ) → readOf id ≡ Word v → planIn t v ≡ some p → lookupCall id (take n (writeCall t out .output)) ≡ Accepted p
+  live-plan id v p i e = statement-2 id ∙ ap (shownTo (tableOf t)) i ∙ ap Accepted (live-shown rows solutions (tableOf t) v p e)
 
 -- after any list of calls every live identifier gets its word's last accepted plan from the plane
 pub last-plan : (t : List ℕ) (o : Opened t) (ps : List Put) (out : List ℕ) (n : ℕ) → Words (after tables t ps) → writeCall (after tables t ps) out .answer ≡ Accepted n
     → (id : List ℕ) (v p : ℕ) → readOf id ≡ Word v → told v (acceptedCalls t ps) ≡ some p → lookupCall id (take n (writeCall (after tables t ps) out .output)) ≡ Accepted p
 last-plan t o ps out n w e id v p i h = live-plan (after tables t ps) out n e w id v p i (plan t o ps v (rw (read-word id v .0 i .2) (word-lt id)) ∙ h)
+
+-- in a list of calls the writer meets no cause but 9
+pub list-writes : (t : List ℕ) → Opened t → (ps : List Put) (out : List ℕ)
+    → writeCall (after tables t ps) out ≡ putFront (planeBytes (planeOf (tableOf (after tables t ps)))) out
+unfolding writeCall
+list-writes t o ps out = rw (always-sound t o ps .0, always-sound t o ps .1)

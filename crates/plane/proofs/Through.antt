@@ -12,12 +12,11 @@ use Rattle.lists.specs.Entries.{Entry}
 use Rattle.answer.specs.declared.Answer.the-variants.{Accepted, ShortOutput}
 use Rattle.codec.specs.Parts.{written}
 use Rattle.codec.proofs.Part.{written-fits, written-append}
-use Rattle.bucket.specs.declared.Bucket.{Bucket}
 use Rattle.bucket.specs.Bucket.{largestBound}
-use Rattle.bucket.specs.Words.{bucketWords, bucketFrom}
+use Rattle.bucket.specs.Words.{bucketWords}
 use Rattle.concrete.specs.Layout.{header, levelFrom, pairsFrom, bucketPlace, tableFrom}
 use Rattle.concrete.proofs.Numbers.{header-read}
-use Rattle.plane.specs.Record.{bytesOf, readAll, PlaneBucket, headerRecord, bucketRecord, entryRecord, endRecord}
+use Rattle.plane.specs.Record.{readAll, PlaneBucket, headerRecord}
 use Rattle.plane.specs.Plane.{planeBytes, bucketsAt}
 use Rattle.plane.specs.Fits.{Every, FitsBucket, FitsEntry, Fits}
 use Rattle.plane.specs.Write.{seenOf, planeOf, inFront, putFront}

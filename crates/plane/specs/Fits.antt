@@ -10,7 +10,7 @@ use Rattle.bucket.specs.Bucket.{largestBound}
 use Rattle.model.specs.Model.{baseLimit}
 use Rattle.concrete.specs.Layout.{inRange}
 use Rattle.plane.specs.Record.{wordBytes, PlaneBucket}
-use Rattle.plane.specs.Plane.{Plane}
+use Rattle.plane.specs.Plane.{Plane, planeBytes}
 
 -- each element of the list has the property
 abbrev pub Every : {A : Type 0} → (A → Type 0) → List A → Type 0
@@ -36,3 +36,9 @@ pub record Fits (r : ℕ) (P : Plane) : Type 0 where
   pub buckets : Every (FitsBucket r) (P .level1 ++ P .level2)
   pub entries : Every FitsEntry (P .base)
   pub ascending : Ascending (P .base)
+
+-- the bytes are those of a plane that fits
+pub record OfPlane (r : ℕ) (p : List ℕ) : Type 0 where
+  pub plane : Plane
+  pub fits : Fits r plane
+  pub bytes : planeBytes plane ≡ p

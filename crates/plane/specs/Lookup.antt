@@ -15,6 +15,7 @@ use Rattle.identifier.specs.Identifier.{readOf}
 use Rattle.identifier.specs.Place.{secondOf, thresholdAt, bucketAt}
 use Rattle.identifier.specs.declared.Read.{Read}
 use Rattle.identifier.specs.declared.Read.the-variants.{Word, Refused}
+use Rattle.concrete.specs.Calls.{solutions}
 use Rattle.plane.specs.declared.Held.{Held}
 use Rattle.plane.specs.declared.Held.the-variants.{Plan, Passed}
 use Rattle.plane.specs.declared.Wrong.{Wrong}
@@ -55,14 +56,14 @@ secondPlan P v = orElse (levelPlan (P .level2) v) (orStranger (find v (P .base))
 unfoldable pub planFrom : Plane → ℕ → ℕ
 planFrom P w = orElse (levelPlan (P .level1) w) (secondPlan P (secondOf w))
 
--- a plane of 8 solution words: cause 10, or the plan of the word w
+-- cause 10, or the plan of the word w
 abbrev pub looked : List ℕ → ℕ → Wrong → Answer
 looked p w (At at) = WrongPlane at
-looked p w Nowhere = Accepted (planFrom (planeFrom 8 p) w)
+looked p w Nowhere = Accepted (planFrom (planeFrom solutions p) w)
 
 abbrev pub lookupRead : List ℕ → Read → Answer
 lookupRead p (Refused a) = a
-lookupRead p (Word w) = looked p w (wrongAt 8 p)
+lookupRead p (Word w) = looked p w (wrongAt solutions p)
 
 -- the lookup: causes 1, 2, 10
 unfoldable pub lookupCall : List ℕ → List ℕ → Answer

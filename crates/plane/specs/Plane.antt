@@ -13,7 +13,7 @@ use Rattle.model.specs.Model.{baseLimit}
 use Rattle.concrete.specs.Layout.{inRange}
 use Rattle.plane.specs.declared.Wrong.{Wrong}
 use Rattle.plane.specs.declared.Wrong.the-variants.{Nowhere, At}
-use Rattle.plane.specs.Record.{PlaneBucket, bytesOf, readAll, headerKind, headerBody, format, headerRecord, bucketKind, bucketBody, bucketRecord, bucketFrom, entryKind, entryBody, entryRecord, entryFrom, endKind, endBody, endBytes, endRecord}
+use Rattle.plane.specs.Record.{PlaneBucket, bytesOf, readAll, headerKind, headerBody, format, headerRecord, bucketKind, bucketBody, bucketRecord, bucketFrom, entryKind, entryBody, entryRecord, entryFrom, endKind, endBody, endBytes, endRecord, bucketLength, entryLength, endLength}
 
 -- what a plane says
 pub record Plane : Type 0 where
@@ -32,13 +32,13 @@ abbrev pub bucketsAt : ℕ
 bucketsAt = 1 + headerBody
 
 abbrev pub entriesAt : ℕ → ℕ → ℕ
-entriesAt r buckets = bucketsAt + buckets * (1 + bucketBody r)
+entriesAt r buckets = bucketsAt + buckets * (bucketLength r)
 
 abbrev pub endAt : ℕ → ℕ → ℕ → ℕ
-endAt r buckets entries = entriesAt r buckets + entries * (1 + entryBody)
+endAt r buckets entries = entriesAt r buckets + entries * entryLength
 
 abbrev pub planeLength : ℕ → ℕ → ℕ → ℕ
-planeLength r buckets entries = endAt r buckets entries + (1 + endBody)
+planeLength r buckets entries = endAt r buckets entries + endLength
 
 -- ---- the first record that is wrong: p are the bytes from the record's first on, at is its offset
 
@@ -58,7 +58,7 @@ bucketFits r p = whole bucketKind (bucketBody r) p && leb (getD p 1 0) largestBo
 -- m buckets
 unfoldable pub bucketsWrong : ℕ → ℕ → ℕ → List ℕ → Wrong
 bucketsWrong r zero at p = Nowhere
-bucketsWrong r (suc m) at p = cond (bucketFits r p) (bucketsWrong r m (at + (1 + bucketBody r)) (drop (1 + bucketBody r) p)) (At at)
+bucketsWrong r (suc m) at p = cond (bucketFits r p) (bucketsWrong r m (at + (bucketLength r)) (drop (bucketLength r) p)) (At at)
 
 -- a word of at least `least`
 abbrev pub entryFits : ℕ → List ℕ → Bool
@@ -68,7 +68,7 @@ entryFits least p = whole entryKind entryBody p && leb least (entryFrom p .word)
 unfoldable pub entriesWrong : ℕ → ℕ → ℕ → List ℕ → Wrong
 entriesWrong least zero at p = Nowhere
 entriesWrong least (suc k) at p =
-    cond (entryFits least p) (entriesWrong (suc (entryFrom p .word)) k (at + (1 + entryBody)) (drop (1 + entryBody) p)) (At at)
+    cond (entryFits least p) (entriesWrong (suc (entryFrom p .word)) k (at + entryLength) (drop entryLength p)) (At at)
 
 -- the fixed byte string
 abbrev pub endFits : List ℕ → Bool
@@ -76,7 +76,7 @@ endFits p = whole endKind endBody p && eqList (take endBody (drop 1 p)) endBytes
 
 -- kind 4, and nothing after it
 abbrev pub endWrong : ℕ → List ℕ → Wrong
-endWrong at p = cond (endFits p) (cond (eqb (length p) (1 + endBody)) Nowhere (At (at + (1 + endBody)))) (At at)
+endWrong at p = cond (endFits p) (cond (eqb (length p) endLength) Nowhere (At (at + endLength))) (At at)
 
 -- the first of two
 abbrev pub orNext : Wrong → Wrong → Wrong
@@ -99,7 +99,7 @@ wrongAt r p = cond (headerFits p) (recordsWrong r (getD p 2 0 + getD p 3 0) (get
 
 unfoldable pub planeFrom : ℕ → List ℕ → Plane
 planeFrom r p = record {
-  level1 = readAll (1 + bucketBody r) (bucketFrom r) (getD p 2 0) (drop bucketsAt p);
-  level2 = readAll (1 + bucketBody r) (bucketFrom r) (getD p 3 0) (drop (entriesAt r (getD p 2 0)) p);
-  base = readAll (1 + entryBody) entryFrom (getD p 4 0) (drop (entriesAt r (getD p 2 0 + getD p 3 0)) p);
+  level1 = readAll (bucketLength r) (bucketFrom r) (getD p 2 0) (drop bucketsAt p);
+  level2 = readAll (bucketLength r) (bucketFrom r) (getD p 3 0) (drop (entriesAt r (getD p 2 0)) p);
+  base = readAll entryLength entryFrom (getD p 4 0) (drop (entriesAt r (getD p 2 0 + getD p 3 0)) p);
 }

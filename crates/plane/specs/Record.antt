@@ -43,6 +43,9 @@ bucketKind = 2
 abbrev pub bucketBody : ℕ → ℕ
 bucketBody r = 1 + wordBytes * r
 
+abbrev pub bucketLength : ℕ → ℕ
+bucketLength r = 1 + bucketBody r
+
 pub record PlaneBucket : Type 0 where
   pub bound : ℕ
   pub sols : List ℕ
@@ -60,6 +63,9 @@ entryKind = 3
 abbrev pub entryBody : ℕ
 entryBody = wordBytes + 1
 
+abbrev pub entryLength : ℕ
+entryLength = 1 + entryBody
+
 abbrev pub entryRecord : Entry → List ℕ
 entryRecord e = entryKind ∷ (toBytes wordBytes (e .word) ++ (e .plan ∷ []))
 
@@ -72,6 +78,9 @@ endKind = 4
 
 abbrev pub endBody : ℕ
 endBody = 4
+
+abbrev pub endLength : ℕ
+endLength = 1 + endBody
 
 abbrev pub endBytes : List ℕ
 endBytes = 0x45 ∷ 0x4e ∷ 0x44 ∷ 0x0a ∷ []

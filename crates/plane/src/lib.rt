@@ -15,9 +15,10 @@ ghost use Rattle.codec.specs.Bytes.{toBytes};
 ghost use Rattle.codec.specs.Parts.{written};
 ghost use Rattle.gf2.specs.Vectors.{product};
 ghost use Rattle.bucket.specs.Words.{bucketWords};
-ghost use Rattle.concrete.specs.Layout.{inRange, header, bucketPlace};
+ghost use Rattle.model.specs.Model.{baseLimit};
+ghost use Rattle.concrete.specs.Layout.{mostBuckets1, mostBuckets2, inRange, header, bucketPlace};
 ghost use Rattle.plane.specs.declared.Wrong.the-variants.{Nowhere};
-ghost use Rattle.plane.specs.Record.{bytesOf, readAll, headerRecord, bucketRecord, bucketFrom, entryRecord, entryFrom, endRecord};
+ghost use Rattle.plane.specs.Record.{bytesOf, readAll, bucketLength, entryLength, endLength, headerRecord, bucketRecord, bucketFrom, entryRecord, entryFrom, endRecord};
 ghost use Rattle.plane.specs.Plane.{planeBytes, bucketsAt, planeLength, whole, headerFits, bucketFits, bucketsWrong, entriesWrong, endFits, endWrong, recordsWrong, wrongAt, planeFrom};
 ghost use Rattle.concrete.specs.Calls.{rows, solutions, tableOf, shaped, sound};
 ghost use Rattle.plane.specs.Write.{planeOf, inFront, putFront};
@@ -79,13 +80,24 @@ const MOST_BUCKETS_2: u8 = 32;
 
 const BASE_LIMIT: u8 = 64;
 
-const LARGEST_BOUND: u8 = 8;
-
 // The numbers of a table before its buckets.
 const TABLE_HEADER: usize = 4;
 
 // The plan of a word due to the base list and not in it.
 const STRANGER_PLAN: u64 = 0;
+
+// A byte as a length, and as a number.
+fn size(b: u8) -> usize
+    ensures { λ r. ⌜ r ≡ b ⌝ }
+{
+    b as usize
+}
+
+fn wide(b: u8) -> u64
+    ensures { λ r. ⌜ r ≡ b ⌝ }
+{
+    b as u64
+}
 
 // A record of this kind, not cut, stands in front.
 pub(crate) fn whole(p: &[u8], kind: u8, body: usize) -> bool
@@ -97,6 +109,7 @@ pub(crate) fn whole(p: &[u8], kind: u8, body: usize) -> bool
     p[0] == kind
 }
 
+// Bucket numbers in range.
 pub(crate) fn in_range(buckets1: u8, buckets2: u8) -> bool
     ensures { λ r. ⌜ r ≡ inRange buckets1 buckets2 ⌝ }
 {
@@ -112,6 +125,7 @@ pub(crate) fn in_range(buckets1: u8, buckets2: u8) -> bool
     buckets2 <= MOST_BUCKETS_2
 }
 
+// The header: format 1, bucket numbers in range, at most 64 entries.
 pub(crate) fn header_fits(p: &[u8]) -> bool
     ensures { λ r. ⌜ r ≡ headerFits (now (p .entry)) ⌝ }
 {
@@ -127,19 +141,20 @@ pub(crate) fn header_fits(p: &[u8]) -> bool
     p[4] <= BASE_LIMIT
 }
 
+// A bucket in front, with a bound of at most 8.
 pub(crate) fn bucket_fits(p: &[u8]) -> bool
-    ensures { λ r. do ⌜ r ≡ bucketFits (← ⟦Bucket::SOLUTIONS⟧ .entry) (now (p .entry)) ⌝ }
+    ensures { λ r. ⌜ r ≡ bucketFits solutions (now (p .entry)) ⌝ }
 {
     if !whole(p, Record::BUCKET, Record::BUCKET_BODY) {
         return false;
     }
-    p[1] <= LARGEST_BOUND
+    wide(p[1]) <= Bucket::LARGEST_BOUND
 }
 
 // m buckets from the offset first on.
 pub(crate) fn buckets_wrong(plane: &[u8], first: usize, m: usize) -> Wrong
     requires { ⌜ first ≤ length (now plane) ⌝ }
-    ensures { λ r. do ⌜ r ≡ bucketsWrong (← ⟦Bucket::SOLUTIONS⟧ .entry) m first (drop first (now (plane .entry))) ⌝ }
+    ensures { λ r. ⌜ r ≡ bucketsWrong solutions m first (drop first (now (plane .entry))) ⌝ }
 {
     let mut at = first;
     let mut left = m;
@@ -199,6 +214,7 @@ pub(crate) fn entries_wrong(plane: &[u8], first: usize, k: usize) -> Wrong
     entries_after(plane, first + Record::ENTRY_LEN, k - 1, entry_word(p))
 }
 
+// The end in front, with its fixed byte string.
 pub(crate) fn end_fits(p: &[u8]) -> bool
     ensures { λ r. ⌜ r ≡ endFits (now (p .entry)) ⌝ }
 {
@@ -225,8 +241,8 @@ pub(crate) fn end_wrong(plane: &[u8], at: usize) -> Wrong
 
 // The records after the header.
 pub(crate) fn records_wrong(plane: &[u8], buckets: usize, entries: usize) -> Wrong
-    requires { ⌜ (5 ≤ length (now plane)) × (buckets ≤ 80) × (entries ≤ 64) ⌝ }
-    ensures { λ r. do ⌜ r ≡ recordsWrong (← ⟦Bucket::SOLUTIONS⟧ .entry) buckets entries (now (plane .entry)) ⌝ }
+    requires { ⌜ (bucketsAt ≤ length (now plane)) × (buckets ≤ mostBuckets1 + mostBuckets2) × (entries ≤ baseLimit) ⌝ }
+    ensures { λ r. ⌜ r ≡ recordsWrong solutions buckets entries (now (plane .entry)) ⌝ }
 {
     let entries_at = Record::BUCKETS_AT + buckets * Record::BUCKET_LEN;
     let end_at = entries_at + entries * Record::ENTRY_LEN;
@@ -243,21 +259,9 @@ pub(crate) fn records_wrong(plane: &[u8], buckets: usize, entries: usize) -> Wro
     }
 }
 
-fn size(b: u8) -> usize
-    ensures { λ r. ⌜ r ≡ b ⌝ }
-{
-    b as usize
-}
-
-fn wide(b: u8) -> u64
-    ensures { λ r. ⌜ r ≡ b ⌝ }
-{
-    b as u64
-}
-
 // The whole plane, in one pass.
 pub(crate) fn wrong_at(plane: &[u8]) -> Wrong
-    ensures { λ r. do ⌜ r ≡ wrongAt (← ⟦Bucket::SOLUTIONS⟧ .entry) (now (plane .entry)) ⌝ }
+    ensures { λ r. ⌜ r ≡ wrongAt solutions (now (plane .entry)) ⌝ }
 {
     if !header_fits(plane) {
         return Wrong::At(0);
@@ -267,15 +271,15 @@ pub(crate) fn wrong_at(plane: &[u8]) -> Wrong
 
 // Solution word i of the bucket in front.
 pub(crate) fn solution(p: &[u8], i: usize) -> u64
-    requires { do ⌜ i < (← ⟦Bucket::SOLUTIONS⟧) ⌝ }
-    ensures { λ r. do ⌜ r ≡ getD (bucketFrom (← ⟦Bucket::SOLUTIONS⟧ .entry) (now (p .entry)) .sols) i 0 ⌝ }
+    requires { ⌜ i < solutions ⌝ }
+    ensures { λ r. ⌜ r ≡ getD (bucketFrom solutions (now (p .entry)) .sols) i 0 ⌝ }
 {
     codec::get_u64(p, 2 + i * 8)
 }
 
 // The plan that the bucket in front gives for the vector v.
 pub(crate) fn bucket_plan(p: &[u8], v: u64) -> u64
-    ensures { λ r. do ⌜ r ≡ product (bucketFrom (← ⟦Bucket::SOLUTIONS⟧ .entry) (now (p .entry)) .sols) v ⌝ }
+    ensures { λ r. ⌜ r ≡ product (bucketFrom solutions (now (p .entry)) .sols) v ⌝ }
 {
     let mut plan: u64 = 0;
     let mut i = Bucket::SOLUTIONS;
@@ -288,8 +292,8 @@ pub(crate) fn bucket_plan(p: &[u8], v: u64) -> u64
 
 // The plan of the word v among the k base entries in front.
 pub(crate) fn base_plan(p: &[u8], k: usize, v: u64) -> u64
-    requires { do ⌜ k * (← ⟦Record::ENTRY_LEN⟧) ≤ length (now p) ⌝ }
-    ensures { λ r. do ⌜ r ≡ orStranger (find v (readAll (← ⟦Record::ENTRY_LEN⟧ .entry) entryFrom k (now (p .entry)))) ⌝ }
+    requires { ⌜ k * entryLength ≤ length (now p) ⌝ }
+    ensures { λ r. ⌜ r ≡ orStranger (find v (readAll entryLength entryFrom k (now (p .entry)))) ⌝ }
 {
     let mut at = 0;
     let mut left = k;
@@ -307,8 +311,8 @@ pub(crate) fn base_plan(p: &[u8], k: usize, v: u64) -> u64
 
 // The plan that a level of m buckets gives for the vector v, if it holds v.
 pub(crate) fn level_plan(p: &[u8], m: u8, v: u64) -> Held
-    requires { do ⌜ (0 < m) × (m * (← ⟦Record::BUCKET_LEN⟧) ≤ length (now p)) ⌝ }
-    ensures { λ r. do ⌜ r ≡ levelPlan (readAll (← ⟦Record::BUCKET_LEN⟧ .entry) (bucketFrom (← ⟦Bucket::SOLUTIONS⟧ .entry)) m (now (p .entry))) v ⌝ }
+    requires { ⌜ (0 < m) × (m * bucketLength solutions ≤ length (now p)) ⌝ }
+    ensures { λ r. ⌜ r ≡ levelPlan (readAll (bucketLength solutions) (bucketFrom solutions) m (now (p .entry))) v ⌝ }
 {
     let i = identifier::bucket(v, wide(m)) as usize;
     let at = i * Record::BUCKET_LEN;
@@ -322,8 +326,8 @@ pub(crate) fn level_plan(p: &[u8], m: u8, v: u64) -> Held
 
 // The plan of the vector v of level 2, in a plane that is right.
 pub(crate) fn second_plan(plane: &[u8], v: u64) -> u64
-    requires { do ⌜ wrongAt (← ⟦Bucket::SOLUTIONS⟧) (now plane) ≡ Nowhere ⌝ }
-    ensures { λ r. do ⌜ r ≡ secondPlan (planeFrom (← ⟦Bucket::SOLUTIONS⟧ .entry) (now (plane .entry))) v ⌝ }
+    requires { ⌜ wrongAt solutions (now plane) ≡ Nowhere ⌝ }
+    ensures { λ r. ⌜ r ≡ secondPlan (planeFrom solutions (now (plane .entry))) v ⌝ }
 {
     let at = Record::BUCKETS_AT + size(plane[2]) * Record::BUCKET_LEN;
     let held = level_plan(&plane[at..], plane[3], v);
@@ -338,8 +342,8 @@ pub(crate) fn second_plan(plane: &[u8], v: u64) -> u64
 
 // The plan of the word w, in a plane that is right.
 pub(crate) fn plan_in(plane: &[u8], w: u64) -> u64
-    requires { do ⌜ wrongAt (← ⟦Bucket::SOLUTIONS⟧) (now plane) ≡ Nowhere ⌝ }
-    ensures { λ r. do ⌜ r ≡ planFrom (planeFrom (← ⟦Bucket::SOLUTIONS⟧ .entry) (now (plane .entry))) w ⌝ }
+    requires { ⌜ wrongAt solutions (now plane) ≡ Nowhere ⌝ }
+    ensures { λ r. ⌜ r ≡ planFrom (planeFrom solutions (now (plane .entry))) w ⌝ }
 {
     let held = level_plan(&plane[Record::BUCKETS_AT..], plane[2], w);
     match held {
@@ -350,7 +354,7 @@ pub(crate) fn plan_in(plane: &[u8], w: u64) -> u64
 
 // The lookup from the word on.
 pub(crate) fn lookup_word(w: u64, plane: &[u8]) -> Answer
-    ensures { λ r. do ⌜ r ≡ looked (now (plane .entry)) w (wrongAt (← ⟦Bucket::SOLUTIONS⟧ .entry) (now (plane .entry))) ⌝ }
+    ensures { λ r. ⌜ r ≡ looked (now (plane .entry)) w (wrongAt solutions (now (plane .entry))) ⌝ }
 {
     let wrong = wrong_at(plane);
     match wrong {
@@ -384,7 +388,7 @@ pub(crate) fn put_words(out: &mut [u8], at: usize, words: &[u64])
 
 // Writes the record of the bucket whose numbers are b at the offset at.
 pub(crate) fn put_bucket(out: &mut [u8], at: usize, b: &[u64])
-    requires { do ⌜ (length (now b) ≡ (← ⟦Bucket::WORDS⟧)) × (seenFrom rows solutions (now b) .bound < 256) × (at + (← ⟦Record::BUCKET_LEN⟧) ≤ length (now out)) ⌝ }
+    requires { ⌜ (length (now b) ≡ bucketWords rows solutions) × (seenFrom rows solutions (now b) .bound < 256) × (at + bucketLength solutions ≤ length (now out)) ⌝ }
     ensures { λ _. ⌜ now (out .exit) ≡ written at (bucketRecord (seenFrom rows solutions (now (b .entry)))) (now (out .entry)) ⌝ }
 {
     out[at] = Record::BUCKET;
@@ -392,9 +396,9 @@ pub(crate) fn put_bucket(out: &mut [u8], at: usize, b: &[u64])
     put_words(out, at + 2, &b[Bucket::SOLUTIONS_AT..Bucket::BOUND_AT]);
 }
 
-// Writes the record of the base pair e at the offset at.
+// Writes the record of a base entry at the offset at.
 pub(crate) fn put_entry(out: &mut [u8], at: usize, word: u64, plan: u64)
-    requires { do ⌜ (plan < 256) × (at + (← ⟦Record::ENTRY_LEN⟧) ≤ length (now out)) ⌝ }
+    requires { ⌜ (plan < 256) × (at + entryLength ≤ length (now out)) ⌝ }
     ensures { λ _. ⌜ now (out .exit) ≡ written at (entryRecord (record { word = word; plan = plan })) (now (out .entry)) ⌝ }
 {
     out[at] = Record::ENTRY;
@@ -404,9 +408,9 @@ pub(crate) fn put_entry(out: &mut [u8], at: usize, word: u64, plan: u64)
 
 // Writes the records of m buckets, whose numbers stand one after the other in b, from the offset at on.
 pub(crate) fn put_buckets(out: &mut [u8], at: usize, b: &[u64], m: usize)
-    requires { do ⌜ (m * (← ⟦Bucket::WORDS⟧) ≤ length (now b)) × (at + m * (← ⟦Record::BUCKET_LEN⟧) ≤ length (now out)) ⌝ }
+    requires { ⌜ (m * bucketWords rows solutions ≤ length (now b)) × (at + m * bucketLength solutions ≤ length (now out)) ⌝ }
     requires low { ⌜ ((i : ℕ) → i < m → seenFrom rows solutions (drop (i * bucketWords rows solutions) (now b)) .bound < 256) ⌝ }
-    ensures { λ _. do ⌜ now (out .exit) ≡ written at (bytesOf bucketRecord (readAll (← ⟦Bucket::WORDS⟧ .entry) (seenFrom rows solutions) m (now (b .entry)))) (now (out .entry)) ⌝ }
+    ensures { λ _. ⌜ now (out .exit) ≡ written at (bytesOf bucketRecord (readAll (bucketWords rows solutions) (seenFrom rows solutions) m (now (b .entry)))) (now (out .entry)) ⌝ }
 {
     let mut i = 0;
     while i < m {
@@ -419,20 +423,25 @@ pub(crate) fn put_buckets(out: &mut [u8], at: usize, b: &[u64], m: usize)
 
 // Writes the records of k base entries, whose pairs stand in front, from the offset at on.
 pub(crate) fn put_entries(out: &mut [u8], at: usize, pairs: &[u64], k: usize)
-    requires { do ⌜ (k * 2 ≤ length (now pairs)) × (at + k * (← ⟦Record::ENTRY_LEN⟧) ≤ length (now out)) ⌝ }
+    requires { ⌜ (k * 2 ≤ length (now pairs)) × (at + k * entryLength ≤ length (now out)) ⌝ }
     requires plans { ⌜ ((i : ℕ) → i < k → pairFrom (drop (i * 2) (now pairs)) .plan < 256) ⌝ }
     ensures { λ _. ⌜ now (out .exit) ≡ written at (bytesOf entryRecord (readAll 2 pairFrom k (now (pairs .entry)))) (now (out .entry)) ⌝ }
 {
     let mut i = 0;
     while i < k {
-        put_entry(out, at + i * Record::ENTRY_LEN, pairs[i * 2], pairs[i * 2 + 1]);
+        put_entry(
+            out,
+            at + i * Record::ENTRY_LEN,
+            pairs[i * 2],
+            pairs[i * 2 + 1],
+        );
         i += 1;
     }
 }
 
 // Writes the end at the offset at.
 pub(crate) fn put_end(out: &mut [u8], at: usize)
-    requires { do ⌜ at + (← ⟦Record::END_LEN⟧) ≤ length (now out) ⌝ }
+    requires { ⌜ at + endLength ≤ length (now out) ⌝ }
     ensures { λ _. ⌜ now (out .exit) ≡ written at endRecord (now (out .entry)) ⌝ }
 {
     out[at] = Record::END;
@@ -444,13 +453,19 @@ pub(crate) fn put_header(out: &mut [u8], buckets1: u64, buckets2: u64, entries: 
     requires { ⌜ (buckets1 < 256) × (buckets2 < 256) × (entries < 256) ⌝ }
     ensures { λ _. ⌜ now (out .exit) ≡ written 0 (headerRecord buckets1 buckets2 entries) (now (out .entry)) ⌝ }
 {
-    let head = [Record::HEADER, Record::FORMAT, buckets1 as u8, buckets2 as u8, entries as u8];
+    let head = [
+        Record::HEADER,
+        Record::FORMAT,
+        buckets1 as u8,
+        buckets2 as u8,
+        entries as u8,
+    ];
     codec::put_bytes(out, 0, &head);
 }
 
 // Writes the records after the header, of these numbers of buckets and base entries of the table t.
 pub(crate) fn put_records(out: &mut [u8], t: &[u64], buckets: usize, entries: usize)
-    requires { do ⌜ (bucketPlace rows solutions buckets + entries * 2 ≤ length (now t)) × (planeLength solutions buckets entries ≤ length (now out)) ⌝ }
+    requires { ⌜ (bucketPlace rows solutions buckets + entries * 2 ≤ length (now t)) × (planeLength solutions buckets entries ≤ length (now out)) ⌝ }
     requires low { ⌜ ((i : ℕ) → i < buckets → seenFrom rows solutions (drop (i * bucketWords rows solutions) (drop header (now t))) .bound < 256) ⌝ }
     requires plans { ⌜ ((i : ℕ) → i < entries → pairFrom (drop (i * 2) (drop (bucketPlace rows solutions buckets) (now t))) .plan < 256) ⌝ }
     ensures { λ _. ⌜ now (out .exit) ≡ written bucketsAt (recordsOf rows solutions buckets entries (now (t .entry))) (now (out .entry)) ⌝ }
@@ -472,11 +487,14 @@ pub(crate) fn write_plane(t: &[u64], out: &mut [u8])
 }
 
 // The length of a plane.
-pub(crate) fn plane_len(buckets: u64, entries: u64) -> u64
-    requires { ⌜ (buckets ≤ 80) × (entries ≤ 64) ⌝ }
+pub(crate) fn plane_len(buckets: usize, entries: usize) -> usize
+    requires { ⌜ (buckets ≤ mostBuckets1 + mostBuckets2) × (entries ≤ baseLimit) ⌝ }
     ensures { λ r. ⌜ r ≡ planeLength solutions buckets entries ⌝ }
 {
-    10 + buckets * 66 + entries * 10
+    Record::BUCKETS_AT
+        + buckets * Record::BUCKET_LEN
+        + entries * Record::ENTRY_LEN
+        + Record::END_LEN
 }
 
 // Writes the plane of the sound table t, if the output has room for it: cause 9.
@@ -484,10 +502,10 @@ pub(crate) fn write_sound(t: &[u64], out: &mut [u8]) -> Answer
     requires { ⌜ (shaped (now t) ≡ true) × (sound (now t) ≡ true) ⌝ }
     ensures { λ r. ⌜ (r ≡ putFront (planeBytes (planeOf (tableOf (now (t .entry))))) (now (out .entry)) .answer) × (now (out .exit) ≡ putFront (planeBytes (planeOf (tableOf (now (t .entry))))) (now (out .entry)) .output) ⌝ }
 {
-    let needed = plane_len(t[0] + t[1], t[2]);
-    if (out.len() as u64) < needed {
-        return Answer::ShortOutput(needed);
+    let needed = plane_len((t[0] + t[1]) as usize, t[2] as usize);
+    if out.len() < needed {
+        return Answer::ShortOutput(needed as u64);
     }
     write_plane(t, out);
-    Answer::Accepted(needed)
+    Answer::Accepted(needed as u64)
 }

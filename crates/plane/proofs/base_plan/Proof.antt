@@ -52,7 +52,6 @@ returns c =
     let plan = c .wide .ensures ∙ ap (λ (e : Entry). e .plan) same in
     plan ∙ sym (ap orStranger (b .loop .inv .1 ∙ find-here (a .v) (b .loop .left) (c .before .before .before .entry-word .result) (drop (b .loop .at) p) (omega arith) word (c .before .before .if1 .taken)))
 
-
 sub-left : tie.Need-sub-left Inv-loop μ-loop
 sub-left c = search needs
 

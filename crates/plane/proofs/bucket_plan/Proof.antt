@@ -5,7 +5,7 @@ use mathlib.Core.List.{List}
 use Prim.Native.Nat.{ℕ, _-_, _^_, _≤_, _<_}
 use native.Mathlib.Omega.{arith}
 use borrow.Author.Needs.{needs}
-use lib.ListN.{length, getD, drop}
+use lib.ListN.{length, drop}
 use Rattle.gf2.specs.Vectors.{product}
 use Rattle.gf2.proofs.Bit.{dot-lt}
 use Rattle.gf2.proofs.Loops.{product-down, product-end, product-part}

@@ -1,3 +1,5 @@
+-- `plane::buckets_wrong` meets its contract. The buckets before the offset `at` fit.
+-- Assumes nothing.
 use mathlib.Core.Path.{_≡_, refl, sym, _∙_}
 use Prim.Native.Nat.{_≤_}
 use native.Mathlib.Omega.{arith}
@@ -7,9 +9,6 @@ use Rattle.plane.specs.Plane.{bucketsWrong}
 use Rattle.plane.proofs.Scan.{rest, refused, passed, both, whole-next, buckets-step, buckets-here}
 use Rattle.plane.proofs.buckets_wrong.Statement.{statement}
 use Rattle.plane.proofs.buckets_wrong.Tie as tie
-use Rattle.plane.proofs.buckets_wrong.Reads as reads
-use Rattle.plane.proofs.buckets_wrong.Lts as lts
-use Rattle.plane.proofs.bucket_fits.Reads as bucket-fits-reads
 
 abbrev Inv-loop : tie.InvT-loop
 Inv-loop plane first m at₀ left₀ at left =
@@ -18,27 +17,21 @@ Inv-loop plane first m at₀ left₀ at left =
 abbrev μ-loop : tie.MeasureT-loop
 μ-loop plane first m at₀ left₀ at left = left
 
--- src/lib.rt:124:5
 loop-holds : tie.Need-loop-holds Inv-loop μ-loop
 loop-holds c = (search needs, refl)
 
--- src/lib.rt:125:25
 sub-bucket-fits : tie.Need-sub-bucket-fits Inv-loop μ-loop
 sub-bucket-fits c = search needs
 
--- src/lib.rt:125:25
 part-bucket-fits-start : tie.Need-part-bucket-fits-start Inv-loop μ-loop
 part-bucket-fits-start c = search needs
 
--- src/lib.rt:125:25
 part-bucket-fits-end : tie.Need-part-bucket-fits-end Inv-loop μ-loop
 part-bucket-fits-end c = search needs
 
--- src/lib.rt:125:13
 bucket-fits-requires : tie.Need-bucket-fits-requires Inv-loop μ-loop
 bucket-fits-requires c κs = search needs
 
--- src/lib.rt:126:13
 returns : tie.Need-returns Inv-loop μ-loop
 returns c =
     let b = c .before .before .before .before in
@@ -46,19 +39,15 @@ returns c =
     let off = rw (rest (b .loop .at) p) at (refused (c .before .bucket-fits .result) (c .before .bucket-fits .ensures) (c .if1 .taken)) in
     sym (b .loop .inv .1 ∙ buckets-here 8 (b .loop .left) (b .loop .at) (drop (b .loop .at) p) (c .before .before .before .loop-test .taken) off)
 
--- src/lib.rt:128:9
 add-at : tie.Need-add-at Inv-loop μ-loop
 add-at c = search needs
 
--- src/lib.rt:129:9
 sub-left : tie.Need-sub-left Inv-loop μ-loop
 sub-left c = search needs
 
--- src/lib.rt:124:5
 loop-less : tie.Need-loop-less Inv-loop μ-loop
 loop-less c = search needs
 
--- src/lib.rt:124:5
 loop-again : tie.Need-loop-again Inv-loop μ-loop
 loop-again c =
     let b = c .before .before .before .before in
@@ -68,7 +57,6 @@ loop-again c =
       b .loop .inv .1 ∙ buckets-step 8 (b .loop .left) (b .loop .at) p (c .before .before .before .loop-test .taken) fit,
     )
 
--- src/lib.rt:118:1
 returns-2 : tie.Need-returns-2 Inv-loop μ-loop
 unfolding bucketsWrong
 returns-2 c =

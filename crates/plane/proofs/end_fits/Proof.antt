@@ -5,23 +5,18 @@ use Rattle.plane.proofs.Scan.{refused, passed}
 use Rattle.plane.proofs.end_fits.Statement.{statement}
 use Rattle.plane.proofs.end_fits.Tie as tie
 
--- src/lib.rt:195:9
 whole-requires : tie.Need-whole-requires
 whole-requires c κs = search needs
 
--- src/lib.rt:196:9
 returns : tie.Need-returns
 returns c = rw (refused _ (c .before .whole .ensures) (c .if1 .taken))
 
--- src/lib.rt:198:26
 slice-aggregate-same-at : tie.Need-slice-aggregate-same-at
 slice-aggregate-same-at c = search needs
 
--- src/lib.rt:198:5
 same-at-requires : tie.Need-same-at-requires
 same-at-requires c κs = search needs
 
--- src/lib.rt:192:1
 returns-2 : tie.Need-returns-2
 returns-2 c =
     let e = c .before .before in

@@ -9,23 +9,18 @@ use Rattle.plane.proofs.Scan.{rest, refused, passed, end-cut, end-more,
 use Rattle.plane.proofs.end_wrong.Statement.{statement}
 use Rattle.plane.proofs.end_wrong.Tie as tie
 
--- src/lib.rt:197:13
 sub-p : tie.Need-sub-p
 sub-p c = search needs
 
--- src/lib.rt:197:13
 part-p-start : tie.Need-part-p-start
 part-p-start c = search needs
 
--- src/lib.rt:197:13
 part-p-end : tie.Need-part-p-end
 part-p-end c = search needs
 
--- src/lib.rt:198:9
 end-fits-requires : tie.Need-end-fits-requires
 end-fits-requires c κs = search needs
 
--- src/lib.rt:199:9
 returns : tie.Need-returns
 returns c =
     let a = c .before .before .before .before .args in
@@ -35,17 +30,14 @@ returns c =
 fits : (c : tie.Else1) → endFits (drop (c .before .before .before .before .args .at) (c .before .before .before .before .args .plane .now)) ≡ true
 fits c = rw rest at (passed (c .before .end-fits .result) (c .before .end-fits .ensures) (c .if1 .left))
 
--- src/lib.rt:202:26
 add-t9 : tie.Need-add-t9
 add-t9 c = search needs
 
--- src/lib.rt:202:9
 returns-2 : tie.Need-returns-2
 returns-2 c =
     let a = c .before .before .before .before .before .args in
     sym (end-more (a .at) (drop (a .at) (a .plane .now)) (fits (c .before)) (rw rest at (c .if2 .taken)))
 
--- src/lib.rt:193:1
 returns-3 : tie.Need-returns-3
 returns-3 c =
     let a = c .before .before .before .before .before .args in

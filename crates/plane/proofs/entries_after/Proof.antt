@@ -1,3 +1,5 @@
+-- `plane::entries_after` meets its contract. The entries before the offset `at` fit, and the last of them has the word `last`.
+-- Assumes nothing.
 use mathlib.Core.Path.{_≡_, refl, sym, _∙_}
 use Prim.Native.Nat.{suc, _≤_}
 use native.Mathlib.Omega.{arith}
@@ -9,10 +11,6 @@ use Rattle.plane.specs.Plane.{whole, entriesWrong}
 use Rattle.plane.proofs.Scan.{rest, refused, passed, whole-next, entries-cut, entries-low, entries-step}
 use Rattle.plane.proofs.entries_after.Statement.{statement}
 use Rattle.plane.proofs.entries_after.Tie as tie
-use Rattle.plane.proofs.entries_after.Reads as reads
-use Rattle.plane.proofs.entries_after.Lts as lts
-use Rattle.plane.proofs.entry_word.Reads as entry-word-reads
-use Rattle.plane.proofs.whole.Reads as whole-reads
 
 abbrev Inv-loop : tie.InvT-loop
 Inv-loop plane first k before at₀ left₀ last₀ at left last =
@@ -21,27 +19,21 @@ Inv-loop plane first k before at₀ left₀ last₀ at left last =
 abbrev μ-loop : tie.MeasureT-loop
 μ-loop plane first k before at₀ left₀ last₀ at left last = left
 
--- src/lib.rt:150:5
 loop-holds : tie.Need-loop-holds Inv-loop μ-loop
 loop-holds c = (search needs, refl)
 
--- src/lib.rt:151:17
 sub-p : tie.Need-sub-p Inv-loop μ-loop
 sub-p c = search needs
 
--- src/lib.rt:151:17
 part-p-start : tie.Need-part-p-start Inv-loop μ-loop
 part-p-start c = search needs
 
--- src/lib.rt:151:17
 part-p-end : tie.Need-part-p-end Inv-loop μ-loop
 part-p-end c = search needs
 
--- src/lib.rt:152:13
 whole-requires : tie.Need-whole-requires Inv-loop μ-loop
 whole-requires c κs = search needs
 
--- src/lib.rt:153:13
 returns : tie.Need-returns Inv-loop μ-loop
 returns c =
     let b = c .before .before .before .before in
@@ -54,11 +46,9 @@ returns c =
 there : (c : tie.Else1 Inv-loop μ-loop) → whole entryKind entryBody (drop (c .before .before .before .before .loop .at) (c .before .before .before .before .before .before .args .plane .now)) ≡ true
 there c = rw rest at (passed (c .before .whole .result) (c .before .whole .ensures) (c .if1 .left))
 
--- src/lib.rt:155:13
 entry-word-requires : tie.Need-entry-word-requires Inv-loop μ-loop
 entry-word-requires c κs = search needs
 
--- src/lib.rt:157:13
 returns-2 : tie.Need-returns-2 Inv-loop μ-loop
 returns-2 c =
     let b = c .before .before .before .before .before .before in
@@ -68,19 +58,15 @@ returns-2 c =
     sym (b .loop .inv .1 ∙ entries-low (suc (b .loop .last)) (b .loop .left) at (c .before .entry-word .result) (drop at p)
     (c .before .before .before .before .before .loop-test .taken) (there (c .before .before)) word (omega arith))
 
--- src/lib.rt:160:9
 add-at : tie.Need-add-at Inv-loop μ-loop
 add-at c = search needs
 
--- src/lib.rt:161:9
 sub-left : tie.Need-sub-left Inv-loop μ-loop
 sub-left c = search needs
 
--- src/lib.rt:150:5
 loop-less : tie.Need-loop-less Inv-loop μ-loop
 loop-less c = search needs
 
--- src/lib.rt:150:5
 loop-again : tie.Need-loop-again Inv-loop μ-loop
 loop-again c =
     let b = c .before .before .before .before .before .before in
@@ -92,7 +78,6 @@ loop-again c =
           (c .before .before .before .before .before .loop-test .taken) (there (c .before .before)) word (omega arith),
     )
 
--- src/lib.rt:143:1
 returns-3 : tie.Need-returns-3 Inv-loop μ-loop
 unfolding entriesWrong
 returns-3 c =

@@ -2,7 +2,6 @@
 -- Assumes nothing.
 use mathlib.Core.Path.{_≡_, sym, _∙_}
 use mathlib.Core.Bool.{true}
-use Prim.Native.Nat.{_<_}
 use native.Mathlib.Omega.{arith}
 use borrow.Author.Needs.{needs}
 use lib.ListN.{drop}
@@ -11,34 +10,23 @@ use Rattle.plane.specs.Plane.{whole, entriesWrong}
 use Rattle.plane.proofs.Scan.{rest, refused, passed, whole-next, entries-cut, entries-step}
 use Rattle.plane.proofs.entries_wrong.Statement.{statement}
 use Rattle.plane.proofs.entries_wrong.Tie as tie
-use Rattle.plane.proofs.entries_wrong.Reads as reads
-use Rattle.plane.proofs.entries_wrong.Lts as lts
-use Rattle.plane.proofs.entries_after.Reads as entries-after-reads
-use Rattle.plane.proofs.entry_word.Reads as entry-word-reads
-use Rattle.plane.proofs.whole.Reads as whole-reads
 
--- src/lib.rt:174:9
 returns : tie.Need-returns
 unfolding entriesWrong
 returns c = rw (c .if1 .taken)
 
--- src/lib.rt:176:13
 sub-p : tie.Need-sub-p
 sub-p c = search needs
 
--- src/lib.rt:176:13
 part-p-start : tie.Need-part-p-start
 part-p-start c = search needs
 
--- src/lib.rt:176:13
 part-p-end : tie.Need-part-p-end
 part-p-end c = search needs
 
--- src/lib.rt:177:9
 whole-requires : tie.Need-whole-requires
 whole-requires c κs = search needs
 
--- src/lib.rt:178:9
 returns-2 : tie.Need-returns-2
 returns-2 c =
     let a = c .before .before .before .before .before .args in
@@ -49,25 +37,20 @@ returns-2 c =
 there : (c : tie.Else2) → whole entryKind entryBody (drop (c .before .before .before .before .before .args .first) (c .before .before .before .before .before .args .plane .now)) ≡ true
 there c = rw rest at (passed (c .before .whole .result) (c .before .whole .ensures) (c .if2 .left))
 
--- src/lib.rt:180:26
 add-entries-after : tie.Need-add-entries-after
 add-entries-after c = search needs
 
--- src/lib.rt:180:53
 sub-entries-after : tie.Need-sub-entries-after
 sub-entries-after c = search needs
 
--- src/lib.rt:180:60
 entry-word-requires : tie.Need-entry-word-requires
 entry-word-requires c κs = search needs
 
--- src/lib.rt:180:5
 entries-after-requires : tie.Need-entries-after-requires
 entries-after-requires c κs =
     let a = c .before .before .before .before .before .before .args in
     whole-next 3 9 (a .first) (a .plane .now) (there (c .before))
 
--- src/lib.rt:169:1
 returns-3 : tie.Need-returns-3
 returns-3 c =
     let a = c .before .before .before .before .before .before .before .args in

@@ -1,33 +1,27 @@
 -- `plane::lookup` meets its contract.
 -- Assumes nothing.
-use mathlib.Core.Path.{_≡_, sym, _∙_}
+use mathlib.Core.Path.{sym, _∙_}
 use borrow.Author.Needs.{needs}
 use Rattle.plane.specs.Lookup.{lookupCall}
 use Rattle.plane.proofs.lookup.Statement.{statement}
 use Rattle.plane.proofs.lookup.Tie as tie
 
--- src/lib.rt:359:9
 read-requires : tie.Need-read-requires
 read-requires c κs = search needs
 
--- src/lib.rt:361:20
 enum-known-read : tie.Need-enum-known-read
 enum-known-read c = search needs
 
--- src/lib.rt:361:26
 lookup-word-requires : tie.Need-lookup-word-requires
 lookup-word-requires c κs = search needs
 
--- src/lib.rt:362:23
 enum-known-read-2 : tie.Need-enum-known-read-2
 enum-known-read-2 c = search needs
 
--- src/lib.rt:356:1
 returns : tie.Need-returns
 unfolding lookupCall
 returns c = rw (sym (c .before .before .before .before .read .ensures) ∙ c .before .before .read2 .given .1) (c .lookup-word .ensures)
 
--- src/lib.rt:356:1
 returns-2 : tie.Need-returns-2
 unfolding lookupCall
 returns-2 c = rw (sym (c .before .before .before .read .ensures) ∙ c .before .read3 .given .1)

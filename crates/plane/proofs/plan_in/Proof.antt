@@ -13,43 +13,33 @@ use Rattle.plane.proofs.plan_in.Tie as tie
 facts : (c : tie.Start) → Known 8 (c .args .plane .now)
 facts c = known 8 (c .args .plane .now) (c .pre)
 
--- src/lib.rt:337:27
 sub-level-plan : tie.Need-sub-level-plan
 sub-level-plan c = omega (arith, facts (c .before))
 
--- src/lib.rt:337:27
 part-level-plan-start : tie.Need-part-level-plan-start
 part-level-plan-start c = omega (arith, facts (c .before))
 
--- src/lib.rt:337:27
 part-level-plan-end : tie.Need-part-level-plan-end
 part-level-plan-end c = search needs
 
--- src/lib.rt:337:57
 shared-slice-read-level-plan : tie.Need-shared-slice-read-level-plan
 shared-slice-read-level-plan c = omega (arith, facts (c .before .before .before))
 
--- src/lib.rt:337:9
 level-plan-requires : tie.Need-level-plan-requires
 level-plan-requires c κs = rw (rest, length-drop) (omega (arith, facts (c .before .before .before)))
 
--- src/lib.rt:339:20
 enum-known-held : tie.Need-enum-known-held
 enum-known-held c = search needs
 
--- src/lib.rt:340:44
 enum-told : tie.Need-enum-told
 enum-told c = search needs
 
--- src/lib.rt:340:44
 second-requires : tie.Need-second-requires
 second-requires c κs = search needs
 
--- src/lib.rt:340:25
 second-plan-requires : tie.Need-second-plan-requires
 second-plan-requires c κs = search needs
 
--- src/lib.rt:333:1
 level1 : (c : tie.After-level-plan) → c .level-plan .result
     ≡ levelPlan (planeFrom 8 (c .before .before .before .before .args .plane .now) .level1) (c .before .before .before .before .args .w)
 unfolding planeFrom
@@ -59,7 +49,6 @@ returns : tie.Need-returns
 unfolding planFrom
 returns c = rw (sym (level1 (c .before .before .before)) ∙ c .before .held .given .1)
 
--- src/lib.rt:333:1
 returns-2 : tie.Need-returns-2
 unfolding planFrom
 returns-2 c =

@@ -1,6 +1,6 @@
 -- `plane::put_bucket` meets its contract.
 -- Assumes nothing.
-use mathlib.Core.Path.{_≡_, ap, _∙_}
+use mathlib.Core.Path.{ap, _∙_}
 use native.Mathlib.Omega.{arith}
 use borrow.Author.Needs.{needs}
 use lib.ListN.{length, length-set, length-take, length-drop}
@@ -10,52 +10,40 @@ use Rattle.plane.proofs.Put.{written-two}
 use Rattle.plane.proofs.put_bucket.Statement.{statement}
 use Rattle.plane.proofs.put_bucket.Tie as tie
 
--- src/lib.rt:383:5
 slice-write-out : tie.Need-slice-write-out
 slice-write-out c = search needs
 
--- src/lib.rt:384:19
 shared-slice-read-out : tie.Need-shared-slice-read-out
 shared-slice-read-out c = search needs
 
--- src/lib.rt:384:19
 cast-out : tie.Need-cast-out
 unfolding bucketFrom
 cast-out c = record { fits = c .before .before .before .pre .1 }
 
--- src/lib.rt:384:9
 add-out : tie.Need-add-out
 add-out c = search needs
 
--- src/lib.rt:384:5
 slice-write-out-2 : tie.Need-slice-write-out-2
 slice-write-out-2 c = simp length-set (omega arith)
 
--- src/lib.rt:385:20
 add-put-words : tie.Need-add-put-words
 add-put-words c = search needs
 
--- src/lib.rt:385:28
 sub-put-words : tie.Need-sub-put-words
 sub-put-words c = search needs
 
--- src/lib.rt:385:28
 part-put-words-start : tie.Need-part-put-words-start
 part-put-words-start c = search needs
 
--- src/lib.rt:385:28
 part-put-words-end : tie.Need-part-put-words-end
 part-put-words-end c = search needs
 
--- src/lib.rt:385:5
 put-words-requires : tie.Need-put-words-requires
 put-words-requires c κs = simp (length-set, length-take, length-drop) (omega arith)
 
--- src/lib.rt:379:1
 same-length : tie.Need-same-length
 same-length c = ap length (c .before .before .put-words .ensures) ∙ simp (length-written, length-set)
 
--- src/lib.rt:379:1
 returns : tie.Need-returns
 unfolding bucketFrom
 returns c = c .before .before .put-words .ensures ∙ written-two _ _ _ _ _

@@ -1,7 +1,7 @@
 -- `plane::put_buckets` meets its contract. The first i buckets are written.
 -- Assumes nothing.
-use mathlib.Core.Path.{_≡_, sym, ap, _∙_}
-use Prim.Native.Nat.{ℕ, _-_, _*_, _≤_}
+use mathlib.Core.Path.{_≡_, ap, _∙_}
+use Prim.Native.Nat.{_-_, _*_, _≤_}
 use native.Mathlib.Omega.{arith}
 use borrow.Author.Needs.{needs}
 use lib.ListN.{length, length-take, length-drop}
@@ -19,45 +19,35 @@ Inv-loop out₀ at b m i₀ out i = (i ≤ m) × (out ≡ written at (bytesOf bu
 abbrev μ-loop : tie.MeasureT-loop
 μ-loop out₀ at b m i₀ out i = m - i
 
--- src/lib.rt:408:5
 loop-holds : tie.Need-loop-holds Inv-loop μ-loop
 loop-holds c =
     let a = c .before .before .args in
     (search needs, read-none bucketRecord 66 74 (seenFrom 64 8) (a .at) (a .b .now) (a .out .now))
 
--- src/lib.rt:409:20
 mul-from : tie.Need-mul-from Inv-loop μ-loop
 mul-from c = search needs
 
--- src/lib.rt:410:18
 add-to : tie.Need-add-to Inv-loop μ-loop
 add-to c = search needs
 
--- src/lib.rt:411:30
 mul-put-bucket : tie.Need-mul-put-bucket Inv-loop μ-loop
 mul-put-bucket c = search needs
 
--- src/lib.rt:411:25
 add-put-bucket : tie.Need-add-put-bucket Inv-loop μ-loop
 add-put-bucket c = search needs
 
--- src/lib.rt:411:54
 mul-put-bucket-2 : tie.Need-mul-put-bucket-2 Inv-loop μ-loop
 mul-put-bucket-2 c = search needs
 
--- src/lib.rt:411:54
 sub-put-bucket : tie.Need-sub-put-bucket Inv-loop μ-loop
 sub-put-bucket c = search needs
 
--- src/lib.rt:411:54
 part-put-bucket-start : tie.Need-part-put-bucket-start Inv-loop μ-loop
 part-put-bucket-start c = search needs
 
--- src/lib.rt:411:54
 part-put-bucket-end : tie.Need-part-put-bucket-end Inv-loop μ-loop
 part-put-bucket-end c = search needs
 
--- src/lib.rt:411:9
 put-bucket-requires : tie.Need-put-bucket-requires Inv-loop μ-loop
 put-bucket-requires c κs =
     let b = c .before .before .before in
@@ -68,15 +58,12 @@ put-bucket-requires c κs =
       omega (arith, l),
     )
 
--- src/lib.rt:412:9
 add-i : tie.Need-add-i Inv-loop μ-loop
 add-i c = search needs
 
--- src/lib.rt:408:5
 loop-less : tie.Need-loop-less Inv-loop μ-loop
 loop-less c = search needs
 
--- src/lib.rt:408:5
 loop-again : tie.Need-loop-again Inv-loop μ-loop
 loop-again c =
     let b = c .before .before .before .before .before .before in
@@ -84,11 +71,9 @@ loop-again c =
     let more = rw (b .loop .inv .1, bucket-here 64 8 (b .loop .i * 74) (a .b .now)) at (c .before .before .put-bucket .ensures) in
     (search needs, more ∙ read-next bucketRecord 66 74 (seenFrom 64 8) (b .loop .i) (a .at) (a .b .now) (a .out .now) (buckets-sized 64 8 (b .loop .i) (a .b .now) (omega arith)))
 
--- src/lib.rt:402:1
 same-length : tie.Need-same-length Inv-loop μ-loop
 same-length c = ap length (c .before .loop .inv .1) ∙ length-written _ _ _
 
--- src/lib.rt:402:1
 returns : tie.Need-returns Inv-loop μ-loop
 returns c =
     let z : c .before .loop .i ≡ c .before .before .before .before .args .m = omega arith in

@@ -1,6 +1,6 @@
 -- `plane::put_end` meets its contract.
 -- Assumes nothing.
-use mathlib.Core.Path.{_≡_, ap, _∙_}
+use mathlib.Core.Path.{ap, _∙_}
 use borrow.Author.Needs.{needs}
 use lib.ListN.{length, length-set}
 use Rattle.codec.proofs.Part.{length-written}
@@ -9,27 +9,21 @@ use Rattle.plane.proofs.Put.{written-cons}
 use Rattle.plane.proofs.put_end.Statement.{statement}
 use Rattle.plane.proofs.put_end.Tie as tie
 
--- src/lib.rt:403:5
 slice-write-out : tie.Need-slice-write-out
 slice-write-out c = search needs
 
--- src/lib.rt:404:27
 add-put-bytes : tie.Need-add-put-bytes
 add-put-bytes c = search needs
 
--- src/lib.rt:404:35
 slice-aggregate-put-bytes : tie.Need-slice-aggregate-put-bytes
 slice-aggregate-put-bytes c = search needs
 
--- src/lib.rt:404:5
 put-bytes-requires : tie.Need-put-bytes-requires
 put-bytes-requires c κs = search needs
 
--- src/lib.rt:399:1
 same-length : tie.Need-same-length
 same-length c = ap length (c .before .before .put-bytes .ensures) ∙ simp (length-written, length-set)
 
--- src/lib.rt:399:1
 returns : tie.Need-returns
 returns c =
     let a = c .before .before .before .before .before .before .args in

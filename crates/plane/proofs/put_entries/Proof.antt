@@ -1,7 +1,7 @@
 -- `plane::put_entries` meets its contract. The first i entries are written.
 -- Assumes nothing.
-use mathlib.Core.Path.{_≡_, sym, ap, _∙_}
-use Prim.Native.Nat.{ℕ, _-_, _*_, _≤_}
+use mathlib.Core.Path.{_≡_, ap, _∙_}
+use Prim.Native.Nat.{_-_, _≤_}
 use native.Mathlib.Omega.{arith}
 use borrow.Author.Needs.{needs}
 use lib.ListN.{length}
@@ -20,49 +20,38 @@ Inv-loop out₀ at pairs k i₀ out i = (i ≤ k) × (out ≡ written at (bytesO
 abbrev μ-loop : tie.MeasureT-loop
 μ-loop out₀ at pairs k i₀ out i = k - i
 
--- src/lib.rt:422:5
 loop-holds : tie.Need-loop-holds Inv-loop μ-loop
 loop-holds c =
     let a = c .before .before .args in
     (search needs, read-none entryRecord 10 2 pairFrom (a .at) (a .pairs .now) (a .out .now))
 
--- src/lib.rt:423:29
 mul-put-entry : tie.Need-mul-put-entry Inv-loop μ-loop
 mul-put-entry c = search needs
 
--- src/lib.rt:423:24
 add-put-entry : tie.Need-add-put-entry Inv-loop μ-loop
 add-put-entry c = search needs
 
--- src/lib.rt:423:58
 mul-put-entry-2 : tie.Need-mul-put-entry-2 Inv-loop μ-loop
 mul-put-entry-2 c = search needs
 
--- src/lib.rt:423:52
 mul-put-entry-3 : tie.Need-mul-put-entry-3 Inv-loop μ-loop
 mul-put-entry-3 c = search needs
 
--- src/lib.rt:423:52
 shared-slice-read-put-entry : tie.Need-shared-slice-read-put-entry Inv-loop μ-loop
 shared-slice-read-put-entry c = search needs
 
--- src/lib.rt:423:72
 mul-put-entry-4 : tie.Need-mul-put-entry-4 Inv-loop μ-loop
 mul-put-entry-4 c = search needs
 
--- src/lib.rt:423:72
 add-put-entry-2 : tie.Need-add-put-entry-2 Inv-loop μ-loop
 add-put-entry-2 c = search needs
 
--- src/lib.rt:423:66
 mul-put-entry-5 : tie.Need-mul-put-entry-5 Inv-loop μ-loop
 mul-put-entry-5 c = search needs
 
--- src/lib.rt:423:66
 shared-slice-read-put-entry-2 : tie.Need-shared-slice-read-put-entry-2 Inv-loop μ-loop
 shared-slice-read-put-entry-2 c = search needs
 
--- src/lib.rt:423:9
 put-entry-requires : tie.Need-put-entry-requires Inv-loop μ-loop
 put-entry-requires c κs =
     let b = c .before .before .before .before in
@@ -70,15 +59,12 @@ put-entry-requires c κs =
     let l = ap length (b .loop .inv .1) ∙ length-written (a .args .at) _ (a .args .out .now) in
     (rw getD-drop at (a .pre .1 (b .loop .i) (omega arith)), omega (arith, l))
 
--- src/lib.rt:424:9
 add-i : tie.Need-add-i Inv-loop μ-loop
 add-i c = search needs
 
--- src/lib.rt:422:5
 loop-less : tie.Need-loop-less Inv-loop μ-loop
 loop-less c = search needs
 
--- src/lib.rt:422:5
 loop-again : tie.Need-loop-again Inv-loop μ-loop
 loop-again c =
     let b = c .before .before .before .before .before .before .before in
@@ -86,11 +72,9 @@ loop-again c =
     let more = rw (b .loop .inv .1) at (c .before .before .put-entry .ensures) in
     (search needs, more ∙ entries-next (b .loop .i) (a .at) (a .pairs .now) (a .out .now))
 
--- src/lib.rt:416:1
 same-length : tie.Need-same-length Inv-loop μ-loop
 same-length c = ap length (c .before .loop .inv .1) ∙ length-written _ _ _
 
--- src/lib.rt:416:1
 returns : tie.Need-returns Inv-loop μ-loop
 returns c =
     let z : c .before .loop .i ≡ c .before .before .before .before .args .k = omega arith in

@@ -10,27 +10,21 @@ use Rattle.plane.proofs.Put.{entry-put}
 use Rattle.plane.proofs.put_entry.Statement.{statement}
 use Rattle.plane.proofs.put_entry.Tie as tie
 
--- src/lib.rt:393:5
 slice-write-out : tie.Need-slice-write-out
 slice-write-out c = search needs
 
--- src/lib.rt:394:25
 add-put-u64 : tie.Need-add-put-u64
 add-put-u64 c = search needs
 
--- src/lib.rt:394:5
 put-u64-requires : tie.Need-put-u64-requires
 put-u64-requires c κs = search needs
 
--- src/lib.rt:395:36
 cast-out : tie.Need-cast-out
 cast-out c = search needs
 
--- src/lib.rt:395:9
 add-out : tie.Need-add-out
 add-out c = search needs
 
--- src/lib.rt:395:5
 slice-write-out-2 : tie.Need-slice-write-out-2
 slice-write-out-2 c = rw (c .before .before .put-u64 .ensures) (simp (length-written, length-set) (omega arith))
 

@@ -1,6 +1,6 @@
 -- `plane::put_records` meets its contract.
 -- Assumes nothing.
-use mathlib.Core.Path.{_≡_, ap, _∙_}
+use mathlib.Core.Path.{ap, _∙_}
 use Prim.Native.Nat.{_+_, _*_}
 use native.Mathlib.Omega.{arith}
 use borrow.Author.Needs.{needs}
@@ -11,80 +11,62 @@ use Rattle.plane.proofs.Put.{records-put}
 use Rattle.plane.proofs.put_records.Statement.{statement}
 use Rattle.plane.proofs.put_records.Tie as tie
 
--- src/lib.rt:458:35
 mul-pairs-at : tie.Need-mul-pairs-at
 mul-pairs-at c = search needs
 
--- src/lib.rt:458:20
 add-pairs-at : tie.Need-add-pairs-at
 add-pairs-at c = search needs
 
--- src/lib.rt:459:43
 mul-entries-at : tie.Need-mul-entries-at
 mul-entries-at c = search needs
 
--- src/lib.rt:459:22
 add-entries-at : tie.Need-add-entries-at
 add-entries-at c = search needs
 
--- src/lib.rt:460:42
 sub-put-buckets : tie.Need-sub-put-buckets
 sub-put-buckets c = search needs
 
--- src/lib.rt:460:42
 part-put-buckets-start : tie.Need-part-put-buckets-start
 part-put-buckets-start c = search needs
 
--- src/lib.rt:460:42
 part-put-buckets-end : tie.Need-part-put-buckets-end
 part-put-buckets-end c = search needs
 
--- src/lib.rt:460:5
 put-buckets-requires : tie.Need-put-buckets-requires
 put-buckets-requires c κs =
     let b = c .before .before .before .before in
     rw (rest 4 (b .args .t .now)) ((rw length-drop (omega arith), omega arith), b .pre .1 .0)
 
--- src/lib.rt:461:34
 mul-put-entries : tie.Need-mul-put-entries
 mul-put-entries c = search needs
 
--- src/lib.rt:461:34
 sub-put-entries : tie.Need-sub-put-entries
 sub-put-entries c = search needs
 
--- src/lib.rt:461:34
 part-put-entries-start : tie.Need-part-put-entries-start
 part-put-entries-start c = search needs
 
--- src/lib.rt:461:34
 part-put-entries-end : tie.Need-part-put-entries-end
 part-put-entries-end c = search needs
 
--- src/lib.rt:461:5
 put-entries-requires : tie.Need-put-entries-requires
 put-entries-requires c κs =
     let b = c .before .before .before .before .before .before .before .before .before in
     let l = ap length (c .before .before .before .before .put-buckets .ensures) ∙ length-written 5 _ (b .args .out .now) in
     rw (rest (4 + b .args .buckets * 74) (b .args .t .now)) ((rw length-drop (omega arith), omega (arith, l)), b .pre .1 .1)
 
--- src/lib.rt:462:31
 mul-put-end : tie.Need-mul-put-end
 mul-put-end c = search needs
 
--- src/lib.rt:462:18
 add-put-end : tie.Need-add-put-end
 add-put-end c = search needs
 
--- src/lib.rt:462:5
 put-end-requires : tie.Need-put-end-requires
 put-end-requires c κs = search needs
 
--- src/lib.rt:452:1
 same-length : tie.Need-same-length
 same-length c = search needs
 
--- src/lib.rt:452:1
 returns : tie.Need-returns
 returns c =
     let e = c .before .before .before .before .before .before in

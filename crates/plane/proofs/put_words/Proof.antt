@@ -21,40 +21,31 @@ Inv-loop out₀ at words i₀ out i = (i ≤ length words) × (out ≡ written a
 abbrev μ-loop : tie.MeasureT-loop
 μ-loop out₀ at words i₀ out i = length words - i
 
--- src/lib.rt:372:5
 loop-holds : tie.Need-loop-holds Inv-loop μ-loop
 unfolding bytesOf
 loop-holds c = (search needs, sym (written-none (c .before .before .args .at) (c .before .before .args .out .now)))
 
--- src/lib.rt:373:34
 mul-put-u64 : tie.Need-mul-put-u64 Inv-loop μ-loop
 mul-put-u64 c = search needs
 
--- src/lib.rt:373:29
 add-put-u64 : tie.Need-add-put-u64 Inv-loop μ-loop
 add-put-u64 c = search needs
 
--- src/lib.rt:373:41
 mul-put-u64-2 : tie.Need-mul-put-u64-2 Inv-loop μ-loop
 mul-put-u64-2 c = search needs
 
--- src/lib.rt:373:41
 shared-slice-read-put-u64 : tie.Need-shared-slice-read-put-u64 Inv-loop μ-loop
 shared-slice-read-put-u64 c = search needs
 
--- src/lib.rt:373:9
 put-u64-requires : tie.Need-put-u64-requires Inv-loop μ-loop
 put-u64-requires c κs = search needs
 
--- src/lib.rt:374:9
 add-i : tie.Need-add-i Inv-loop μ-loop
 add-i c = search needs
 
--- src/lib.rt:372:5
 loop-less : tie.Need-loop-less Inv-loop μ-loop
 loop-less c = search needs
 
--- src/lib.rt:372:5
 loop-again : tie.Need-loop-again Inv-loop μ-loop
 loop-again c =
     let b = c .before .before .before .before .before .before in
@@ -62,11 +53,9 @@ loop-again c =
     let more = rw (b .loop .inv .1) at (c .before .before .put-u64 .ensures) in
     (search needs, more ∙ words-next (a .words .now) (b .loop .i) (a .at) (a .out .now) (omega arith))
 
--- src/lib.rt:367:1
 same-length : tie.Need-same-length Inv-loop μ-loop
 same-length c = ap length (c .before .loop .inv .1) ∙ length-written _ _ _
 
--- src/lib.rt:367:1
 returns : tie.Need-returns Inv-loop μ-loop
 returns c =
     let b = c .before in

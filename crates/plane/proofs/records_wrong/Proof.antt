@@ -1,41 +1,34 @@
 -- `plane::records_wrong` meets its contract: each part is looked at where nothing before it is wrong.
 -- Assumes nothing.
 use mathlib.Core.Path.{_≡_, sym, _∙_}
-use Prim.Native.Nat.{_≤_, _+_, _*_}
+use Prim.Native.Nat.{_+_, _*_}
 use native.Mathlib.Omega.{arith}
 use borrow.Author.Needs.{needs}
-use lib.ListN.{length, drop, length-drop}
+use lib.ListN.{drop, length-drop}
 use Rattle.plane.specs.declared.Wrong.the-variants.{Nowhere}
 use Rattle.plane.specs.Plane.{bucketsWrong, entriesWrong}
 use Rattle.plane.proofs.Scan.{buckets-room, entries-room}
 use Rattle.plane.proofs.records_wrong.Statement.{statement}
 use Rattle.plane.proofs.records_wrong.Tie as tie
 
--- src/lib.rt:212:43
 mul-entries-at : tie.Need-mul-entries-at
 mul-entries-at c = search needs
 
--- src/lib.rt:212:22
 add-entries-at : tie.Need-add-entries-at
 add-entries-at c = search needs
 
--- src/lib.rt:213:31
 mul-end-at : tie.Need-mul-end-at
 mul-end-at c = search needs
 
--- src/lib.rt:213:18
 add-end-at : tie.Need-add-end-at
 add-end-at c = search needs
 
--- src/lib.rt:214:9
 buckets-wrong-requires : tie.Need-buckets-wrong-requires
 buckets-wrong-requires c κs = search needs
 
--- src/lib.rt:216:19
 enum-known-b : tie.Need-enum-known-b
 enum-known-b c = search needs
 
--- src/lib.rt:218:17
 enum-told : tie.Need-enum-told
 enum-told c = search needs
 
@@ -48,11 +41,9 @@ entries-wrong-requires c κs =
     let a = c .before .before .before .before .args in
     omega (arith, buckets-room 8 (a .buckets) 5 (drop 5 (a .plane .now)) (right-buckets c), length-drop 5 (a .plane .now))
 
--- src/lib.rt:220:27
 enum-known-e : tie.Need-enum-known-e
 enum-known-e c = search needs
 
--- src/lib.rt:221:35
 enum-told-2 : tie.Need-enum-told-2
 enum-told-2 c = search needs
 
@@ -72,19 +63,16 @@ end-wrong-requires c κs =
       length-drop 5 (a .plane .now),
     )
 
--- src/lib.rt:208:1
 returns : tie.Need-returns
 returns c =
     let e = sym (c .before .before .before .buckets-wrong .ensures) ∙ c .before .b .given .1 in
     rw e
 
--- src/lib.rt:208:1
 returns-2 : tie.Need-returns-2
 returns-2 c =
     let e = sym (c .before .before .before .entries-wrong .ensures) ∙ c .before .e .given .1 in
     rw (right-buckets (c .before .before .before .before), e)
 
--- src/lib.rt:208:1
 returns-3 : tie.Need-returns-3
 returns-3 c = rw (right-buckets (c .before .before .before .before), right-entries (c .before)) (c .end-wrong .ensures)
 

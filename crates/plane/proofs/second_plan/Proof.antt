@@ -1,10 +1,10 @@
 -- `plane::second_plan` meets its contract.
 -- Assumes nothing.
-use mathlib.Core.Path.{_≡_, sym, ap, _∙_}
-use Prim.Native.Nat.{ℕ, _+_, _*_}
+use mathlib.Core.Path.{_≡_, sym, _∙_}
+use Prim.Native.Nat.{_+_, _*_}
 use native.Mathlib.Omega.{arith}
 use borrow.Author.Needs.{needs}
-use lib.ListN.{getD, drop, length-drop}
+use lib.ListN.{getD, length-drop}
 use Rattle.plane.specs.Plane.{planeFrom}
 use Rattle.plane.specs.Lookup.{levelPlan, secondPlan}
 use Rattle.plane.proofs.Scan.{rest, Known, known}
@@ -14,91 +14,69 @@ use Rattle.plane.proofs.second_plan.Tie as tie
 facts : (c : tie.Start) → Known 8 (c .args .plane .now)
 facts c = known 8 (c .args .plane .now) (c .pre)
 
--- src/lib.rt:320:40
 shared-slice-read-size : tie.Need-shared-slice-read-size
 shared-slice-read-size c = omega (arith, facts (c .before .before))
 
--- src/lib.rt:320:35
 size-requires : tie.Need-size-requires
 size-requires c κs = search needs
 
--- src/lib.rt:320:35
 mul-at : tie.Need-mul-at
 mul-at c = omega (arith, facts (c .before .before .before))
 
--- src/lib.rt:320:14
 add-at : tie.Need-add-at
 add-at c = omega (arith, facts (c .before .before .before))
 
--- src/lib.rt:321:27
 sub-level-plan : tie.Need-sub-level-plan
 sub-level-plan c = omega (arith, facts (c .before .before .before))
 
--- src/lib.rt:321:27
 part-level-plan-start : tie.Need-part-level-plan-start
 part-level-plan-start c = omega (arith, facts (c .before .before .before))
 
--- src/lib.rt:321:27
 part-level-plan-end : tie.Need-part-level-plan-end
 part-level-plan-end c = search needs
 
--- src/lib.rt:321:41
 shared-slice-read-level-plan : tie.Need-shared-slice-read-level-plan
 shared-slice-read-level-plan c = omega (arith, facts (c .before .before .before .before .before))
 
--- src/lib.rt:321:9
 level-plan-requires : tie.Need-level-plan-requires
 level-plan-requires c κs = rw (rest, length-drop) (omega (arith, facts (c .before .before .before .before .before)))
 
--- src/lib.rt:323:20
 enum-known-held : tie.Need-enum-known-held
 enum-known-held c = search needs
 
--- src/lib.rt:325:40
 enum-told : tie.Need-enum-told
 enum-told c = search needs
 
--- src/lib.rt:325:40
 shared-slice-read-size-2 : tie.Need-shared-slice-read-size-2
 shared-slice-read-size-2 c = omega (arith, facts (c .before .before .before .before .before .before .before .before .before))
 
--- src/lib.rt:325:35
 size-requires-2 : tie.Need-size-requires-2
 size-requires-2 c κs = search needs
 
--- src/lib.rt:325:35
 mul-entries-at : tie.Need-mul-entries-at
 mul-entries-at c = omega (arith, facts (c .before .before .before .before .before .before .before .before .before .before))
 
--- src/lib.rt:325:30
 add-entries-at : tie.Need-add-entries-at
 add-entries-at c = omega (arith, facts (c .before .before .before .before .before .before .before .before .before .before))
 
--- src/lib.rt:326:23
 sub-base-plan : tie.Need-sub-base-plan
 sub-base-plan c = omega (arith, facts (c .before .before .before .before .before .before .before .before .before .before))
 
--- src/lib.rt:326:23
 part-base-plan-start : tie.Need-part-base-plan-start
 part-base-plan-start c = omega (arith, facts (c .before .before .before .before .before .before .before .before .before .before))
 
--- src/lib.rt:326:23
 part-base-plan-end : tie.Need-part-base-plan-end
 part-base-plan-end c = search needs
 
--- src/lib.rt:326:50
 shared-slice-read-size-3 : tie.Need-shared-slice-read-size-3
 shared-slice-read-size-3 c = omega (arith, facts (c .before .before .before .before .before .before .before .before .before .before .before .before))
 
--- src/lib.rt:326:45
 size-requires-3 : tie.Need-size-requires-3
 size-requires-3 c κs = search needs
 
--- src/lib.rt:326:13
 base-plan-requires : tie.Need-base-plan-requires
 base-plan-requires c κs = rw (rest, length-drop) (omega (arith, facts (c .before .before .before .before .before .before .before .before .before .before .before .before .before)))
 
--- src/lib.rt:316:1
 level2 : (c : tie.After-level-plan) → c .level-plan .result
     ≡ levelPlan (planeFrom 8 (c .before .before .before .before .before .before .args .plane .now) .level2) (c .before .before .before .before .before .before .args .v)
 unfolding planeFrom
@@ -108,7 +86,6 @@ returns : tie.Need-returns
 unfolding secondPlan
 returns c = rw (sym (level2 (c .before .before .before)) ∙ c .before .held .given .1)
 
--- src/lib.rt:316:1
 returns-2 : tie.Need-returns-2
 unfolding secondPlan planeFrom
 returns-2 c =

@@ -6,19 +6,15 @@ use Rattle.plane.proofs.Read.{word-at}
 use Rattle.plane.proofs.solution.Statement.{statement}
 use Rattle.plane.proofs.solution.Tie as tie
 
--- src/lib.rt:263:27
 mul-get-u64 : tie.Need-mul-get-u64
 mul-get-u64 c = search needs
 
--- src/lib.rt:263:23
 add-get-u64 : tie.Need-add-get-u64
 add-get-u64 c = search needs
 
--- src/lib.rt:263:5
 get-u64-requires : tie.Need-get-u64-requires
 get-u64-requires c κs = search needs
 
--- src/lib.rt:259:1
 returns : tie.Need-returns
 returns c =
     let b = c .before .before in

@@ -1,11 +1,11 @@
 -- `plane::write_plane` meets its contract.
 -- Assumes nothing.
-use mathlib.Core.Path.{_≡_, ap, _∙_}
+use mathlib.Core.Path.{ap, _∙_}
 use native.Mathlib.Omega.{arith}
 use borrow.Author.Needs.{needs}
 use lib.ListN.{length}
 use Rattle.codec.proofs.Part.{length-written}
-use Rattle.plane.proofs.Statements.{Known, known}
+use Rattle.plane.proofs.Accepted.{Known, known}
 use Rattle.plane.proofs.Through.{bounds-low, plans-low, front-put}
 use Rattle.plane.proofs.write_plane.Statement.{statement}
 use Rattle.plane.proofs.write_plane.Tie as tie
@@ -13,55 +13,43 @@ use Rattle.plane.proofs.write_plane.Tie as tie
 facts : (c : tie.After-shared-slice-known) → Known (c .before .args .t .now)
 facts c = known (c .before .args .t .now) (λ i. c .shared-slice-known .given i .fits) (c .before .pre .0) (c .before .pre .1)
 
--- src/lib.rt:470:21
 shared-slice-read-put-header : tie.Need-shared-slice-read-put-header
 shared-slice-read-put-header c = omega (arith, facts (c .before .before .before))
 
--- src/lib.rt:470:27
 shared-slice-read-put-header-2 : tie.Need-shared-slice-read-put-header-2
 shared-slice-read-put-header-2 c = omega (arith, facts (c .before .before .before .before))
 
--- src/lib.rt:470:33
 shared-slice-read-put-header-3 : tie.Need-shared-slice-read-put-header-3
 shared-slice-read-put-header-3 c = omega (arith, facts (c .before .before .before .before .before))
 
--- src/lib.rt:470:5
 put-header-requires : tie.Need-put-header-requires
 put-header-requires c κs = omega (arith, facts (c .before .before .before .before .before))
 
--- src/lib.rt:471:26
 shared-slice-read-put-records : tie.Need-shared-slice-read-put-records
 shared-slice-read-put-records c = omega (arith, facts (c .before .before .before .before .before .before .before .before .before .before))
 
--- src/lib.rt:471:33
 shared-slice-read-put-records-2 : tie.Need-shared-slice-read-put-records-2
 shared-slice-read-put-records-2 c = omega (arith, facts (c .before .before .before .before .before .before .before .before .before .before .before))
 
--- src/lib.rt:471:26
 add-put-records : tie.Need-add-put-records
 add-put-records c = omega (arith, facts (c .before .before .before .before .before .before .before .before .before .before .before))
 
--- src/lib.rt:471:49
 shared-slice-read-put-records-3 : tie.Need-shared-slice-read-put-records-3
 shared-slice-read-put-records-3 c = omega (arith, facts (c .before .before .before .before .before .before .before .before .before .before .before .before))
 
--- src/lib.rt:471:5
 put-records-requires : tie.Need-put-records-requires
 put-records-requires c κs =
     let g = c .before .before .before .before .before .before .before .before .before .before .before .before in
     let f = facts g in
     let t = g .before .args .t .now in
-    let l = ap length (c .before .before .before .before .before .before .put-header .ensures) ∙ length-written 0 _ (g .before .args .out .now) in
-    (
+    let l = ap length (c .before .before .before .before .before .before .put-header .ensures) ∙ length-written 0 _ (g .before .args .out .now) in (
       (omega arith, omega (arith, l, g .before .pre .2)),
       (λ i k. omega (arith, bounds-low 64 8 t (f .fits) i k), λ i k. plans-low 64 8 t (f .fits) i k),
     )
 
--- src/lib.rt:466:1
 same-length : tie.Need-same-length
 same-length c = search needs
 
--- src/lib.rt:466:1
 returns : tie.Need-returns
 returns c =
     let a = c .before .before .before .before .before .before .before .before .before .before .before .before .before .before .before .before in

@@ -7,7 +7,7 @@ use lib.ListN.{length}
 use Rattle.concrete.specs.Calls.{tableOf}
 use Rattle.plane.specs.Plane.{planeBytes}
 use Rattle.plane.specs.Write.{planeOf}
-use Rattle.plane.proofs.Statements.{Known, known}
+use Rattle.plane.proofs.Accepted.{Known, known}
 use Rattle.plane.proofs.Through.{put-short, put-fits}
 use Rattle.plane.proofs.write_sound.Statement.{statement}
 use Rattle.plane.proofs.write_sound.Tie as tie
@@ -15,23 +15,18 @@ use Rattle.plane.proofs.write_sound.Tie as tie
 facts : (c : tie.After-shared-slice-known) → Known (c .before .args .t .now)
 facts c = known (c .before .args .t .now) (λ i. c .shared-slice-known .given i .fits) (c .before .pre .0) (c .before .pre .1)
 
--- src/lib.rt:487:28
 shared-slice-read-plane-len : tie.Need-shared-slice-read-plane-len
 shared-slice-read-plane-len c = omega (arith, facts (c .before .before))
 
--- src/lib.rt:487:35
 shared-slice-read-plane-len-2 : tie.Need-shared-slice-read-plane-len-2
 shared-slice-read-plane-len-2 c = omega (arith, facts (c .before .before .before))
 
--- src/lib.rt:487:28
 add-plane-len : tie.Need-add-plane-len
 add-plane-len c = omega (arith, facts (c .before .before .before))
 
--- src/lib.rt:487:41
 shared-slice-read-plane-len-3 : tie.Need-shared-slice-read-plane-len-3
 shared-slice-read-plane-len-3 c = omega (arith, facts (c .before .before .before .before))
 
--- src/lib.rt:487:9
 plane-len-requires : tie.Need-plane-len-requires
 plane-len-requires c κs = omega (arith, facts (c .before .before .before .before))
 
@@ -39,23 +34,19 @@ plane-len-requires c κs = omega (arith, facts (c .before .before .before .befor
 needed : (c : tie.After-plane-len) → c .plane-len .result ≡ length (planeBytes (planeOf (tableOf (c .before .before .before .before .before .before .args .t .now))))
 needed c = c .plane-len .ensures ∙ sym (facts (c .before .before .before .before .before) .long)
 
--- src/lib.rt:489:9
 returns : tie.Need-returns
 returns c =
     let a = c .before .before .before .before .before .before .before .args in
     put-short (planeBytes (planeOf (tableOf (a .t .now)))) (a .out .now) (c .before .plane-len .result) (needed (c .before)) (c .if1 .taken)
 
--- src/lib.rt:491:5
 write-plane-requires : tie.Need-write-plane-requires
 write-plane-requires c κs =
     let g = c .before .before .before .before .before .before .before .before in
     (g .pre .0, g .pre .1, omega (arith, needed (c .before .before)))
 
--- src/lib.rt:483:1
 same-length : tie.Need-same-length
 same-length c = search needs
 
--- src/lib.rt:483:1
 returns-2 : tie.Need-returns-2
 returns-2 c =
     let a = c .before .before .before .before .before .before .before .before .before .before .before .args in

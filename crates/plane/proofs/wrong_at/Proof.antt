@@ -9,11 +9,9 @@ use Rattle.plane.proofs.Scan.{refused, passed, Header, header}
 use Rattle.plane.proofs.wrong_at.Statement.{statement}
 use Rattle.plane.proofs.wrong_at.Tie as tie
 
--- src/lib.rt:237:9
 header-fits-requires : tie.Need-header-fits-requires
 header-fits-requires c κs = search needs
 
--- src/lib.rt:238:9
 returns : tie.Need-returns
 unfolding wrongAt
 returns c = rw (refused _ (c .before .header-fits .ensures) (c .if1 .taken))
@@ -24,39 +22,30 @@ fits c = passed (c .before .header-fits .result) (c .before .header-fits .ensure
 known : (c : tie.Else1) → Header (c .before .before .before .args .plane .now)
 known c = header _ (fits c)
 
--- src/lib.rt:240:31
 shared-slice-read-size : tie.Need-shared-slice-read-size
 shared-slice-read-size c = omega (arith, known (c .before))
 
--- src/lib.rt:240:26
 size-requires : tie.Need-size-requires
 size-requires c κs = search needs
 
--- src/lib.rt:240:48
 shared-slice-read-size-2 : tie.Need-shared-slice-read-size-2
 shared-slice-read-size-2 c = omega (arith, known (c .before .before .before))
 
--- src/lib.rt:240:43
 size-requires-2 : tie.Need-size-requires-2
 size-requires-2 c κs = search needs
 
--- src/lib.rt:240:26
 add-records-wrong : tie.Need-add-records-wrong
 add-records-wrong c = omega (arith, known (c .before .before .before .before))
 
--- src/lib.rt:240:64
 shared-slice-read-size-3 : tie.Need-shared-slice-read-size-3
 shared-slice-read-size-3 c = omega (arith, known (c .before .before .before .before .before))
 
--- src/lib.rt:240:59
 size-requires-3 : tie.Need-size-requires-3
 size-requires-3 c κs = search needs
 
--- src/lib.rt:240:5
 records-wrong-requires : tie.Need-records-wrong-requires
 records-wrong-requires c κs = omega (arith, known (c .before .before .before .before .before .before))
 
--- src/lib.rt:234:1
 returns-2 : tie.Need-returns-2
 unfolding wrongAt
 returns-2 c =
