@@ -26,7 +26,7 @@ pub struct Tried {
 }
 
 // The parity of ones in (k AND c).
-pub(crate) fn dot(k: u64, c: u64) -> u64
+pub fn dot(k: u64, c: u64) -> u64
     ensures { λ r. ⌜ r ≡ dot k c ⌝ }
 {
     (u64::count_ones(k & c) % 2) as u64

@@ -1,0 +1,104 @@
+-- Things read from bytes one after the other: how many, each by its place, and the loops that look for one.
+-- Assumes nothing.
+use mathlib.Core.Path.{_≡_, refl, sym, ap, _∙_}
+use mathlib.Core.List.{List, [], _∷_, _++_}
+use mathlib.Core.Option.{some}
+use Prim.Native.Nat.{ℕ, zero, suc, _+_, _-_, _*_, _/_, _≤_, _<_}
+use native.Mathlib.Nat.{suc-mul, zero-mul, zero-add, suc-add, add-comm, mod-lt, not-suc-le-zero, le-of-suc-le-suc}
+use native.Mathlib.Numerals.{sub-one}
+use native.Mathlib.Omega.{arith}
+use borrow.Author.Tests.{lt-ltb, le-ltb, eq-eqb, ne-eqb}
+use lib.Dec.{lit<, lit≤}
+use lib.ListN.{length, getD, take, drop}
+use lib.Seq.{drop-drop, take-take, getD-take, take-nil}
+use Rattle.lists.specs.Entries.{find}
+use Rattle.gf2.specs.Vectors.{product}
+use Rattle.hash.specs.Mix.{mixOf}
+use Rattle.identifier.specs.Place.{thresholdAt, bucketAt}
+use Rattle.plane.specs.declared.Held.the-variants.{Plan, Passed}
+use Rattle.plane.specs.Record.{readAll, wordBytes, wordFrom, bucketFrom, entryFrom, bucketLength, entryLength}
+use Rattle.plane.specs.Lookup.{bucketOf, levelPlan}
+
+pub drop-more : (m size : ℕ) (p : List ℕ) → drop (suc m * size) p ≡ drop (m * size) (drop size p)
+drop-more m size p = ap (λ (k : ℕ). drop k p) (suc-mul m size ∙ add-comm (m * size) size) ∙ sym (drop-drop (m * size) size p)
+
+module _ {A : Type 0} (size : ℕ) (read : List ℕ → A) where
+  pub length-readAll : (m : ℕ) (p : List ℕ) → length (readAll size read m p) ≡ m
+  unfolding readAll
+  length-readAll zero p = refl
+  length-readAll (suc m) p = ap suc (length-readAll m (drop size p))
+
+  pub getD-readAll : (m i : ℕ) (p : List ℕ) (d : A) → i < m → getD (readAll size read m p) i d ≡ read (drop (i * size) p)
+  unfolding readAll
+  getD-readAll zero i p d h = absurd (not-suc-le-zero h)
+  getD-readAll (suc m) zero p d h = ap (λ (k : ℕ). read (drop k p)) {x = 0} {y = 0 * size} (omega arith)
+  getD-readAll (suc m) (suc i) p d h =
+      getD-readAll m i (drop size p) d (le-of-suc-le-suc h)
+      ∙ ap read (drop-drop (i * size) size p ∙ ap (λ (k : ℕ). drop k p) (sym (suc-mul i size ∙ add-comm (i * size) size)))
+
+  -- more of them
+  pub read-add : (a b : ℕ) (p : List ℕ) → readAll size read (a + b) p ≡ readAll size read a p ++ readAll size read b (drop (a * size) p)
+  unfolding readAll
+  read-add zero b p = rw (zero-add, zero-mul)
+  read-add (suc a) b p = rw (suc-add, read-add a b (drop size p), drop-more a size p)
+
+-- ---- a record in a part of just its bytes
+
+drop-take : (n m : ℕ) (l : List ℕ) → drop n (take (n + m) l) ≡ take m (drop n l)
+drop-take zero m l = rw zero-add
+drop-take (suc n) m [] = rw (take-nil (suc n + m), take-nil m)
+drop-take (suc n) m (x ∷ l) = rw suc-add (drop-take n m l)
+
+part-words : (r : ℕ) (p : List ℕ) → readAll wordBytes wordFrom r (take (wordBytes * r) p) ≡ readAll wordBytes wordFrom r p
+unfolding readAll
+part-words zero p = refl
+part-words (suc r) p =
+    let more : wordBytes * suc r ≡ wordBytes + wordBytes * r = omega arith in
+    rw (more, take-take wordBytes (wordBytes + wordBytes * r) p (omega arith), drop-take wordBytes (wordBytes * r) p, part-words r (drop wordBytes p))
+
+pub bucket-part : (r at : ℕ) (p : List ℕ) → bucketFrom r (take (at + (bucketLength r) - at) (drop at p)) ≡ bucketFrom r (drop at p)
+bucket-part r at p =
+    let size : at + (bucketLength r) - at ≡ 2 + wordBytes * r = omega arith in
+    rw (size, getD-take (2 + wordBytes * r) (drop at p) 1 0 (omega arith), drop-take 2 (wordBytes * r) (drop at p), part-words r (drop 2 (drop at p)))
+
+pub entry-part : (at : ℕ) (p : List ℕ) → entryFrom (take (at + entryLength - at) (drop at p)) ≡ entryFrom (drop at p)
+entry-part at p =
+    let ten : at + entryLength - at ≡ entryLength = omega arith in
+    rw ten (go (drop at p))
+  where
+    go : (q : List ℕ) → entryFrom (take entryLength q) ≡ entryFrom q
+    go [] = refl
+    go (x ∷ q) = rw (take-take 8 9 q (lit≤ tt), getD-take 9 q 8 0 (lit< tt))
+
+-- solution word i of a bucket of r
+pub word-at : (r i : ℕ) (p : List ℕ) → i < r → wordFrom (drop (2 + i * wordBytes) p) ≡ getD (bucketFrom r p .sols) i 0
+word-at r i p h = sym (getD-readAll wordBytes wordFrom r i (drop 2 p) 0 h ∙ ap wordFrom (drop-drop (i * wordBytes) 2 p))
+
+-- the entry in front, of `left` ones, has the word v, or another word w
+pub find-here : (v left w : ℕ) (p : List ℕ) → 0 < left → w ≡ entryFrom p .word → w ≡ v
+    → find v (readAll entryLength entryFrom left p) ≡ some (entryFrom p .plan)
+unfolding readAll
+find-here v zero w p h e i = absurd (omega arith)
+find-here v (suc k) w p h e i = rw (eq-eqb v (entryFrom p .word) (sym i ∙ e))
+
+pub find-next : (v left at w : ℕ) (p : List ℕ) → 0 < left → w ≡ entryFrom (drop at p) .word → (w ≡ v → ⊥)
+    → find v (readAll entryLength entryFrom left (drop at p)) ≡ find v (readAll entryLength entryFrom (left - 1) (drop (at + entryLength) p))
+unfolding readAll
+find-next v zero at w p h e i = absurd (omega arith)
+find-next v (suc k) at w p h e i = rw (ne-eqb v (entryFrom (drop at p) .word) (λ j. i (e ∙ sym j)), drop-drop entryLength at p, sub-one)
+
+-- the bucket of v, of a level of m
+pub level-bucket : (r m v : ℕ) (p : List ℕ) → 0 < m
+    → bucketOf (readAll (bucketLength r) (bucketFrom r) m p) v ≡ bucketFrom r (drop (bucketAt m (mixOf v) * (bucketLength r)) p)
+level-bucket r m v p h =
+    rw (length-readAll (bucketLength r) (bucketFrom r) m p)
+    (getD-readAll (bucketLength r) (bucketFrom r) m (bucketAt m (mixOf v)) p (record { bound = 0; sols = [] }) (mod-lt (mixOf v / 8) h))
+
+module _ (r m v at : ℕ) (p : List ℕ) (some : 0 < m) (e : at ≡ bucketAt m (mixOf v) * (bucketLength r)) where
+  pub level-held : thresholdAt (mixOf v) < getD (drop at p) 1 0 → levelPlan (readAll (bucketLength r) (bucketFrom r) m p) v ≡ Plan (product (bucketFrom r (drop at p) .sols) v)
+  unfolding levelPlan
+  level-held h = rw (level-bucket r m v p some, ← e, lt-ltb (thresholdAt (mixOf v)) (getD (drop at p) 1 0) h)
+
+  pub level-passed : getD (drop at p) 1 0 ≤ thresholdAt (mixOf v) → levelPlan (readAll (bucketLength r) (bucketFrom r) m p) v ≡ Passed
+  unfolding levelPlan
+  level-passed h = rw (level-bucket r m v p some, ← e, le-ltb (thresholdAt (mixOf v)) (getD (drop at p) 1 0) h)

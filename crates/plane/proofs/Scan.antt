@@ -1,0 +1,218 @@
+-- What the loops over the records of a plane ask for: a record that fits, one that does not, and none left.
+-- Assumes nothing.
+use mathlib.Core.Path.{_≡_, refl, sym, _∙_}
+use mathlib.Core.Bool.{Bool, true, false, cond, not, _&&_}
+use mathlib.Core.List.{List}
+use Prim.Native.Nat.{ℕ, zero, suc, _+_, _-_, _*_, _≤_, _<_}
+use native.Mathlib.Nat.{suc-mul}
+use native.Mathlib.Numerals.{sub-one}
+use native.Mathlib.Omega.{arith}
+use borrow.Author.Tests.{not-true, not-false, leb-true, eqb-true, le-leb, lt-leb, eq-eqb, ne-eqb}
+use lib.Dec.{leb, eqb}
+use lib.ListN.{length, getD, take, drop, length-drop}
+use lib.Seq.{take-all, drop-drop}
+use Rattle.lists.proofs.Tests.{true→T}
+use Rattle.model.specs.Model.{baseLimit}
+use Rattle.concrete.specs.Layout.{inRange, mostBuckets1, mostBuckets2}
+use Rattle.plane.specs.declared.Wrong.{Wrong}
+use Rattle.plane.specs.declared.Wrong.the-variants.{Nowhere, At}
+use Rattle.plane.specs.Record.{headerKind, headerBody, format, bucketKind, bucketBody, entryKind, entryBody, entryFrom, bucketLength, entryLength, endLength}
+use Rattle.plane.specs.Plane.{whole, headerFits, bucketFits, bucketsWrong, entryFits, entriesWrong, endFits, endWrong, orNext, recordsWrong, wrongAt, bucketsAt, entriesAt, endAt, planeLength}
+
+-- two tests that hold
+pub both : (a b : Bool) → (a && b) ≡ true → (a ≡ true) × (b ≡ true)
+both true b e = (refl, e)
+both false b e = absurd (true→T e)
+
+at-nowhere : {at : ℕ} → At at ≡ Nowhere → ⊥
+at-nowhere e = let z : _≡_ {A = ℕ} 0 1 = cc in omega arith
+
+-- a record that is right, and nothing wrong after it
+pub right : (b : Bool) (x : Wrong) (at : ℕ) → cond b x (At at) ≡ Nowhere → (b ≡ true) × (x ≡ Nowhere)
+right true x at e = (refl, e)
+right false x at e = absurd (at-nowhere e)
+
+-- what `if !t` says of a test t that is b
+pub refused : (t : Bool) {b : Bool} → t ≡ b → not t ≡ true → b ≡ false
+refused t e h = sym e ∙ not-true t h
+
+pub passed : (t : Bool) {b : Bool} → t ≡ b → not t ≡ false → b ≡ true
+passed t e h = sym e ∙ not-false t h
+
+-- the rest of a slice
+pub rest : (at : ℕ) (p : List ℕ) → take (length p - at) (drop at p) ≡ drop at p
+rest at p = take-all (length p - at) (drop at p) (rw length-drop (omega arith))
+
+pub whole-cut : (kind body : ℕ) (p : List ℕ) → length p ≤ body → whole kind body p ≡ false
+whole-cut kind body p h = rw (lt-leb (1 + body) (length p) (omega arith))
+
+pub whole-kind : (kind body : ℕ) (p : List ℕ) → body < length p → whole kind body p ≡ eqb (getD p 0 0) kind
+whole-kind kind body p h = rw (le-leb (1 + body) (length p) (omega arith))
+
+-- a record that is there is not cut
+pub whole-length : (kind body : ℕ) (p : List ℕ) → whole kind body p ≡ true → body < length p
+whole-length kind body p e = omega (arith, leb-true (1 + body) (length p) (both (leb (1 + body) (length p)) _ e .0))
+
+-- so the next one starts within the bytes
+pub whole-next : (kind body at : ℕ) (p : List ℕ) → whole kind body (drop at p) ≡ true → at + (1 + body) ≤ length p
+whole-next kind body at p e =
+    let h : body < length p - at = rw length-drop at (whole-length kind body (drop at p) e) in
+    omega arith
+
+module _ (r : ℕ) where
+  pub buckets-step : (left at : ℕ) (p : List ℕ) → 0 < left → bucketFits r (drop at p) ≡ true
+      → bucketsWrong r left at (drop at p) ≡ bucketsWrong r (left - 1) (at + (bucketLength r)) (drop (at + (bucketLength r)) p)
+  unfolding bucketsWrong
+  buckets-step zero at p h e = absurd (omega arith)
+  buckets-step (suc m) at p h e = rw (e, drop-drop, sub-one)
+
+  pub buckets-here : (left at : ℕ) (p : List ℕ) → 0 < left → bucketFits r p ≡ false → bucketsWrong r left at p ≡ At at
+  unfolding bucketsWrong
+  buckets-here zero at p h e = absurd (omega arith)
+  buckets-here (suc m) at p h e = rw e
+
+  -- one that fits, and nothing wrong after it
+  pub buckets-next : (m at : ℕ) (p : List ℕ) → bucketFits r p ≡ true → bucketsWrong r m (at + (bucketLength r)) (drop (bucketLength r) p) ≡ Nowhere
+      → bucketsWrong r (suc m) at p ≡ Nowhere
+  unfolding bucketsWrong
+  buckets-next m at p e f = rw (e, f)
+
+  -- m buckets that fit are there
+  pub buckets-room : (m at : ℕ) (p : List ℕ) → bucketsWrong r m at p ≡ Nowhere → m * (bucketLength r) ≤ length p
+  unfolding bucketsWrong
+  buckets-room zero at p e = omega arith
+  buckets-room (suc m) at p e =
+      let f : (bucketFits r p ≡ true) × (bucketsWrong r m (at + (bucketLength r)) (drop (bucketLength r) p) ≡ Nowhere) = right (bucketFits r p) _ at e in
+      let n : bucketBody r < length p = whole-length bucketKind (bucketBody r) p (both (whole bucketKind (bucketBody r) p) _ (f .0) .0) in
+      let i : m * (bucketLength r) ≤ length p - (bucketLength r) = rw length-drop at (buckets-room m _ _ (f .1)) in
+      rw (suc-mul m (bucketLength r)) (omega arith)
+
+-- a base entry that is cut, one whose word w is too small, and one that fits
+pub entries-cut : (least left at : ℕ) (p : List ℕ) → 0 < left → whole entryKind entryBody p ≡ false → entriesWrong least left at p ≡ At at
+unfolding entriesWrong
+entries-cut least zero at p h e = absurd (omega arith)
+entries-cut least (suc k) at p h e = rw e
+
+pub entries-low : (least left at w : ℕ) (p : List ℕ) → 0 < left → whole entryKind entryBody p ≡ true → w ≡ entryFrom p .word → w < least
+    → entriesWrong least left at p ≡ At at
+unfolding entriesWrong
+entries-low least zero at w p h e i l = absurd (omega arith)
+entries-low least (suc k) at w p h e i l = rw (e, ← i, lt-leb least w l)
+
+pub entries-step : (least left at w : ℕ) (p : List ℕ) → 0 < left → whole entryKind entryBody (drop at p) ≡ true → w ≡ entryFrom (drop at p) .word → least ≤ w
+    → entriesWrong least left at (drop at p) ≡ entriesWrong (suc w) (left - 1) (at + entryLength) (drop (at + entryLength) p)
+unfolding entriesWrong
+entries-step least zero at w p h e i l = absurd (omega arith)
+entries-step least (suc k) at w p h e i l = rw (e, ← i, le-leb least w l, drop-drop entryLength at p, sub-one)
+
+pub entries-next : (least k at : ℕ) (p : List ℕ) → entryFits least p ≡ true → entriesWrong (suc (entryFrom p .word)) k (at + entryLength) (drop entryLength p) ≡ Nowhere
+    → entriesWrong least (suc k) at p ≡ Nowhere
+unfolding entriesWrong
+entries-next least k at p e f = rw (e, f)
+
+pub entries-room : (least k at : ℕ) (p : List ℕ) → entriesWrong least k at p ≡ Nowhere → k * entryLength ≤ length p
+unfolding entriesWrong
+entries-room least zero at p e = omega arith
+entries-room least (suc k) at p e =
+    let f = right (entryFits least p) (entriesWrong (suc (entryFrom p .word)) k (at + entryLength) (drop entryLength p)) at e in
+    let n : entryBody < length p = whole-length entryKind entryBody p (both (whole entryKind entryBody p) _ (f .0) .0) in
+    let i : k * entryLength ≤ length p - entryLength = rw length-drop at (entries-room _ k _ _ (f .1)) in
+    omega arith
+
+-- the end: not there, with bytes after it, and right
+module _ (at : ℕ) (p : List ℕ) where
+  pub end-cut : endFits p ≡ false → endWrong at p ≡ At at
+  end-cut e = rw e
+
+  pub end-more : endFits p ≡ true → (length p ≡ endLength → ⊥) → endWrong at p ≡ At (at + endLength)
+  end-more e h = rw (e, ne-eqb (length p) endLength h)
+
+  pub end-right : endFits p ≡ true → length p ≡ endLength → endWrong at p ≡ Nowhere
+  end-right e h = rw (e, eq-eqb (length p) endLength h)
+
+-- what a header that fits says
+pub record Header (p : List ℕ) : Type 0 where
+  pub there : 4 < length p
+  pub some1 : 1 ≤ getD p 2 0
+  pub most1 : getD p 2 0 ≤ mostBuckets1
+  pub some2 : 1 ≤ getD p 3 0
+  pub most2 : getD p 3 0 ≤ mostBuckets2
+  pub entries : getD p 4 0 ≤ baseLimit
+
+pub header : (p : List ℕ) → headerFits p ≡ true → Header p
+header p e =
+    let a = both (whole headerKind headerBody p) _ e in
+    let b = both (eqb (getD p 1 0) format) _ (a .1) in
+    let c = both (inRange (getD p 2 0) (getD p 3 0)) _ (b .1) in
+    let d = both (leb 1 (getD p 2 0) && leb (getD p 2 0) mostBuckets1) _ (c .0) in
+    let d1 = both (leb 1 (getD p 2 0)) _ (d .0) in
+    let d2 = both (leb 1 (getD p 3 0)) _ (d .1) in
+    record {
+      there = whole-length headerKind headerBody p (a .0);
+      some1 = leb-true 1 _ (d1 .0);
+      most1 = leb-true _ mostBuckets1 (d1 .1);
+      some2 = leb-true 1 _ (d2 .0);
+      most2 = leb-true _ mostBuckets2 (d2 .1);
+      entries = leb-true _ baseLimit (c .1);
+    }
+
+-- the first of two that is wrong is nowhere
+pub next : (a o : Wrong) → orNext a o ≡ Nowhere → (a ≡ Nowhere) × (o ≡ Nowhere)
+next Nowhere o e = (refl, e)
+next (At at) o e = absurd (at-nowhere e)
+
+-- the numbers of buckets and base entries that a header gives
+abbrev pub bucketCount : List ℕ → ℕ
+bucketCount p = getD p 2 0 + getD p 3 0
+
+abbrev pub entryCount : List ℕ → ℕ
+entryCount p = getD p 4 0
+
+-- where the entries and the end start by it
+abbrev pub entriesIn : ℕ → List ℕ → ℕ
+entriesIn r p = entriesAt r (bucketCount p)
+
+abbrev pub endIn : ℕ → List ℕ → ℕ
+endIn r p = endAt r (bucketCount p) (entryCount p)
+
+-- a plane that is wrong nowhere, part by part
+module _ (r : ℕ) (p : List ℕ) where
+  pub record Right : Type 0 where
+    pub header : headerFits p ≡ true
+    pub buckets : bucketsWrong r (bucketCount p) bucketsAt (drop bucketsAt p) ≡ Nowhere
+    pub entries : entriesWrong 0 (entryCount p) (entriesIn r p) (drop (entriesIn r p) p) ≡ Nowhere
+    pub end : endFits (drop (endIn r p) p) ≡ true
+    pub nothing : length (drop (endIn r p) p) ≡ endLength
+
+  pub nowhere : Right → wrongAt r p ≡ Nowhere
+  unfolding wrongAt
+  nowhere h = rw (h .header, h .buckets, h .entries, h .end, h .nothing)
+
+  pub parts : wrongAt r p ≡ Nowhere → Right
+  unfolding wrongAt
+  parts e =
+      let q : List ℕ = drop (endIn r p) p in
+      let h = right (headerFits p) (recordsWrong r (bucketCount p) (entryCount p) p) 0 e in
+      let n1 = next (bucketsWrong r (bucketCount p) bucketsAt (drop bucketsAt p)) _ (h .1) in
+      let n2 = next (entriesWrong 0 (entryCount p) (entriesIn r p) (drop (entriesIn r p) p)) _ (n1 .1) in
+      let f = right (endFits q) (cond (eqb (length q) endLength) Nowhere (At (endIn r p + endLength))) (endIn r p) (n2 .1) in
+      record {
+        header = h .0;
+        buckets = n1 .0;
+        entries = n2 .0;
+        end = f .0;
+        nothing = eqb-true (length q) endLength (right (eqb (length q) endLength) Nowhere _ (f .1) .0);
+      }
+
+  pub right-length : Right → length p ≡ planeLength r (bucketCount p) (entryCount p)
+  right-length h =
+      let e : length p - endIn r p ≡ endLength = rw length-drop at (h .nothing) in
+      omega arith
+
+  -- what a right plane's header and length say
+  pub record Known : Type 0 where
+    pub header : Header p
+    pub whole : length p ≡ planeLength r (bucketCount p) (entryCount p)
+
+  pub known : wrongAt r p ≡ Nowhere → Known
+  known e = record { header = header p (parts e .header); whole = right-length (parts e) }

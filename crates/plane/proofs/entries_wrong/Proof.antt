@@ -1,0 +1,75 @@
+-- `plane::entries_wrong` meets its contract.
+-- Assumes nothing.
+use mathlib.Core.Path.{_≡_, sym, _∙_}
+use mathlib.Core.Bool.{true}
+use native.Mathlib.Omega.{arith}
+use borrow.Author.Needs.{needs}
+use lib.ListN.{drop}
+use Rattle.plane.specs.Record.{entryKind, entryBody}
+use Rattle.plane.specs.Plane.{whole, entriesWrong}
+use Rattle.plane.proofs.Scan.{rest, refused, passed, whole-next, entries-cut, entries-step}
+use Rattle.plane.proofs.entries_wrong.Statement.{statement}
+use Rattle.plane.proofs.entries_wrong.Tie as tie
+
+returns : tie.Need-returns
+unfolding entriesWrong
+returns c = rw (c .if1 .taken)
+
+sub-p : tie.Need-sub-p
+sub-p c = search needs
+
+part-p-start : tie.Need-part-p-start
+part-p-start c = search needs
+
+part-p-end : tie.Need-part-p-end
+part-p-end c = search needs
+
+whole-requires : tie.Need-whole-requires
+whole-requires c κs = search needs
+
+returns-2 : tie.Need-returns-2
+returns-2 c =
+    let a = c .before .before .before .before .before .args in
+    let cut = rw (rest (a .first) (a .plane .now)) at (refused (c .before .whole .result) (c .before .whole .ensures) (c .if2 .taken)) in
+    sym (entries-cut 0 (a .k) (a .first) (drop (a .first) (a .plane .now)) (omega arith) cut)
+
+-- the first entry is not cut
+there : (c : tie.Else2) → whole entryKind entryBody (drop (c .before .before .before .before .before .args .first) (c .before .before .before .before .before .args .plane .now)) ≡ true
+there c = rw rest at (passed (c .before .whole .result) (c .before .whole .ensures) (c .if2 .left))
+
+add-entries-after : tie.Need-add-entries-after
+add-entries-after c = search needs
+
+sub-entries-after : tie.Need-sub-entries-after
+sub-entries-after c = search needs
+
+entry-word-requires : tie.Need-entry-word-requires
+entry-word-requires c κs = search needs
+
+entries-after-requires : tie.Need-entries-after-requires
+entries-after-requires c κs =
+    let a = c .before .before .before .before .before .before .args in
+    whole-next 3 9 (a .first) (a .plane .now) (there (c .before))
+
+returns-3 : tie.Need-returns-3
+returns-3 c =
+    let a = c .before .before .before .before .before .before .before .args in
+    let word = rw (rest (a .first) (a .plane .now)) at (c .before .entry-word .ensures) in
+    c .entries-after .ensures
+    ∙ sym (entries-step 0 (a .k) (a .first) (c .before .entry-word .result) (a .plane .now) (omega arith) (there (c .before .before)) word (omega arith))
+
+pub entries-wrong-spec : {M : Type 1} → statement M
+entries-wrong-spec =
+    tie.close
+    (tie.spec
+    returns
+    sub-p
+    part-p-start
+    part-p-end
+    whole-requires
+    returns-2
+    add-entries-after
+    sub-entries-after
+    entry-word-requires
+    entries-after-requires
+    returns-3)

@@ -1,0 +1,7 @@
+-- The definitions that the contracts of the crate cite.
+pub mod Record
+pub mod Plane
+pub mod Lookup
+pub mod Write
+pub mod Steps
+pub mod Fits
