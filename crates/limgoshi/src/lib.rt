@@ -5,7 +5,7 @@ ghost use mathlib.Core.Path.{_≡_};
 ghost use Rattle.answer.specs.Numbers.{numberOf, valueOf};
 ghost use Rattle.model.specs.Model.{change, withdraw, query};
 ghost use Rattle.concrete.specs.Calls.{openCall, call};
-ghost use Rattle.plane.specs.Calls.{lookupCall};
+ghost use Rattle.plane.specs.Lookup.{lookupCall};
 
 // Opens an empty table with b1 and b2 buckets.
 #[no_mangle]
