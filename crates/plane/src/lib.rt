@@ -21,7 +21,7 @@ ghost use Rattle.plane.specs.declared.Wrong.the-variants.{Nowhere};
 ghost use Rattle.plane.specs.Record.{bytesOf, readAll, bucketLength, entryLength, endLength, headerRecord, bucketRecord, bucketFrom, entryRecord, entryFrom, endRecord};
 ghost use Rattle.plane.specs.Plane.{planeBytes, bucketsAt, planeLength, whole, headerFits, bucketFits, bucketsWrong, entriesWrong, endFits, endWrong, recordsWrong, wrongAt, planeFrom};
 ghost use Rattle.concrete.specs.Calls.{rows, solutions, tableOf, shaped, sound};
-ghost use Rattle.plane.specs.Write.{planeOf, inFront, putFront};
+ghost use Rattle.plane.specs.Write.{planeOf, inFront, putFront, writeCall};
 ghost use Rattle.plane.specs.Steps.{seenFrom, pairFrom, recordsOf};
 ghost use Rattle.plane.specs.Lookup.{orStranger, levelPlan, secondPlan, planFrom, looked, lookupCall};
 

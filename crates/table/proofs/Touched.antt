@@ -17,11 +17,7 @@ use Rattle.bucket.specs.Words.{bucketWords, wordsOf, bucketFrom}
 use Rattle.settle.specs.Settle.{planOf}
 use Rattle.concrete.specs.Table.{Table, second, index, put, bucketOf, holds, planIn, touch}
 use Rattle.concrete.specs.Layout.{basePairs, pairsFrom, numbersOf, tableFrom, bucketPlace}
-<<<<<<< HEAD
-use Rattle.concrete.proofs.Numbers.{ShapedTable, Laid, header-read, from-part, write-first, write-second, write-base, forth}
-=======
 use Rattle.concrete.proofs.Numbers.{ShapedTable, Laid, write-count, header-read, from-part, write-first, write-second, write-base, forth}
->>>>>>> 95ebf3f55b645651189ddd961ef27f3c760a6214
 use Rattle.sound.proofs.Shape.{Shape, first-lt, second-lt, first-bucket, second-bucket}
 use Rattle.base.specs.Base.{Pairs}
 use Rattle.table.proofs.Stretch.{stretch}
