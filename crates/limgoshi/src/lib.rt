@@ -6,6 +6,7 @@ ghost use Rattle.answer.specs.Numbers.{numberOf, valueOf};
 ghost use Rattle.model.specs.Model.{change, withdraw, query};
 ghost use Rattle.concrete.specs.Calls.{openCall, call};
 ghost use Rattle.plane.specs.Lookup.{lookupCall};
+ghost use Rattle.plane.specs.Write.{writeCall};
 
 // Opens an empty table with b1 and b2 buckets.
 #[no_mangle]
@@ -43,6 +44,16 @@ pub extern "C" fn limgoshi_withdraw(t: &mut [u64], id: &[u8], value: &mut u64) -
     ensures { λ r. ⌜ (r ≡ numberOf (call (now (t .entry)) (withdraw (now (id .entry))) .answer)) × (now (value .exit) ≡ valueOf (call (now (t .entry)) (withdraw (now (id .entry))) .answer)) × (now (t .exit) ≡ call (now (t .entry)) (withdraw (now (id .entry))) .table) ⌝ }
 {
     let a = table::withdraw(t, id);
+    *value = answer::value(a);
+    answer::number(a)
+}
+
+// Writes the plane of a table to the front of the output.
+#[no_mangle]
+pub extern "C" fn limgoshi_write_plane(t: &[u64], out: &mut [u8], value: &mut u64) -> u64
+    ensures { λ r. ⌜ (r ≡ numberOf (writeCall (now (t .entry)) (now (out .entry)) .answer)) × (now (value .exit) ≡ valueOf (writeCall (now (t .entry)) (now (out .entry)) .answer)) × (now (out .exit) ≡ writeCall (now (t .entry)) (now (out .entry)) .output) ⌝ }
+{
+    let a = plane::write(t, out);
     *value = answer::value(a);
     answer::number(a)
 }

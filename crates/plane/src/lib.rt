@@ -509,3 +509,17 @@ pub(crate) fn write_sound(t: &[u64], out: &mut [u8]) -> Answer
     write_plane(t, out);
     Answer::Accepted(needed as u64)
 }
+
+// The plane of a table of any numbers, to the front of the output: causes 4, 5, 9. Nothing is written where it is turned down.
+pub fn write(t: &[u64], out: &mut [u8]) -> Answer
+    ensures { λ r. ⌜ (r ≡ writeCall (now (t .entry)) (now (out .entry)) .answer) × (now (out .exit) ≡ writeCall (now (t .entry)) (now (out .entry)) .output) ⌝ }
+{
+    if sound::shaped(t) {
+        if sound::sound(t) {
+            return write_sound(t, out);
+        }
+        return Answer::NotSound;
+    }
+    let size = t.len();
+    Answer::WrongTable(size as u64)
+}
