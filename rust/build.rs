@@ -4,7 +4,9 @@ fn main() {
     if std::env::var_os("CARGO_FEATURE_LINKED").is_some() {
         let root = std::env::var("CARGO_MANIFEST_DIR").unwrap();
         println!("cargo:rustc-link-search=native={root}/../target/staticlib");
-        println!("cargo:rustc-link-lib=static=probe");
-        println!("cargo:rerun-if-changed={root}/../target/staticlib/libprobe.a");
+        for name in ["probe", "limgoshi"] {
+            println!("cargo:rustc-link-lib=static={name}");
+            println!("cargo:rerun-if-changed={root}/../target/staticlib/lib{name}.a");
+        }
     }
 }

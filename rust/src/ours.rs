@@ -9,6 +9,13 @@ extern "C" {
     fn probe_withdraw(part: *mut u64, len: usize, k: u64) -> u64;
     fn probe_row(part: *const u64, len: usize, k: u64) -> u64;
     fn probe_matrix(part: *const u64, len: usize, i: usize) -> u64;
+    fn limgoshi_open(t: *mut u64, len: usize, b1: u64, b2: u64, value: *mut u64) -> u64;
+    fn limgoshi_query(t: *const u64, len: usize, id: *const u8, id_len: usize, value: *mut u64) -> u64;
+    fn limgoshi_change(t: *mut u64, len: usize, id: *const u8, id_len: usize, plan: u8, value: *mut u64) -> u64;
+    fn limgoshi_withdraw(t: *mut u64, len: usize, id: *const u8, id_len: usize, value: *mut u64) -> u64;
+    fn limgoshi_add(t: *mut u64, len: usize, id: *const u8, id_len: usize, plan: u8, value: *mut u64) -> u64;
+    fn limgoshi_write_plane(t: *const u64, len: usize, out: *mut u8, out_len: usize, value: *mut u64) -> u64;
+    fn limgoshi_plane_lookup(id: *const u8, id_len: usize, plane: *const u8, plane_len: usize, value: *mut u64) -> u64;
 }
 
 use crate::answer::Answer;
@@ -50,4 +57,39 @@ pub fn bucket_row(part: &[u64], k: u64) -> u64 {
 /// Row i of K, 0 if the columns have no such matrix.
 pub fn bucket_matrix(part: &[u64], i: usize) -> u64 {
     unsafe { probe_matrix(part.as_ptr(), part.len(), i) }
+}
+
+/// The numbers of a table are 64-bit; each call answers the cause and the number that goes with it.
+fn answered(run: impl FnOnce(*mut u64) -> u64) -> Answer {
+    let mut value = 0;
+    let cause = run(&mut value);
+    Answer { cause, value }
+}
+
+pub fn open(t: &mut [u64], b1: u64, b2: u64) -> Answer {
+    answered(|value| unsafe { limgoshi_open(t.as_mut_ptr(), t.len(), b1, b2, value) })
+}
+
+pub fn query(t: &[u64], id: &[u8]) -> Answer {
+    answered(|value| unsafe { limgoshi_query(t.as_ptr(), t.len(), id.as_ptr(), id.len(), value) })
+}
+
+pub fn change(t: &mut [u64], id: &[u8], plan: u8) -> Answer {
+    answered(|value| unsafe { limgoshi_change(t.as_mut_ptr(), t.len(), id.as_ptr(), id.len(), plan, value) })
+}
+
+pub fn withdraw(t: &mut [u64], id: &[u8]) -> Answer {
+    answered(|value| unsafe { limgoshi_withdraw(t.as_mut_ptr(), t.len(), id.as_ptr(), id.len(), value) })
+}
+
+pub fn add(t: &mut [u64], id: &[u8], plan: u8) -> Answer {
+    answered(|value| unsafe { limgoshi_add(t.as_mut_ptr(), t.len(), id.as_ptr(), id.len(), plan, value) })
+}
+
+pub fn lookup(id: &[u8], plane: &[u8]) -> Answer {
+    answered(|value| unsafe { limgoshi_plane_lookup(id.as_ptr(), id.len(), plane.as_ptr(), plane.len(), value) })
+}
+
+pub fn write_plane(t: &[u64], out: &mut [u8]) -> Answer {
+    answered(|value| unsafe { limgoshi_write_plane(t.as_ptr(), t.len(), out.as_mut_ptr(), out.len(), value) })
 }

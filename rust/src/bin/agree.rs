@@ -3,7 +3,8 @@
 
 use reference::bucket::Bucket;
 use reference::rng::Rng;
-use reference::{identifier, ours, Answer};
+use reference::table::{self, Shape};
+use reference::{identifier, ours, plane, Answer};
 
 const ALLOWED: &[u8] = b"abcxyzABCXYZ0189*-_=:+|@.";
 
@@ -135,6 +136,171 @@ fn buckets(rng: &mut Rng, cases: u64) {
     println!("agree: {cases} buckets, each with up to 200 steps, and their matrices");
 }
 
+/// Identifiers of which many are put again, some with letters of another case.
+fn cards(rng: &mut Rng, count: usize) -> Vec<Vec<u8>> {
+    (0..count)
+        .map(|_| (0..1 + rng.below(20)).map(|_| *rng.pick(ALLOWED)).collect())
+        .collect()
+}
+
+fn card(rng: &mut Rng, cards: &[Vec<u8>]) -> Vec<u8> {
+    if rng.one_in(10) {
+        return any_identifier(rng);
+    }
+    let mut id = rng.pick(cards).clone();
+    if rng.one_in(4) {
+        id.make_ascii_uppercase();
+    }
+    id
+}
+
+/// Bucket numbers: mostly few, so that bounds fall and the base list fills; sometimes many.
+fn some_shape(rng: &mut Rng) -> (u64, u64) {
+    match rng.below(8) {
+        0 => (1 + rng.below(48), 1 + rng.below(32)),
+        1..=3 => (1, 1),
+        _ => (1 + rng.below(4), 1 + rng.below(3)),
+    }
+}
+
+/// A table of the reference's making with about this many words.
+fn some_table(rng: &mut Rng, cards: &[Vec<u8>]) -> Vec<u64> {
+    let (b1, b2) = some_shape(rng);
+    let shape = Shape::new(b1, b2).expect("in range");
+    let mut t = vec![0; shape.table_len()];
+    table::open(&mut t, b1, b2);
+    for _ in 0..rng.below(cards.len() as u64 + 1) {
+        let id = rng.pick(cards);
+        let word = identifier::word(id).expect("a card");
+        let _ = shape.add(&mut t, word, rng.byte());
+        if rng.one_in(5) {
+            let _ = shape.withdraw(&mut t, identifier::word(rng.pick(cards)).expect("a card"));
+        }
+    }
+    t
+}
+
+/// A change that a table from elsewhere may have, small or large.
+fn damage(rng: &mut Rng, t: &mut Vec<u64>) {
+    let at = rng.below(t.len() as u64) as usize;
+    match rng.below(12) {
+        0 => {
+            t.pop();
+        }
+        1 => t.push(rng.next()),
+        2 => t.truncate(rng.below(5) as usize),
+        3 => t[rng.below(4) as usize] = rng.below(70),
+        4 => t[rng.below(4) as usize] = rng.next(),
+        5 => t[3] = t[3].wrapping_add(1),
+        6 => {
+            // A base entry out of order, or one more.
+            let base = t.len() - 128 + 2 * rng.below(64) as usize;
+            t[base] = rng.next();
+        }
+        7 => {
+            // A bound one higher or lower.
+            let bucket = rng.below((t.len() as u64 - 132) / 74) as usize;
+            let bound = 4 + 74 * bucket + 73;
+            t[bound] = if rng.one_in(2) { t[bound].wrapping_add(1) } else { t[bound].wrapping_sub(1) };
+        }
+        8 => {
+            // Two columns of a bucket exchanged, or one made another's copy.
+            let bucket = 4 + 74 * rng.below((t.len() as u64 - 132) / 74) as usize;
+            let (i, j) = (bucket + rng.below(64) as usize, bucket + rng.below(64) as usize);
+            if rng.one_in(2) {
+                t.swap(i, j);
+            } else {
+                t[i] = t[j];
+            }
+        }
+        9 => {
+            // Two buckets exchanged: words held where the tests do not send them.
+            let buckets = (t.len() as u64 - 132) / 74;
+            let (i, j) = (4 + 74 * rng.below(buckets) as usize, 4 + 74 * rng.below(buckets) as usize);
+            for k in 0..74 {
+                t.swap(i + k, j + k);
+            }
+        }
+        _ => t[at] ^= 1 << rng.below(64),
+    }
+}
+
+/// A call put to both, on tables that are equal: the same answer, and equal tables after it.
+fn call(rng: &mut Rng, cards: &[Vec<u8>], ours_t: &mut [u64], t: &mut [u64]) {
+    let id = card(rng, cards);
+    let plan = rng.byte();
+    match rng.below(24) {
+        0 => {
+            let (b1, b2) = if rng.one_in(2) { (rng.below(60), rng.below(40)) } else { some_shape(rng) };
+            same("open", (b1, b2), ours::open(ours_t, b1, b2), table::open(t, b1, b2));
+        }
+        1..=6 => same("query", &id, ours::query(ours_t, &id), table::query(t, &id)),
+        7..=12 => same("change", &id, ours::change(ours_t, &id, plan), table::change(t, &id, plan)),
+        13..=15 => same("withdraw", &id, ours::withdraw(ours_t, &id), table::withdraw(t, &id)),
+        _ => same("add", &id, ours::add(ours_t, &id, plan), table::add(t, &id, plan)),
+    }
+    same("table", &id, &*ours_t, &*t);
+}
+
+/// Calls on tables, sound ones and damaged ones, whole tables compared after each.
+fn tables(rng: &mut Rng, cases: u64) {
+    let mut calls = 0;
+    for _ in 0..cases {
+        let cards = cards(rng, 400);
+        let mut t = some_table(rng, &cards);
+        let mut ours_t = t.clone();
+        for _ in 0..rng.below(60) {
+            call(rng, &cards, &mut ours_t, &mut t);
+            calls += 1;
+            if rng.one_in(2) {
+                let mut damaged = t.clone();
+                damage(rng, &mut damaged);
+                call(rng, &cards, &mut damaged.clone(), &mut damaged);
+                calls += 1;
+            }
+        }
+    }
+    println!("agree: {calls} calls on {cases} tables, sound and damaged");
+}
+
+/// Planes written by both, read by both: whole ones, cut ones, damaged ones; outputs too short, and longer than needed.
+fn planes(rng: &mut Rng, cases: u64) {
+    let mut lookups = 0;
+    for _ in 0..cases {
+        let cards = cards(rng, 300);
+        let mut t = some_table(rng, &cards);
+        if rng.one_in(8) {
+            damage(rng, &mut t);
+        }
+        let length = if rng.one_in(3) { rng.below(6000) } else { 6000 };
+        let mut ours_out: Vec<u8> = (0..length).map(|_| rng.byte()).collect();
+        let mut out = ours_out.clone();
+        let answer = plane::write(&t, &mut out);
+        same("write", t.len(), ours::write_plane(&t, &mut ours_out), answer);
+        same("output", t.len(), &ours_out, &out);
+        if !answer.is_accepted() {
+            continue;
+        }
+        out.truncate(answer.value as usize);
+        for _ in 0..200 {
+            let id = card(rng, &cards);
+            same("lookup", &id, ours::lookup(&id, &out), plane::lookup(&id, &out));
+            let mut damaged = out.clone();
+            match rng.below(4) {
+                0 => damaged.truncate(rng.below(out.len() as u64 + 1) as usize),
+                1 => damaged.extend(rng.bytes(3)),
+                _ => {
+                    let at = rng.below(damaged.len() as u64) as usize;
+                    damaged[at] = rng.byte();
+                }
+            }
+            same("lookup", &id, ours::lookup(&id, &damaged), plane::lookup(&id, &damaged));
+            lookups += 2;
+        }
+    }
+    println!("agree: {cases} planes written, {lookups} lookups in them, whole and damaged");
+}
+
 fn main() {
     let times: u64 = std::env::args()
         .nth(1)
@@ -142,4 +308,6 @@ fn main() {
     let mut rng = Rng::new(20261115);
     identifiers(&mut rng, 300_000 * times);
     buckets(&mut rng, 2_000 * times);
+    tables(&mut rng, 2_000 * times);
+    planes(&mut rng, 400 * times);
 }
