@@ -1,0 +1,69 @@
+-- An add as the code goes about it: the words that leave level 1 arrive at level 2 one after the other, and what leaves that goes to the
+-- base list at once. S is the mix, n the number of rows, r of solution words.
+-- Assumes nothing.
+use Prim.Native.Nat.{ℕ, zero, suc, _≤_, _<_}
+use mathlib.Core.Path.{_≡_}
+use mathlib.Core.Bool.{Bool, true, cond}
+use mathlib.Core.List.{List, [], _∷_}
+use lib.Dec.{leb}
+use lib.ListN.{length, getD, drop}
+use Rattle.lists.specs.Entries.{Entry, insertAll}
+use Rattle.bucket.specs.declared.Bucket.{Bucket}
+use Rattle.settle.specs.declared.Outgoing.{Outgoing}
+use Rattle.settle.specs.Settle.{SoundBucket}
+use Rattle.model.specs.Model.{baseLimit}
+use Rattle.concrete.specs.Table.{Table, Placed, nth, arriveAt}
+use Rattle.concrete.specs.Layout.{numbersOf, tableFrom}
+use Rattle.concrete.specs.Test.{inRange}
+
+-- k words with their plans, from the front of two lists
+abbrev pub entriesFrom : ℕ → List ℕ → List ℕ → List Entry
+entriesFrom zero vs ps = []
+entriesFrom (suc k) vs ps = record { word = getD vs 0 0; plan = getD ps 0 0 } ∷ entriesFrom k (drop 1 vs) (drop 1 ps)
+
+-- the words that leave a bucket, as the code keeps them
+abbrev pub entriesOf : Outgoing → List Entry
+entriesOf o = entriesFrom (o .count) (o .vectors) (o .plans)
+
+-- the table with these buckets at level 1
+abbrev pub withFirst : Table → List Bucket → Table
+withFirst T bs = record { level1 = bs; level2 = T .level2; base = T .base; count = T .count }
+
+-- with these at level 2
+abbrev pub withSecond : Table → List Bucket → Table
+withSecond T bs = record { level1 = T .level1; level2 = bs; base = T .base; count = T .count }
+
+-- with this base list
+abbrev pub withBase : Table → List Entry → Table
+withBase T es = record { level1 = T .level1; level2 = T .level2; base = es; count = T .count }
+
+module _ (n r : ℕ) (S : ℕ → ℕ) where
+  -- the word e arrives at level 2, and what leaves that at the base list
+  abbrev pub toSecond : Table → Entry → Table
+  toSecond T e = let p : Placed = arriveAt n r S (T .level2) e in withBase (withSecond T (p .buckets)) (insertAll (p .out) (T .base))
+
+  -- words one after the other
+  abbrev pub allToSecond : Table → List Entry → Table
+  allToSecond T [] = T
+  allToSecond T (e ∷ es) = allToSecond (toSecond T e) es
+
+-- the base list is not too long
+abbrev pub fits : Table → Bool
+fits T = leb (length (T .base)) baseLimit
+
+-- the numbers of U if its base list is not too long, else the numbers t as they were
+abbrev pub unlessFull : List ℕ → Table → List ℕ
+unlessFull t U = cond (fits U) (numbersOf U) t
+
+module _ (n r : ℕ) where
+  -- what each step keeps: bucket numbers in range, every bucket sound, the base list not too long
+  pub record Ready (T : Table) : Type 0 where
+    pub range : inRange (length (T .level1)) (length (T .level2)) ≡ true
+    pub first : (i : ℕ) → i < length (T .level1) → SoundBucket n r (nth n r (T .level1) i)
+    pub second : (i : ℕ) → i < length (T .level2) → SoundBucket n r (nth n r (T .level2) i)
+    pub fits : length (T .base) ≤ baseLimit
+
+  -- numbers that hold such a table
+  pub record FlatReady (t : List ℕ) : Type 0 where
+    pub table : Ready (tableFrom n r t)
+    pub numbers : numbersOf (tableFrom n r t) ≡ t
