@@ -2,14 +2,14 @@
 -- and r of solution words, and for every mix S.
 -- Assumes nothing.
 use Prim.Native.Nat.{ℕ, _+_, _*_, _^_, _≤_, _<_}
-use native.Mathlib.Nat.{mod-lt}
+use native.Mathlib.Nat.{mod-lt, add-mul}
 use native.Mathlib.Omega.{arith}
-use mathlib.Core.Path.{_≡_, refl, sym, ap, ap₂, _∙_, subst, subst⁻¹}
+use mathlib.Core.Path.{_≡_, refl, sym, ap, ap₂, _∙_, subst, subst⁻¹, subst₂}
 use mathlib.Core.Bool.{Bool, true, _&&_}
-use mathlib.Core.List.{List, _++_}
+use mathlib.Core.List.{List, [], _∷_, _++_}
 use lib.Dec.{eqb, leb}
 use lib.ListN.{length, getD, set, take, drop, length-set}
-use lib.Seq.{getD-set-same, getD-set-other}
+use lib.Seq.{getD-set-same, getD-set-other, drop-append-add}
 use borrow.Author.Tests.{eqb-true, eqb-false, eq-eqb, le-leb, leb-true}
 use Rattle.lists.specs.Entries.{Entry, insertAll}
 use Rattle.lists.proofs.Tests.{cases, and-one, and-two, and-both}
@@ -19,9 +19,9 @@ use Rattle.bucket.specs.Words.{bucketWords, wordsOf, bucketFrom}
 use Rattle.settle.specs.Settle.{SoundBucket}
 use Rattle.model.specs.Model.{baseLimit}
 use Rattle.concrete.specs.Table.{Table, thr, index, put, nth, bucketOf, arriveAt}
-use Rattle.concrete.specs.Layout.{header, basePairs, numbersOf, bucketPlace, tableFrom, lengthOf}
+use Rattle.concrete.specs.Layout.{header, levelNumbers, basePairs, numbersOf, bucketPlace, tableFrom, lengthOf}
 use Rattle.concrete.specs.Test.{mostBuckets1, inRange, shapeTest}
-use Rattle.concrete.proofs.Numbers.{ShapedTable, header-read, back, laid, write-first, write-second, write-base, write-count, read-first, read-second}
+use Rattle.concrete.proofs.Numbers.{ShapedTable, length-level, back, laid, write-first, write-second, write-base, read-first, read-second}
 use Rattle.adding.specs.Arrivals.{withFirst, withSecond, withBase, Ready, FlatReady}
 
 range-some : (b1 b2 : ℕ) → inRange b1 b2 ≡ true → (0 < b1) × (0 < b2)
@@ -74,3 +74,107 @@ module _ (n r : ℕ) where
 
     pub base-ready : (es : List Entry) → length es ≤ baseLimit → Ready n r (withBase T es)
     base-ready es l = record { range = h .range; first = h .first; second = h .second; fits = l }
+
+    -- the numbers of the base list are the last
+    base-part : drop (bucketPlace n r (length (T .level1) + length (T .level2))) (numbersOf T) ≡ basePairs (T .base)
+    unfolding numbersOf
+    base-part =
+        let l1 : List ℕ = levelNumbers (T .level1) in
+        let l2 : List ℕ = levelNumbers (T .level2) in
+        let heads : List ℕ = length (T .level1) ∷ length (T .level2) ∷ length (T .base) ∷ T .count ∷ [] in
+        let e : bucketPlace n r (length (T .level1) + length (T .level2)) ≡ header + (length l1 + (length l2 + 0)) =
+        omega (arith, add-mul (length (T .level1)) (length (T .level2)) (bucketWords n r), length-level n r (T .level1) (ready-shaped .first), length-level n r (T .level2) (ready-shaped .second)) in
+        ap (λ (k : ℕ). drop k (numbersOf T)) e ∙ drop-append-add heads _ (length l1 + (length l2 + 0)) ∙ drop-append-add l1 _ (length l2 + 0) ∙ drop-append-add l2 _ 0
+
+  -- ---- numbers
+
+  module _ (t : List ℕ) (h : FlatReady n r t) where
+    abbrev T : Table
+    T = tableFrom n r t
+
+    -- the header
+    pub count1 : length (T .level1) ≡ getD t 0 0
+    unfolding numbersOf
+    count1 = ap (λ (l : List ℕ). getD l 0 0) (h .numbers)
+
+    pub count2 : length (T .level2) ≡ getD t 1 0
+    unfolding numbersOf
+    count2 = ap (λ (l : List ℕ). getD l 1 0) (h .numbers)
+
+    pub count0 : length (T .base) ≡ getD t 2 0
+    unfolding numbersOf
+    count0 = ap (λ (l : List ℕ). getD l 2 0) (h .numbers)
+
+    pub live-count : T .count ≡ getD t 3 0
+    unfolding numbersOf
+    live-count = ap (λ (l : List ℕ). getD l 3 0) (h .numbers)
+
+    abbrev place0 : ℕ
+    place0 = bucketPlace n r (getD t 0 0 + getD t 1 0)
+
+    place0-is : bucketPlace n r (length (T .level1) + length (T .level2)) ≡ place0
+    place0-is = ap₂ (λ (a b : ℕ). bucketPlace n r (a + b)) count1 count2
+
+    pub size : length t ≡ lengthOf n r (getD t 0 0) (getD t 1 0)
+    size = subst (λ (l : List ℕ). length l ≡ lengthOf n r (getD l 0 0) (getD l 1 0)) (h .numbers) (laid n r T (ready-shaped T (h .table)) .size)
+
+    pub shape : shapeTest n r t ≡ true
+    unfolding shapeTest
+    shape = and-both (le-leb header (length t) (omega (arith, size))) (and-both (sym (ap₂ inRange count1 count2) ∙ h .table .range) (eq-eqb _ _ size))
+
+    -- the base list
+    pub base-at : drop place0 t ≡ basePairs (T .base)
+    base-at = ap₂ (λ (k : ℕ) (l : List ℕ). drop k l) (sym place0-is) (sym (h .numbers)) ∙ base-part T (h .table)
+
+    pub base-put : (es : List Entry) → set (take place0 t ++ basePairs es) 2 (length es) ≡ numbersOf (withBase T es)
+    base-put es =
+        ap₂ (λ (k : ℕ) (l : List ℕ). set (take k l ++ basePairs es) 2 (length es)) (sym place0-is) (sym (h .numbers)) ∙ sym (write-base n r T (ready-shaped T (h .table)) es)
+
+    module _ (S : ℕ → ℕ) (v : ℕ) where
+      -- the bucket of v at each level
+      abbrev at1 : ℕ
+      at1 = index S (getD t 0 0) v
+
+      abbrev at2 : ℕ
+      at2 = index S (getD t 1 0) v
+
+      lt1 : at1 < getD t 0 0
+      lt1 = mod-lt _ (subst (λ (k : ℕ). 0 < k) count1 (range-some (length (T .level1)) (length (T .level2)) (h .table .range) .0))
+
+      lt2 : at2 < getD t 1 0
+      lt2 = mod-lt _ (subst (λ (k : ℕ). 0 < k) count2 (range-some (length (T .level1)) (length (T .level2)) (h .table .range) .1))
+
+      here1 : index S (length (T .level1)) v ≡ at1
+      here1 = ap (λ (m : ℕ). index S m v) count1
+
+      here2 : index S (length (T .level2)) v ≡ at2
+      here2 = ap (λ (m : ℕ). index S m v) count2
+
+      -- it is at its place
+      pub bucket1 : bucketFrom n r (drop (bucketPlace n r at1) t) ≡ bucketOf n r S (T .level1) v
+      bucket1 = sym (ap (nth n r (T .level1)) here1 ∙ read-first n r t at1 lt1)
+
+      pub bucket2 : bucketFrom n r (drop (bucketPlace n r (getD t 0 0 + at2)) t) ≡ bucketOf n r S (T .level2) v
+      bucket2 = sym (ap (nth n r (T .level2)) here2 ∙ read-second n r t at2 lt2)
+
+      -- it is sound
+      pub sound1 : SoundBucket n r (bucketOf n r S (T .level1) v)
+      sound1 = h .table .first _ (subst₂ (λ (i m : ℕ). i < m) (sym here1) (sym count1) lt1)
+
+      pub sound2 : SoundBucket n r (bucketOf n r S (T .level2) v)
+      sound2 = h .table .second _ (subst₂ (λ (i m : ℕ). i < m) (sym here2) (sym count2) lt2)
+
+      -- and stored there
+      pub stored1 : (b : Bucket) → take (bucketPlace n r at1) t ++ (wordsOf b ++ drop (bucketPlace n r at1 + bucketWords n r) t) ≡ numbersOf (withFirst T (put S (T .level1) v b))
+      stored1 b =
+          ap (λ (l : List ℕ). take (bucketPlace n r at1) l ++ (wordsOf b ++ drop (bucketPlace n r at1 + bucketWords n r) l)) (sym (h .numbers))
+          ∙ sym (write-first n r T (ready-shaped T (h .table)) at1 b (subst⁻¹ (λ (m : ℕ). at1 < m) count1 lt1))
+          ∙ ap (λ (i : ℕ). numbersOf (withFirst T (set (T .level1) i b))) (sym here1)
+
+      pub stored2 : (b : Bucket)
+          → take (bucketPlace n r (getD t 0 0 + at2)) t ++ (wordsOf b ++ drop (bucketPlace n r (getD t 0 0 + at2) + bucketWords n r) t) ≡ numbersOf (withSecond T (put S (T .level2) v b))
+      stored2 b =
+          let e : bucketPlace n r (length (T .level1) + at2) ≡ bucketPlace n r (getD t 0 0 + at2) = ap (λ (m : ℕ). bucketPlace n r (m + at2)) count1 in
+          ap₂ (λ (p : ℕ) (l : List ℕ). take p l ++ (wordsOf b ++ drop (p + bucketWords n r) l)) (sym e) (sym (h .numbers))
+          ∙ sym (write-second n r T (ready-shaped T (h .table)) at2 b (subst⁻¹ (λ (m : ℕ). at2 < m) count2 lt2))
+          ∙ ap (λ (i : ℕ). numbersOf (withSecond T (set (T .level2) i b))) (sym here2)

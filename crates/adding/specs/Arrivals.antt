@@ -12,7 +12,7 @@ use Rattle.bucket.specs.declared.Bucket.{Bucket}
 use Rattle.settle.specs.declared.Outgoing.{Outgoing}
 use Rattle.settle.specs.Settle.{SoundBucket}
 use Rattle.model.specs.Model.{baseLimit}
-use Rattle.concrete.specs.Table.{Table, Placed, nth, arriveAt}
+use Rattle.concrete.specs.Table.{Table, Placed, put, nth, bucketOf, arriveAt}
 use Rattle.concrete.specs.Layout.{numbersOf, tableFrom}
 use Rattle.concrete.specs.Test.{inRange}
 
@@ -46,6 +46,11 @@ module _ (n r : ℕ) (S : ℕ → ℕ) where
   abbrev pub allToSecond : Table → List Entry → Table
   allToSecond T [] = T
   allToSecond T (e ∷ es) = allToSecond (toSecond T e) es
+
+  -- the level 2 buckets of these vectors become those of D
+  abbrev pub takeOver : Table → List ℕ → Table → Table
+  takeOver D [] T = T
+  takeOver D (v ∷ vs) T = takeOver D vs (withSecond T (put S (T .level2) v (bucketOf n r S (D .level2) v)))
 
 -- the base list is not too long
 abbrev pub fits : Table → Bool
