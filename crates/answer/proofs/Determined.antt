@@ -9,11 +9,11 @@ use Rattle.answer.specs.declared.Answer.{Answer}
 use Rattle.answer.specs.declared.Answer.the-variants.{Accepted, WrongLength, WrongByte, WrongBuckets, WrongTable, NotSound, Live, NotLive, Full, ShortOutput, WrongPlane}
 
 -- the answer of a number and a value
-abbrev pub answerOf : ℕ → ℕ → Answer
-answerOf n v =
+abbrev pub answerFrom : ℕ → ℕ → Answer
+answerFrom n v =
     getD (Accepted v ∷ WrongLength v ∷ WrongByte v ∷ WrongBuckets ∷ WrongTable v ∷ NotSound ∷ Live v ∷ NotLive ∷ Full ∷ ShortOutput v ∷ WrongPlane v ∷ []) n (Accepted v)
 
-pub answer-back : (a : Answer) → answerOf (numberOf a) (valueOf a) ≡ a
+pub answer-back : (a : Answer) → answerFrom (numberOf a) (valueOf a) ≡ a
 answer-back (Accepted n) = refl
 answer-back (WrongLength n) = refl
 answer-back (WrongByte i) = refl
@@ -27,4 +27,4 @@ answer-back (ShortOutput n) = refl
 answer-back (WrongPlane i) = refl
 
 pub answer-determined : (a b : Answer) → numberOf a ≡ numberOf b → valueOf a ≡ valueOf b → a ≡ b
-answer-determined a b n v = sym (answer-back a) ∙ ap₂ answerOf n v ∙ answer-back b
+answer-determined a b n v = sym (answer-back a) ∙ ap₂ answerFrom n v ∙ answer-back b

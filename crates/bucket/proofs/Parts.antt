@@ -5,7 +5,7 @@ use mathlib.Core.List.{List, [], _∷_, _++_, append-assoc}
 use Prim.Native.Nat.{ℕ, suc, _+_}
 use native.Mathlib.Numerals.{add-one}
 use native.Mathlib.Omega.{arith}
-use lib.ListN.{length, set, take, drop, length-append, length-drop, drop-of-length-le}
+use lib.ListN.{length, set, take, drop, length-append, length-drop, length-set, drop-of-length-le}
 use lib.Seq.{length-take-le, drop-cons, drop-drop, set-at, take-at, drop-at}
 use borrow.Rule.Slice.PartMut.{putMid}
 use Rattle.bucket.specs.declared.Bucket.{Bucket}
@@ -40,6 +40,9 @@ module _ (n r : ℕ) (t : List ℕ) (b : Bucket) (ht : length t ≡ bucketWords 
 
   pub length-solved : length solved ≡ bucketWords n r
   length-solved = rw solved-is (simp (length-append, length-drop) (omega arith))
+
+  pub length-stored : (x : ℕ) → length (set solved (n + 1 + r) x) ≡ length t
+  length-stored x = length-set solved (n + 1 + r) x ∙ length-solved ∙ sym ht
 
   pub stored : set solved (n + 1 + r) (b .bound) ≡ wordsOf b
   unfolding wordsOf

@@ -6,7 +6,7 @@
 ghost use mathlib.Core.Path.{_≡_};
 ghost use Prim.Native.Nat.{_<_, _≤_, _^_};
 ghost use lib.Count.{trailingZeros};
-ghost use lib.ListN.{length};
+ghost use lib.ListN.{length, getD};
 ghost use Rattle.gf2.specs.Vectors.{dot, product, flipIf, colStep, solStep, exchange, units};
 ghost use Rattle.bucket.specs.Bucket.{emptyBucket, rowOf, lookup, add, change, withdraw};
 ghost use Rattle.bucket.specs.Words.{bucketFrom, wordsOf};
@@ -19,10 +19,10 @@ pub struct Bucket {
     pub bound: u64,
 }
 
-// A step that may be impossible: done, and the bucket after it; or not done, and the bucket as it was.
+// A step that may be impossible: the bucket after it where it was done, else as it was.
 pub struct Tried {
-    pub done: bool,
     pub bucket: Bucket,
+    pub done: bool,
 }
 
 // The parity of ones in (k AND c).
@@ -60,16 +60,18 @@ pub(crate) fn flip_if(d: u64, u: u64, a: u64) -> u64
     if d == 0 { a } else { a ^ u }
 }
 
-// u is XORed into each column a for which (v AND a) has odd parity.
-pub(crate) fn col_step(u: u64, v: u64, cols: [u64; Bucket::ROWS]) -> [u64; Bucket::ROWS]
-    ensures { λ r. ⌜ r ≡ colStep u v cols ⌝ }
+// u = column i is XORed into each column a for which (v AND a) has odd parity.
+pub(crate) fn col_step(i: usize, v: u64, cols: [u64; Bucket::ROWS]) -> [u64; Bucket::ROWS]
+    requires { do ⌜ i < (← ⟦Bucket::ROWS⟧) ⌝ }
+    ensures { λ r. ⌜ r ≡ colStep (getD cols i 0) v cols ⌝ }
 {
     let mut out = cols;
-    let mut i: usize = 0;
-    while i < Bucket::ROWS {
-        let a = out[i];
-        out[i] = flip_if(dot(v, a), u, a);
-        i += 1;
+    let u = out[i];
+    let mut at: usize = 0;
+    while at < Bucket::ROWS {
+        let a = out[at];
+        out[at] = flip_if(dot(v, a), u, a);
+        at += 1;
     }
     out
 }
@@ -173,11 +175,12 @@ impl Bucket {
         ensures { λ r. do ⌜ r ≡ rowOf (← ⟦Bucket::ROWS⟧ .entry) k self ⌝ }
     {
         let cols = self.cols;
+        let mark = self.mark;
         let p = product(cols, k);
         let i = lowest(p);
         if i < Self::ROWS {
             if p == power(i) {
-                if (self.mark >> i) % 2 == 1 {
+                if (mark >> i) % 2 == 1 {
                     return i;
                 }
             }
@@ -194,7 +197,7 @@ impl Bucket {
         let p = product(cols, k);
         let i = lowest(p ^ (p & mark));
         if i < Self::ROWS {
-            let next = col_step(cols[i], k ^ power(i), cols);
+            let next = col_step(i, k ^ power(i), cols);
             let sols = self.sols;
             let solved = sol_step(next[i], self.lookup(k) ^ plan, sols);
             return Tried {
@@ -246,9 +249,8 @@ impl Bucket {
         if i < Self::ROWS {
             let cols = self.cols;
             let mark = self.mark;
-            let u = cols[i];
-            let j = lowest(u);
-            let next = exchanged(i, j, col_step(u, k ^ power(j), cols));
+            let j = lowest(cols[i]);
+            let next = exchanged(i, j, col_step(i, k ^ power(j), cols));
             let sols = self.sols;
             return Tried {
                 done: true,

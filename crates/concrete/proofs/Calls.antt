@@ -1,41 +1,39 @@
 -- The numbers of document 01's table stand for a state of the model: opening does, and each call keeps that and gives the model's answer.
 -- Assumes nothing.
-use Prim.Native.Nat.{ℕ, _+_, _^_, _≤_, _<_}
+use Prim.Native.Nat.{ℕ, _^_, _≤_, _<_}
 use native.Mathlib.Omega.{arith}
-use mathlib.Core.Path.{_≡_, refl, sym, ap, ap₂, _∙_, subst, subst⁻¹, subst₂}
+use mathlib.Core.Path.{_≡_, refl, sym, ap, ap₂, _∙_, subst, subst⁻¹}
 use mathlib.Core.Bool.{Bool, true, false, cond, _&&_}
+use mathlib.Core.Logic.{_↔_}
 use mathlib.Core.Option.{Option, none, some}
 use mathlib.Core.List.{List, List·Permᴰ}
-use lib.Dec.{eqb, ltb, leb}
+use lib.Dec.{ltb, leb}
 use lib.ListN.{length, getD}
 use borrow.Author.Tests.{eqb-true, eq-eqb, leb-true, le-leb, ltb-false}
-use Rattle.lists.specs.Entries.{Entry, find, insert, update, remove}
-use Rattle.lists.proofs.Tests.{cases, cond-true, cond-false, and-one, and-two, and-both}
-use Rattle.lists.proofs.Entries.{insert-length}
+use Rattle.lists.specs.Entries.{Entry, find, update, remove}
+use Rattle.lists.proofs.Tests.{cond-true, and-one, and-two, and-both}
 use Rattle.hash.specs.Mix.{mixOf, unmixOf}
 use Rattle.hash.proofs.Inverse.{mix-lt, unmix-lt, unmix-mix, mix-unmix}
-use Rattle.answer.specs.declared.Answer.{Answer}
 use Rattle.answer.specs.declared.Answer.the-variants.{Accepted, Full}
-use Rattle.identifier.specs.Identifier.{readOf, wordOf}
+use Rattle.identifier.specs.Identifier.{readOf}
 use Rattle.identifier.specs.declared.Read.{Read}
 use Rattle.identifier.specs.declared.Read.the-variants.{Word, Refused}
 use Rattle.identifier.proofs.Causes.{read-word}
 use Rattle.identifier.proofs.Words.{word-lt}
 use Rattle.bucket.specs.declared.Bucket.{Bucket}
-use Rattle.settle.specs.Settle.{SoundBucket}
 use Rattle.model.specs.Levels.{firstLevel, secondLevel}
 use Rattle.model.specs.Model as M
-use Rattle.model.specs.Model.{baseLimit, State, Call, add, change, withdraw, query, opened, withLive, settled, base, stepAdd, stepLive, step}
+use Rattle.model.specs.Model.{baseLimit, State, Call, add, change, withdraw, query, opened, withLive, wouldLeave, base, stepAdd, stepLive, step}
 use Rattle.model.specs.Request.{subject, askOf, serveRead, serve}
 use Rattle.concrete.specs.Table as T
-use Rattle.concrete.specs.Table.{Table, nth}
-use Rattle.concrete.specs.Layout.{numbersOf, tableFrom, unusedIn, lengthOf}
+use Rattle.concrete.specs.Table.{Table}
+use Rattle.concrete.specs.Layout.{mostBuckets1, inRange, numbersOf, unusedIn, lengthOf}
 use Rattle.concrete.specs.Content.{entriesOf}
 use Rattle.concrete.specs.Sound.{SoundLevel, SoundTable}
-use Rattle.concrete.specs.Test.{inRange, shapeTest}
-use Rattle.concrete.specs.Calls.{rows, solutions, tableOf, planIn, shaped, sound, FlatSound, Outcome, turnedDown, openCall, joined, replaced, queried, served, callRead, call}
-use Rattle.concrete.specs.History.{PlanFits, Put, flatState}
-use Rattle.concrete.proofs.Numbers.{AllShaped, ShapedTable, Laid, length-levelFrom, back, laid, forth}
+use Rattle.concrete.specs.Test.{shapeTest}
+use Rattle.concrete.specs.Calls.{rows, solutions, tableOf, planIn, shaped, sound, FlatSound, Outcome, turnedDown, joined, replaced, queried, served, callRead, call}
+use Rattle.concrete.specs.History.{PlanFits, flatState}
+use Rattle.concrete.proofs.Numbers.{AllShaped, ShapedTable, Laid, header-read, back, laid}
 use Rattle.concrete.proofs.Stand.{Stands, open-stands, look, change-stands, withdraw-stands, based-length, add-stands}
 use Rattle.concrete.proofs.Content.{table-entries, table-live}
 use Rattle.concrete.proofs.Sound.{one-to-one, sound-stands, stands-sound}
@@ -105,10 +103,9 @@ module _ (t : List ℕ) (s : State) (h : FlatStands t s) where
   T₀ = tableOf t
 
   range : inRange (s .buckets1) (s .buckets2) ≡ true
-  unfolding tableFrom
   range =
-      ap₂ inRange (sym (h .stands .level1 .count) ∙ length-levelFrom rows solutions (getD t 0 0) _) (sym (h .stands .level2 .count) ∙ length-levelFrom rows solutions (getD t 1 0) _)
-      ∙ shape-range t (h .shape)
+      let k = header-read rows solutions t in
+      ap₂ inRange (sym (h .stands .level1 .count) ∙ k .0) (sym (h .stands .level2 .count) ∙ k .1) ∙ shape-range t (h .shape)
 
   pub stands-flat : FlatSound t
   stands-flat = record { table = stands-sound rows solutions mixOf unmixOf keeps keepsU unmix-mix mix-unmix T₀ s (h .stands); unused = h .unused }
@@ -139,17 +136,17 @@ module _ (t : List ℕ) (s : State) (h : FlatStands t s) where
     by-plan f g k = subst⁻¹ (λ (o : Option ℕ). Match (f o) (g (find w (s .live)))) (stands-look w l) (k (find w (s .live)) refl)
 
     live-match : (u : Table) (es : List Entry) → ((q : ℕ) → find w (s .live) ≡ some q → Stands rows solutions mixOf u (withLive s es))
-        → Match (replaced t u (planIn t w)) (stepLive firstLevel secondLevel s es (find w (s .live)))
-    live-match u es k = by-plan (replaced t u) (stepLive firstLevel secondLevel s es) go
+        → Match (replaced t u (planIn t w)) (stepLive s es (find w (s .live)))
+    live-match u es k = by-plan (replaced t u) (stepLive s es) go
       where
-        go : (o : Option ℕ) → find w (s .live) ≡ o → Match (replaced t u o) (stepLive firstLevel secondLevel s es o)
+        go : (o : Option ℕ) → find w (s .live) ≡ o → Match (replaced t u o) (stepLive s es o)
         go none e = record { says = refl; stands = h }
         go (some q) e = record { says = refl; stands = numbers-stand u (withLive s es) (k q e) range }
 
     query-match : Match (queried t (planIn t w)) (step firstLevel secondLevel s (query w))
-    query-match = by-plan (queried t) (stepLive firstLevel secondLevel s (s .live)) go
+    query-match = by-plan (queried t) (stepLive s (s .live)) go
       where
-        go : (o : Option ℕ) → find w (s .live) ≡ o → Match (queried t o) (stepLive firstLevel secondLevel s (s .live) o)
+        go : (o : Option ℕ) → find w (s .live) ≡ o → Match (queried t o) (stepLive s (s .live) o)
         go none e = record { says = refl; stands = h }
         go (some q) e = record { says = refl; stands = h }
 
@@ -164,7 +161,7 @@ module _ (t : List ℕ) (s : State) (h : FlatStands t s) where
         u = T.addedTo rows solutions mixOf T₀ (record { word = w; plan = p })
 
         t′ : State
-        t′ = settled firstLevel secondLevel s (insert (record { word = w; plan = p }) (s .live))
+        t′ = wouldLeave firstLevel secondLevel s (record { word = w; plan = p })
 
         go : (o : Option ℕ) → find w (s .live) ≡ o → Match (joined t u o) (stepAdd firstLevel secondLevel s e o)
         go (some q) f = record { says = refl; stands = h }
@@ -197,10 +194,27 @@ module _ (t : List ℕ) (s : State) (h : FlatStands t s) where
 
 -- ---- opening, and sound numbers
 
+range-some : (b1 b2 : ℕ) → inRange b1 b2 ≡ true → (0 < b1) × (0 < b2)
+range-some b1 b2 h =
+    (leb-true 1 b1 (and-one (leb 1 b1) _ (and-one (leb 1 b1 && leb b1 mostBuckets1) _ h)), leb-true 1 b2 (and-one (leb 1 b2) _ (and-two (leb 1 b1 && leb b1 mostBuckets1) _ h)))
+
 pub open-stands-flat : (b1 b2 : ℕ) → inRange b1 b2 ≡ true → FlatStands (numbersOf (T.openTable rows solutions b1 b2)) (opened b1 b2)
 open-stands-flat b1 b2 h =
-    numbers-stand (T.openTable rows solutions b1 b2) (opened b1 b2)
-    (open-stands rows solutions mixOf b1 b2 (leb-true 1 b1 (and-one (leb 1 b1) _ (and-one (leb 1 b1 && leb b1 48) _ h))) (leb-true 1 b2 (and-one (leb 1 b2) _ (and-two (leb 1 b1 && leb b1 48) _ h)))) h
+    let g = range-some b1 b2 h in
+    numbers-stand (T.openTable rows solutions b1 b2) (opened b1 b2) (open-stands rows solutions mixOf b1 b2 (g .0) (g .1)) h
 
 pub sound-stands-flat : (t : List ℕ) → shaped t ≡ true → FlatSound t → FlatStands t (flatState t)
 sound-stands-flat t k h = record { shape = k; unused = h .unused; stands = sound-stands rows solutions mixOf unmixOf keeps keepsU unmix-mix mix-unmix (tableOf t) (h .table) }
+
+pub sound-laid : (t : List ℕ) → shaped t ≡ true → FlatSound t → Laid rows solutions t
+sound-laid t k h = record {
+  size = shape-size t k;
+  fits = subst (λ (c : ℕ). c ≤ baseLimit) (header-read rows solutions t .2) (h .table .fits);
+  unused = h .unused;
+}
+
+-- the test says true exactly of sound tables
+pub sound-exactly : (t : List ℕ) → shaped t ≡ true → ((i : ℕ) → getD t i 0 < 2 ^ rows) → (sound t ≡ true) ↔ FlatSound t
+sound-exactly t k b =
+    let g = range-some (getD t 0 0) (getD t 1 0) (shape-range t k) in
+    (test-sound rows solutions mixOf unmixOf t (shape-size t k) b (g .0) (g .1), sound-test rows solutions mixOf unmixOf t)

@@ -1,6 +1,6 @@
 -- A table that stands for a state holds the state's live words, and no others, and counts them.
 -- Assumes nothing.
-use Prim.Native.Nat.{ℕ, zero, suc, _+_, _/_, _%_, _^_, _≤_, _<_, zero-le}
+use Prim.Native.Nat.{ℕ, zero, suc, _+_, _/_, _%_, _^_, _<_, zero-le}
 use native.Mathlib.Nat.{le-trans, mod-lt, pow-suc, add-zero, zero-add, ℕ-set}
 use native.Mathlib.Omega.{arith}
 use mathlib.Core.Path.{_≡_, refl, sym, ap, ap₂, _∙_, subst, subst⁻¹, subst₂}

@@ -2,44 +2,43 @@
 -- Assumes nothing.
 use Prim.Native.Nat.{ℕ, _+_, _^_, _<_}
 use native.Mathlib.Omega.{arith}
-use mathlib.Core.Path.{_≡_, refl, sym, ap, ap₂, _∙_, subst, subst⁻¹}
-use mathlib.Core.Bool.{Bool, true, false, not, cond, _||_, true≢false}
+use mathlib.Core.Path.{_≡_, refl, sym, ap, _∙_, subst, subst⁻¹}
+use mathlib.Core.Bool.{true, false, true≢false}
 use mathlib.Core.Logic.{_⊎_, ⊎-elim, _↔_}
 use mathlib.Core.Option.{Option, none, some}
 use mathlib.Core.List.{List, map, List·Permᴰ}
 use lib.Dec.{eqb, ltb}
 use lib.ListN.{length, getD}
-use borrow.Author.Tests.{eq-eqb}
-use Rattle.lists.specs.Entries.{Entry, words, find, insert}
-use Rattle.lists.proofs.Tests.{cases, by-test, cond-true, cond-false}
+use Rattle.lists.specs.Entries.{Entry, words, find}
+use Rattle.lists.proofs.Tests.{by-test, cond-true, cond-false}
 use Rattle.gf2.specs.Bound.{Largest}
 use Rattle.hash.specs.Mix.{mixOf, unmixOf}
 use Rattle.answer.specs.declared.Answer.{Answer}
-use Rattle.answer.specs.declared.Answer.the-variants.{Accepted, WrongBuckets, WrongTable, Full}
+use Rattle.answer.specs.declared.Answer.the-variants.{Accepted, WrongTable, NotSound, Full}
 use Rattle.answer.specs.Numbers.{numberOf}
-use Rattle.identifier.specs.Identifier.{sized, firstRefused, wordOf, readOf}
+use Rattle.identifier.specs.Identifier.{wordOf, readOf}
 use Rattle.identifier.specs.declared.Read.{Read}
 use Rattle.identifier.specs.declared.Read.the-variants.{Word, Refused}
 use Rattle.identifier.proofs.Causes.{read-word}
 use Rattle.identifier.proofs.Words.{word-lt}
 use Rattle.model.specs.Levels.{firstLevel, secondLevel, passed, due}
 use Rattle.model.specs.Model as M
-use Rattle.model.specs.Model.{baseLimit, State, Call, add, change, withdraw, query, opened, settled, base, stepLive, step}
+use Rattle.model.specs.Model.{baseLimit, State, Call, add, change, withdraw, query, opened, wouldLeave, base, step}
 use Rattle.model.specs.Request.{subject, byWord, serveRead, serve}
-use Rattle.model.specs.History.{accepted, after, acceptedOf, Refines, Compares, addsIn, withdrawalsIn, told}
+use Rattle.model.specs.Machine.{accepted, after, acceptedOf, Refines, Compares}
+use Rattle.model.specs.History.{addsIn, withdrawalsIn, told}
 use Rattle.model.proofs.Valid.{valid-opened}
 use Rattle.model.proofs.Refine.{stands-after, accepted-after}
 use Rattle.model.proofs.Calls.{count-after, told-after}
-use Rattle.model.proofs.Requests.{serve-each}
+use Rattle.model.proofs.Requests.{serve-each, serve-never}
 use Rattle.model.proofs.Statements as Model
 use Rattle.concrete.specs.Table as T
-use Rattle.concrete.specs.Table.{Table, bounds}
-use Rattle.concrete.specs.Layout.{numbersOf, tableFrom, lengthOf}
-use Rattle.concrete.specs.Test.{inRange}
+use Rattle.concrete.specs.Table.{Table}
+use Rattle.concrete.specs.Layout.{inRange, numbersOf, tableFrom, lengthOf}
 use Rattle.concrete.specs.Content.{entriesOf}
 use Rattle.concrete.specs.Calls.{rows, solutions, tableOf, planIn, shaped, sound, FlatSound, Outcome, turnedDown, openCall, joined, replaced, queried, served, callRead, call}
-use Rattle.concrete.specs.History.{PlanFits, Put, tables, states, Opened, acceptedCalls, flatState, Same}
-use Rattle.concrete.proofs.Calls.{FlatStands, Match, stands-flat, stands-test, stands-shows, stands-look, stands-entries, call-match, open-stands-flat, sound-stands-flat}
+use Rattle.concrete.specs.History.{Put, tables, states, Opened, acceptedCalls, flatState, Same}
+use Rattle.concrete.proofs.Calls.{FlatStands, Match, stands-test, stands-shows, stands-look, call-match, open-stands-flat, sound-stands-flat, stands-flat, stands-entries}
 
 -- ---- the table refines the model
 
@@ -74,73 +73,59 @@ open-refused b1 b2 t =
 
 -- ---- what each call leaves where it is refused, and which causes it can give
 
-module _ (t : List ℕ) where
-  -- a property of what a call does, by the cases of the call
-  module _ (P : Outcome → Type 0) (down : (a : Answer) → (eqb (numberOf a) 4 || eqb (numberOf a) 5) ≡ false → P (turnedDown a t)) (done : (k : ℕ) (u : List ℕ) → P (record { answer = Accepted k; table = u })) where
-    by-served : (w : ℕ) (c : Call (List ℕ)) → P (served t w c)
-    unfolding served
-    by-served w (add i p) = go (planIn t w)
-      where
-        u : Table
-        u = T.addedTo rows solutions mixOf (tableOf t) (record { word = w; plan = p })
+module _ (t : List ℕ) (c : Call (List ℕ)) where
+  -- the causes in their order
+  pub by-identifier : (a : Answer) → readOf (subject c) ≡ Refused a → call t c ≡ turnedDown a t
+  unfolding call
+  by-identifier a e = ap (callRead t c) e
 
-        go : (o : Option ℕ) → P (joined t u o)
-        go (some q) = down _ refl
-        go none = by-test P (ltb baseLimit (length (u .base))) (λ b. down _ refl) (λ b. done _ _)
-    by-served w (change i p) = go (planIn t w)
-      where
-        go : (o : Option ℕ) → P (replaced t (T.changedIn rows solutions mixOf (tableOf t) w p) o)
-        go (some q) = done _ _
-        go none = down _ refl
-    by-served w (withdraw i) = go (planIn t w)
-      where
-        go : (o : Option ℕ) → P (replaced t (T.withdrawnFrom rows solutions mixOf (tableOf t) w) o)
-        go (some q) = done _ _
-        go none = down _ refl
-    by-served w (query i) = go (planIn t w)
-      where
-        go : (o : Option ℕ) → P (queried t o)
-        go (some q) = done _ _
-        go none = down _ refl
+  module _ (w : ℕ) (e : readOf (subject c) ≡ Word w) where
+    pub by-shape : shaped t ≡ false → call t c ≡ turnedDown (WrongTable (length t)) t
+    unfolding call
+    by-shape k = ap (callRead t c) e ∙ cond-false _ _ k
+
+    pub by-sound : shaped t ≡ true → sound t ≡ false → call t c ≡ turnedDown NotSound t
+    unfolding call
+    by-sound k h = ap (callRead t c) e ∙ cond-true _ _ k ∙ cond-false _ _ h
+
+    pub by-word : shaped t ≡ true → sound t ≡ true → call t c ≡ served t w c
+    unfolding call
+    by-word k h = ap (callRead t c) e ∙ cond-true _ _ k ∙ cond-true _ _ h
+
+module _ (t : List ℕ) where
+  -- refused calls keep every number
+  abbrev Kept : Outcome → Type 0
+  Kept o = accepted (o .answer) ≡ false → o .table ≡ t
+
+  kept-replaced : (u : Table) (o : Option ℕ) → Kept (replaced t u o)
+  kept-replaced u (some q) = λ r. absurd (true≢false r)
+  kept-replaced u none = λ r. refl
+
+  kept-served : (w : ℕ) (c : Call (List ℕ)) → Kept (served t w c)
+  unfolding served
+  kept-served w (add i p) = go (planIn t w)
+    where
+      u : Table
+      u = T.addedTo rows solutions mixOf (tableOf t) (record { word = w; plan = p })
+
+      go : (o : Option ℕ) → Kept (joined t u o)
+      go (some q) = λ r. refl
+      go none = by-test Kept (ltb baseLimit (length (u .base))) (λ b r. refl) (λ b r. absurd (true≢false r))
+  kept-served w (change i p) = kept-replaced (T.changedIn rows solutions mixOf (tableOf t) w p) (planIn t w)
+  kept-served w (withdraw i) = kept-replaced (T.withdrawnFrom rows solutions mixOf (tableOf t) w) (planIn t w)
+  kept-served w (query i) = go (planIn t w)
+    where
+      go : (o : Option ℕ) → Kept (queried t o)
+      go (some q) = λ r. refl
+      go none = λ r. refl
 
   pub call-refused : (c : Call (List ℕ)) → accepted (call t c .answer) ≡ false → call t c .table ≡ t
   unfolding call
   call-refused c = go (readOf (subject c))
     where
-      Kept : Outcome → Type 0
-      Kept o = accepted (o .answer) ≡ false → o .table ≡ t
-
       go : (x : Read) → Kept (callRead t c x)
       go (Refused a) = λ r. refl
-      go (Word w) =
-          by-test Kept (shaped t) (λ k. by-test Kept (sound t) (λ h. by-served Kept (λ a e r. refl) (λ k u r. absurd (true≢false r)) w c) (λ h r. refl)) (λ k r. refl)
-
-  -- neither cause 4 nor cause 5
-  abbrev Other : Outcome → Type 0
-  Other o = (eqb (numberOf (o .answer)) 4 || eqb (numberOf (o .answer)) 5) ≡ false
-
-  abbrev OtherRead : Read → Type 0
-  OtherRead (Refused a) = Other (turnedDown a t)
-  OtherRead (Word w) = Unit {0}
-
-  other-read : (i : List ℕ) → OtherRead (readOf i)
-  unfolding readOf
-  other-read i = by-test OtherRead (sized (length i)) (λ k. by-test OtherRead (ltb (firstRefused i) (length i)) (λ h. refl) (λ h. tt)) (λ k. refl)
-
-  call-other : shaped t ≡ true → sound t ≡ true → (c : Call (List ℕ)) → Other (call t c)
-  unfolding call
-  call-other k h c = go (readOf (subject c)) (other-read (subject c))
-    where
-      go : (x : Read) → OtherRead x → Other (callRead t c x)
-      go (Refused a) e = e
-      go (Word w) e = subst⁻¹ Other (cond-true _ _ k ∙ cond-true _ _ h) (by-served Other (λ a q. q) (λ k u. refl) w c)
-
-  pub never : shaped t ≡ true → sound t ≡ true → (c : Call (List ℕ)) → (numberOf (call t c .answer) ≡ 4 → ⊥) × (numberOf (call t c .answer) ≡ 5 → ⊥)
-  never k h c =
-      let o = call-other k h c in (
-        λ e. true≢false (sym (ap (λ (n : ℕ). eqb n 4 || eqb n 5) e) ∙ o),
-        λ e. true≢false (sym (ap (λ (n : ℕ). eqb n 4 || eqb n 5) e) ∙ o),
-      )
+      go (Word w) = by-test Kept (shaped t) (λ k. by-test Kept (sound t) (λ h. kept-served w c) (λ h r. refl)) (λ k r. refl)
 
 -- ---- after any list of calls since an accepted opening
 
@@ -156,6 +141,11 @@ module _ (t : List ℕ) (o : Opened t) (ps : List Put) where
 
   pub after-stands : FlatStands t₁ s₁
   after-stands = stands-after tables states FlatStands refines t s₀ (opened-stands t o) ps
+
+  -- neither cause 4 nor cause 5
+  pub never : (p : Put) → (numberOf (call t₁ (p .call) .answer) ≡ 4 → ⊥) × (numberOf (call t₁ (p .call) .answer) ≡ 5 → ⊥)
+  never p =
+      subst⁻¹ (λ (a : Answer). (numberOf a ≡ 4 → ⊥) × (numberOf a ≡ 5 → ⊥)) (call-match t₁ s₁ after-stands (p .call) (p .fits) .says) (serve-never s₁ (p .call))
 
   -- the same calls are accepted as by the model
   same-calls : map (λ p. byWord (p .call)) (acceptedOf states s₀ ps) ≡ acceptedCalls t ps
@@ -174,6 +164,9 @@ module _ (t : List ℕ) (o : Opened t) (ps : List Put) where
       ∙ told-after firstLevel secondLevel states (λ p. byWord (p .call)) (λ s p. serve-each s (p .call)) v s₀ (valid-opened firstLevel secondLevel (o .buckets1) (o .buckets2)) false 0 refl ps
       ∙ ap (told v) same-calls
 
+word-lt-of : (i : List ℕ) (w : ℕ) → readOf i ≡ Word w → w < 2 ^ rows
+word-lt-of i w e = subst⁻¹ (λ (x : ℕ). x < 2 ^ rows) (read-word i w .0 e .2) (word-lt i)
+
 -- ---- a sound table, also one handed in from elsewhere
 
 module _ (t : List ℕ) (k : shaped t ≡ true) (h : FlatSound t) where
@@ -183,9 +176,23 @@ module _ (t : List ℕ) (k : shaped t ≡ true) (h : FlatSound t) where
   st : FlatStands t s
   st = sound-stands-flat t k h
 
+  -- the three tests find the plan of a live word, and nothing for any other
+  pub sound-look : (w : ℕ) → w < 2 ^ rows → planIn t w ≡ find w (s .live)
+  sound-look = stands-look t s st
+
+  -- the occupied rows and base entries are the live words, and are counted
+  pub sound-entries : List·Permᴰ (entriesOf rows unmixOf (tableOf t)) (s .live)
+  sound-entries = stands-entries t s st
+
+  pub sound-count : getD t 3 0 ≡ length (s .live)
+  unfolding tableFrom
+  sound-count = st .stands .counted
+
   -- a query of a live word gives its plan, of any other word cause 7
-  pub query-is : (i : List ℕ) (w : ℕ) → readOf i ≡ Word w → call t (query i) .answer ≡ stepLive firstLevel secondLevel s (s .live) (find w (s .live)) .answer
-  query-is i w e = call-match t s st (query i) tt .says ∙ ap (λ (x : Read). serveRead s (query i) x .answer) e
+  pub query-is : (i : List ℕ) (w : ℕ) → readOf i ≡ Word w → call t (query i) ≡ queried t (find w (s .live))
+  unfolding served
+  query-is i w e =
+      by-word t (query i) w e k (stands-test t s st) ∙ ap (queried t) (sound-look w (word-lt-of i w e))
 
   module _ (i : List ℕ) (p : ℕ) (l : p < 2 ^ solutions) where
     abbrev t′ : List ℕ
@@ -221,8 +228,18 @@ module _ (t : List ℕ) (k : shaped t ≡ true) (h : FlatSound t) where
           (Model.bounds-second firstLevel secondLevel s e took j q)
 
     pub rule-full : (w : ℕ) → readOf i ≡ Word w → find w (s .live) ≡ none
-        → (call t (add i p) .answer ≡ Full) ↔ (baseLimit < length (base firstLevel secondLevel (settled firstLevel secondLevel s (insert (record { word = w; plan = p }) (s .live)))))
+        → (call t (add i p) .answer ≡ Full) ↔ (baseLimit < length (base firstLevel secondLevel (wouldLeave firstLevel secondLevel s (record { word = w; plan = p }))))
     rule-full w q f =
-        subst⁻¹ (λ (a : Answer). (a ≡ Full) ↔ (baseLimit < length (base firstLevel secondLevel (settled firstLevel secondLevel s (insert (record { word = w; plan = p }) (s .live))))))
+        subst⁻¹ (λ (a : Answer). (a ≡ Full) ↔ (baseLimit < length (base firstLevel secondLevel (wouldLeave firstLevel secondLevel s (record { word = w; plan = p })))))
         (m .says ∙ ap (λ (x : Read). serveRead s (add i p) x .answer) q)
         (Model.full-exactly firstLevel secondLevel s (record { word = w; plan = p }) f)
+
+-- ---- what a query tells after any list of calls
+
+pub query-after : (t : List ℕ) (o : Opened t) (ps : List Put) (i : List ℕ) (w : ℕ) → readOf i ≡ Word w
+    → call (after tables t ps) (query i) ≡ queried (after tables t ps) (told w (acceptedCalls t ps))
+query-after t o ps i w e =
+    let h = after-stands t o ps in
+    let l : w < 2 ^ rows = word-lt-of i w e in
+    query-is (after tables t ps) (h .shape) (stands-flat (after tables t ps) _ h) i w e
+    ∙ ap (queried (after tables t ps)) (sym (sound-look (after tables t ps) (h .shape) (stands-flat (after tables t ps) _ h) w l) ∙ plan-after t o ps w l)

@@ -5,7 +5,7 @@ use Prim.Native.Nat.{ℕ, _/_, _^_, _<_}
 use native.Mathlib.Nat.{mod-lt}
 use mathlib.Core.Path.{_≡_, refl, sym, ap, ap₂, _∙_, subst, subst⁻¹, subst₂}
 use mathlib.Core.Bool.{Bool, false, not, _&&_, and-true, and-false}
-use mathlib.Core.List.{List, [], _∷_, _++_, map, map-map, append-assoc, List·Permᴰ, List·Permᴰ·trans, Permᴰ·refl, Permᴰ·symm, Permᴰ·append-right, Permᴰ·append-left, Permᴰ·middle, List·Memᴰ, List·Memᴰ·head, List·Memᴰ·tail}
+use mathlib.Core.List.{List, [], _∷_, _++_, map, map-map, append-assoc, List·Permᴰ, List·Permᴰ·trans, Permᴰ·refl, Permᴰ·symm, Permᴰ·append-right, Permᴰ·append-left, List·Memᴰ, List·Memᴰ·head, List·Memᴰ·tail}
 use lib.Dec.{eqb, ltb}
 use lib.ListN.{length, getD, set, length-set, length-map}
 use lib.Seq.{getD-set-same, getD-set-other}
@@ -23,7 +23,7 @@ use Rattle.settle.proofs.Hold.{Holds, holds-perm}
 use Rattle.settle.proofs.Fall.{held, over, seen, Settles, settle-law}
 use Rattle.model.specs.Levels as M
 use Rattle.model.specs.Levels.{Level, dueAs, due}
-use Rattle.model.proofs.Arrivals.{arrive, arrives}
+use Rattle.model.proofs.Arrivals.{joined, arrive, arrives}
 use Rattle.concrete.specs.Table.{Placed, bounds, thr, index, second, nth, arriveAt, arriveAll}
 
 pub bounds-length : (bs : List Bucket) → length (bounds bs) ≡ length bs
@@ -40,15 +40,6 @@ Fits n r e = (e .word < 2 ^ n) × (e .plan < 2 ^ r)
 
 abbrev pub Small : ℕ → ℕ → List Entry → Type 0
 Small n r es = (e : Entry) → List·Memᴰ e es → Fits n r e
-
--- the entries, with more of them in front, one after the other
-abbrev pub joined : List Entry → List Entry → List Entry
-joined es [] = es
-joined es (e ∷ new) = joined (e ∷ es) new
-
-pub joined-perm : (es new : List Entry) → List·Permᴰ (joined es new) (new ++ es)
-joined-perm es [] = Permᴰ·refl es
-joined-perm es (e ∷ new) = List·Permᴰ·trans (joined-perm (e ∷ es) new) (Permᴰ·middle e new es)
 
 module _ (S : ℕ → ℕ) where
   -- the model's levels for the mix S

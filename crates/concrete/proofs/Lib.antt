@@ -7,3 +7,5 @@ pub mod Sound
 pub mod Test
 pub mod Calls
 pub mod History
+pub mod AtOnce
+pub mod Statements

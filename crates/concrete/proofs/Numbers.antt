@@ -3,12 +3,16 @@
 use Prim.Native.Nat.{ℕ, zero, suc, _+_, _-_, _*_, _≤_, _<_}
 use native.Mathlib.Nat.{add-mul, not-suc-le-zero, le-of-suc-le-suc}
 use native.Mathlib.Omega.{arith}
-use mathlib.Core.Path.{_≡_, refl, sym, ap, ap₂, _∙_, subst}
+use mathlib.Core.Path.{_≡_, refl, sym, ap, ap₂, _∙_, subst, subst⁻¹}
 use mathlib.Core.List.{List, [], _∷_, _++_, append-assoc}
+use lib.Dec.{eqb}
 use lib.ListN.{length, getD, set, take, drop, replicate, length-append, length-drop, length-set, length-replicate}
-use lib.Seq.{take-append-add, drop-append-add, take-at, drop-at, getD-take, getD-drop, take-take, take-nil, drop-drop}
+use lib.Seq.{take-append-add, drop-append-add, take-at, drop-at, getD-take, getD-drop, take-take, take-nil, drop-drop, getD-set-same, getD-set-other}
+use borrow.Author.Tests.{eqb-true, eqb-false}
 use Rattle.lists.specs.Entries.{Entry}
+use Rattle.lists.proofs.Tests.{cases}
 use Rattle.bucket.specs.declared.Bucket.{Bucket}
+use Rattle.bucket.specs.Bucket.{emptyBucket}
 use Rattle.bucket.specs.Words.{bucketWords, wordsOf, bucketFrom, Shaped}
 use Rattle.bucket.proofs.Words.{length-words, from-words, words-from}
 use Rattle.model.specs.Model.{baseLimit}
@@ -85,6 +89,14 @@ module _ (n r : ℕ) where
     pub unused : (i : ℕ) → getD (unusedIn n r xs) i 0 ≡ 0
 
   -- ---- one level
+
+  pub set-shaped : (bs : List Bucket) (i : ℕ) (b : Bucket) → AllShaped bs → Shaped n r b → AllShaped (set bs i b)
+  set-shaped bs i b f h j l =
+      let k : j < length bs = subst (λ (m : ℕ). j < m) (length-set bs i b) l in
+      cases (eqb j i)
+      (λ t. let e = eqb-true j i t in
+      subst⁻¹ (Shaped n r) (ap (nth n r (set bs i b)) e ∙ getD-set-same bs i b (emptyBucket n r) (subst (λ (m : ℕ). m < length bs) e k)) h)
+      (λ t. subst⁻¹ (Shaped n r) (getD-set-other bs i j b (emptyBucket n r) (eqb-false j i t)) (f j k))
 
   module _ (b : Bucket) (bs : List Bucket) (f : AllShaped (b ∷ bs)) where
     head : Shaped n r b
@@ -314,6 +326,21 @@ module _ (n r : ℕ) where
       let e : bucketPlace n r (getD xs 0 0) + i * bucketWords n r ≡ bucketPlace n r (getD xs 0 0 + i) = omega (arith, add-mul (getD xs 0 0) i (bucketWords n r)) in
       read-level (getD xs 1 0) (drop (bucketPlace n r (getD xs 0 0)) xs) i l
       ∙ ap (bucketFrom n r) (drop-drop (i * bucketWords n r) (bucketPlace n r (getD xs 0 0)) xs ∙ ap (λ (k : ℕ). drop k xs) e)
+
+  -- the header, and base pair i
+  pub header-read : (xs : List ℕ) → (length (tableFrom n r xs .level1) ≡ getD xs 0 0) × (length (tableFrom n r xs .level2) ≡ getD xs 1 0)
+      × (length (tableFrom n r xs .base) ≡ getD xs 2 0) × (tableFrom n r xs .count ≡ getD xs 3 0)
+  unfolding tableFrom
+  header-read xs = (length-levelFrom (getD xs 0 0) _, length-levelFrom (getD xs 1 0) _, length-pairsFrom (getD xs 2 0) _, refl)
+
+  pub read-base : (xs : List ℕ) (i : ℕ) (d : Entry) → i < getD xs 2 0
+      → getD (tableFrom n r xs .base) i d
+      ≡ record {
+        word = getD (drop (bucketPlace n r (getD xs 0 0 + getD xs 1 0)) xs) (2 * i) 0;
+        plan = getD (drop (bucketPlace n r (getD xs 0 0 + getD xs 1 0)) xs) (2 * i + 1) 0;
+      }
+  unfolding tableFrom
+  read-base xs i d l = read-pair (getD xs 2 0) (drop (bucketPlace n r (getD xs 0 0 + getD xs 1 0)) xs) i d l
 
   four : (xs : List ℕ) → header ≤ length xs → getD xs 0 0 ∷ getD xs 1 0 ∷ getD xs 2 0 ∷ getD xs 3 0 ∷ drop header xs ≡ xs
   four [] h = absurd (omega arith)

@@ -21,8 +21,8 @@ use Rattle.gf2.specs.Bound.{Free}
 use Rattle.gf2.proofs.Linear.{product-lt}
 use Rattle.bucket.specs.declared.Bucket.{Bucket}
 use Rattle.bucket.specs.Bucket.{largestBound, lookup, live}
-use Rattle.settle.specs.Settle.{SoundBucket, contents}
-use Rattle.settle.proofs.Hold.{Holds, holds-perm}
+use Rattle.settle.specs.Settle.{contents}
+use Rattle.settle.proofs.Hold.{holds-perm}
 use Rattle.settle.proofs.Fall.{seen, rows-of}
 use Rattle.settle.proofs.Sound.{sound-holds, holds-sound, holds-free}
 use Rattle.model.specs.Levels.{due, passed}
@@ -34,7 +34,7 @@ use Rattle.concrete.specs.Content.{occupied, allRows, backOf, entriesOf,
 use Rattle.concrete.specs.Sound.{Row, SoundLevel, SoundTable}
 use Rattle.concrete.proofs.Level.{Fits, Small, bounds-length, bound-at, firstLevel, secondLevel, within, dueIn, due-in, LevelHolds}
 use Rattle.concrete.proofs.Touch.{holds-test}
-use Rattle.concrete.proofs.Stand.{passes, later, last, due-map, words-second, last-length, Stands, test1, test2, distinct-later, distinct-last, small-passes}
+use Rattle.concrete.proofs.Stand.{passes, later, last, due-map, words-second, last-length, Stands, test1, test2, distinct-last}
 use Rattle.concrete.proofs.Content.{all-length, entries-length, table-count}
 
 -- ---- the entries of a bucket are its live vectors

@@ -7,7 +7,7 @@ use mathlib.Core.Path.{_≡_, refl, sym, ap, ap₂, _∙_, subst, subst⁻¹, su
 use mathlib.Core.Bool.{Bool, true, false, not}
 use mathlib.Core.Logic.{⊎-elim}
 use mathlib.Core.Option.{Option, none, some}
-use mathlib.Core.List.{List, [], _∷_, _++_, map, map-map, map-append, Sublistᴰ, Sublistᴰ·refl, List·Permᴰ, List·Permᴰ·trans, Permᴰ·symm, Permᴰ·map, Permᴰ·append-left, List·Memᴰ, List·Memᴰ·tail, List·Memᴰ·not-nil, List·Memᴰ·cases-cons, Memᴰ·of-map, Memᴰ·append-left}
+use mathlib.Core.List.{List, [], _∷_, _++_, map, map-map, map-append, Sublistᴰ, Sublistᴰ·refl, List·Permᴰ, List·Permᴰ·trans, Permᴰ·symm, Permᴰ·map, Permᴰ·append-left, List·Memᴰ·tail, List·Memᴰ·not-nil, List·Memᴰ·cases-cons, Memᴰ·of-map, Memᴰ·append-left}
 use lib.Dec.{eqb}
 use lib.ListN.{length, getD, set, replicate, length-replicate, getD-replicate, length-map}
 use Rattle.lists.specs.Lists.{keep, tabulate}
@@ -22,14 +22,14 @@ use Rattle.gf2.proofs.Bound.{fall}
 use Rattle.bucket.specs.declared.Bucket.{Bucket}
 use Rattle.bucket.specs.Bucket.{largestBound, emptyBucket}
 use Rattle.settle.proofs.Hold.{Holds, holds-empty}
-use Rattle.model.specs.Levels.{Level, dueAs, due, passed}
-use Rattle.model.specs.Model.{baseLimit, State, opened, withLive, settled, base}
+use Rattle.model.specs.Levels.{dueAs, due, passed}
+use Rattle.model.specs.Model.{baseLimit, State, opened, withLive, wouldLeave, base}
 use Rattle.model.proofs.Levels.{passed-words}
-use Rattle.model.proofs.Arrivals.{arrive, arrives}
+use Rattle.model.proofs.Arrivals.{joined, joined-perm, arrive, arrives}
 use Rattle.model.proofs.Valid.{Valid, valid-opened, valid-live, valid-settled}
 use Rattle.model.proofs.AddSteps.{first, first-settled, second-settled}
 use Rattle.concrete.specs.Table.{Table, Placed, bounds, index, second, onSecond, bucketOf, put, holds, planIn, openTable, touch, changedIn, withdrawnFrom, arriveAt, arriveAll, addedTo}
-use Rattle.concrete.proofs.Level.{Fits, Small, joined, joined-perm, firstLevel, secondLevel, within, pass, LevelHolds, level-perm, Arrived, arrive-law, ArrivedAll, arrive-all}
+use Rattle.concrete.proofs.Level.{Fits, Small, firstLevel, secondLevel, within, pass, LevelHolds, level-perm, Arrived, arrive-law, ArrivedAll, arrive-all}
 use Rattle.concrete.proofs.Touch.{Edit, withdraw-edit, change-edit, holds-test, level-find, level-past, level-touch, touch-bounds}
 
 module _ (S : ℕ → ℕ) where
@@ -266,7 +266,7 @@ module _ (n r : ℕ) (S : ℕ → ℕ) (keeps : (x : ℕ) → x < 2 ^ n → S x 
     module _ (e : Entry) (fits : Fits n r e) (fresh : find (e .word) (s .live) ≡ none) where
       -- the state that the model comes to
       abbrev t : State
-      t = settled (firstLevel S) (secondLevel S) s (insert e (s .live))
+      t = wouldLeave (firstLevel S) (secondLevel S) s e
 
       abbrev p1 : Placed
       p1 = arriveAt n r S (T .level1) e

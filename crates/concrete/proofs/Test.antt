@@ -1,10 +1,10 @@
 -- The test says true exactly of sound tables, in numbers that have the length of the layout and are below 2 ^ n.
 -- Assumes nothing.
 use Prim.Native.Nat.{ℕ, zero, suc, _+_, _*_, _^_, _≤_, _<_}
-use native.Mathlib.Nat.{lt-trans, not-suc-le-zero, le-of-suc-le-suc, add-mul, add-zero, zero-add}
+use native.Mathlib.Nat.{not-suc-le-zero, le-of-suc-le-suc, add-mul, add-zero, zero-add}
 use native.Mathlib.Omega.{arith}
 use mathlib.Core.Path.{_≡_, refl, sym, ap, _∙_, subst, subst⁻¹}
-use mathlib.Core.Bool.{Bool, true, false, not, _&&_, true≢false}
+use mathlib.Core.Bool.{Bool, true, not, _&&_, true≢false}
 use mathlib.Core.Logic.{_⊎_, inl, inr, ⊎-elim}
 use mathlib.Core.List.{List, [], _∷_, List·Memᴰ, List·Memᴰ·head, List·Memᴰ·tail, List·Memᴰ·not-nil, List·Memᴰ·cases-cons}
 use lib.Dec.{T, eqb, ltb, leb, eqb→eq}
@@ -18,9 +18,9 @@ use Rattle.lists.proofs.Entries.{above-up}
 use Rattle.gf2.specs.Select.{elem, chosen}
 use Rattle.gf2.proofs.Chosen.{Row, elem→row}
 use Rattle.eliminate.specs.declared.Rows.{Rows}
-use Rattle.eliminate.specs.Exact.{Rowed, FoundFree}
+use Rattle.eliminate.specs.Exact.{FoundFree}
 use Rattle.eliminate.specs.Elimination.{soundRows}
-use Rattle.eliminate.proofs.Free.{decides-free, found-is}
+use Rattle.eliminate.proofs.Exact.{decides-free, found-is}
 use Rattle.bucket.specs.declared.Bucket.{Bucket}
 use Rattle.bucket.specs.Bucket.{Sound, largestBound, live}
 use Rattle.bucket.specs.Words.{bucketWords, bucketFrom, Shaped}

@@ -61,7 +61,7 @@ turnedDown a t = record { answer = a; table = t }
 -- opening: cause 3, then 4 for a wrong length alone
 unfoldable pub openCall : ℕ → ℕ → List ℕ → Outcome
 openCall b1 b2 t =
-    cond (E.inRange b1 b2)
+    cond (L.inRange b1 b2)
     (cond (eqb (length t) (L.lengthOf rows solutions b1 b2))
     (record { answer = Accepted 0; table = L.numbersOf (T.openTable rows solutions b1 b2) })
     (turnedDown (WrongTable (length t)) t))

@@ -7,9 +7,9 @@ use Rattle.hash.specs.Mix.{unmixOf}
 use Rattle.answer.specs.declared.Answer.the-variants.{Accepted}
 use Rattle.model.specs.Model.{State, Call, add, change, withdraw, query}
 use Rattle.model.specs.Request.{byWord, serve}
-use Rattle.model.specs.History.{Machine, acceptedOf}
+use Rattle.model.specs.Machine.{Machine, acceptedOf}
 use Rattle.concrete.specs.Content.{stateOf}
-use Rattle.concrete.specs.Calls.{rows, solutions, tableOf, Outcome, openCall, call}
+use Rattle.concrete.specs.Calls.{rows, solutions, tableOf, openCall, call}
 
 -- the plan of a call is a byte, 0 to 255
 abbrev pub PlanFits : Call (List ℕ) → Type 0

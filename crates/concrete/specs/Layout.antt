@@ -1,13 +1,27 @@
 -- The table as a list of numbers, for buckets of n rows and r solution words; at 64 and 8 document 01's layout.
 -- Assumes nothing.
 use Prim.Native.Nat.{ℕ, zero, suc, _+_, _-_, _*_}
+use mathlib.Core.Bool.{Bool, _&&_}
 use mathlib.Core.List.{List, [], _∷_, _++_}
+use lib.Dec.{leb}
 use lib.ListN.{length, getD, drop, replicate}
 use Rattle.lists.specs.Entries.{Entry}
 use Rattle.bucket.specs.declared.Bucket.{Bucket}
 use Rattle.bucket.specs.Words.{bucketWords, wordsOf, bucketFrom}
 use Rattle.model.specs.Model.{baseLimit}
 use Rattle.concrete.specs.Table.{Table}
+
+-- level 1 has 1 to this many buckets
+abbrev pub mostBuckets1 : ℕ
+mostBuckets1 = 48
+
+-- level 2 has 1 to this many buckets
+abbrev pub mostBuckets2 : ℕ
+mostBuckets2 = 32
+
+-- the bucket numbers are in range
+abbrev pub inRange : ℕ → ℕ → Bool
+inRange b1 b2 = (leb 1 b1 && leb b1 mostBuckets1) && (leb 1 b2 && leb b2 mostBuckets2)
 
 -- the numbers before the buckets: buckets of level 1, of level 2, base count, live count
 abbrev pub header : ℕ

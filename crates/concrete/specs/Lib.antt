@@ -2,6 +2,7 @@
 pub mod Table
 pub mod Layout
 pub mod Content
+pub mod AtOnce
 pub mod Sound
 pub mod Test
 pub mod Calls

@@ -12,20 +12,8 @@ use Rattle.bucket.specs.declared.Bucket.{Bucket}
 use Rattle.bucket.specs.Bucket.{largestBound}
 use Rattle.model.specs.Model.{baseLimit}
 use Rattle.concrete.specs.Table.{Table, thr, index, holds}
-use Rattle.concrete.specs.Layout.{header, lengthOf, unusedIn, tableFrom}
+use Rattle.concrete.specs.Layout.{header, inRange, lengthOf, unusedIn, tableFrom}
 use Rattle.concrete.specs.Content.{occupied}
-
--- level 1 has 1 to this many buckets
-abbrev pub mostBuckets1 : ℕ
-mostBuckets1 = 48
-
--- level 2 has 1 to this many buckets
-abbrev pub mostBuckets2 : ℕ
-mostBuckets2 = 32
-
--- the bucket numbers are in range
-abbrev pub inRange : ℕ → ℕ → Bool
-inRange b1 b2 = (leb 1 b1 && leb b1 mostBuckets1) && (leb 1 b2 && leb b2 mostBuckets2)
 
 -- not cause 4: at least the header, its bucket numbers in range, and the length that they give
 unfoldable pub shapeTest : ℕ → ℕ → List ℕ → Bool

@@ -13,6 +13,7 @@ use lib.Bits.{xor-zero-r}
 use lib.Count.{trailingZeros}
 use lib.Dec.{ltb}
 use lib.ListN.{length, getD, set, take, drop}
+use Rattle.lists.proofs.Tests.{and-false}
 use Rattle.gf2.specs.Vectors.{bit, flipIf, outside}
 use Rattle.gf2.proofs.Bit.{bit-lt}
 use Rattle.gf2.proofs.Lowest.{tz-bit, tz-lt}
@@ -112,10 +113,6 @@ unfolding pick
 pick-own n j f e = rw e
 
 -- ---- the run
-
-and-false : (a : Bool) → (a && false) ≡ false
-and-false true = refl
-and-false false = refl
 
 -- a column that found no row: the run does not end well
 pub stuck : (n : ℕ) (cs : List ℕ) (j m : ℕ) → j < m → ltb (rowAt n j (after n cs j)) n ≡ false → placed n cs m ≡ false

@@ -1,6 +1,6 @@
 // K's rows from the 64 columns of its inverse, or the fact that there are none: elimination without counting ones.
 // The rows that the mark does not name must be units; their columns need no pass, and an empty bucket none at all.
-// The contract is an equation (`soundRows`); proofs/Free.antt says that it is exact both ways.
+// The contract is an equation (`soundRows`); proofs/Exact.antt says that it is exact both ways.
 // Cites gf2. table cites it for the test of soundness.
 ghost use mathlib.Core.Path.{_≡_};
 ghost use mathlib.Core.Bool.{true};

@@ -1,6 +1,6 @@
 -- Document 01's identifier: which bytes are allowed, folding, the word, and the causes 1 and 2.
 use Prim.Native.Nat.{ℕ, suc, _-_}
-use mathlib.Core.Bool.{Bool, true, false, cond, _&&_, _||_}
+use mathlib.Core.Bool.{Bool, true, false, cond, not, _&&_, _||_}
 use mathlib.Core.List.{List, [], _∷_, map}
 use lib.Dec.{leb, ltb, eqb}
 use lib.ListN.{length}
@@ -64,12 +64,12 @@ unfoldable pub firstRefused : List ℕ → ℕ
 firstRefused [] = 0
 firstRefused (b ∷ bs) = cond (allowed b) (suc (firstRefused bs)) 0
 
--- what the bytes s are: first their number is tested, then each byte
+-- what the bytes s are found to be: document 01's cause 1, then 2, else the word
 unfoldable pub readOf : List ℕ → Read
 readOf s =
-    cond (sized (length s))
-    (cond (ltb (firstRefused s) (length s)) (Refused (WrongByte (firstRefused s))) (Word (wordOf s)))
-    (Refused (WrongLength (length s)))
+    cond (not (sized (length s))) (Refused (WrongLength (length s)))
+    (cond (ltb (firstRefused s) (length s)) (Refused (WrongByte (firstRefused s)))
+    (Word (wordOf s)))
 
 -- a and b are equal, or one is a letter a to z and the other its capital
 abbrev pub sameLetter : ℕ → ℕ → Bool

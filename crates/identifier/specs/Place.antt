@@ -1,5 +1,4 @@
--- Document 01's levels and places: level 1 uses the vector w and the place S(w), level 2 the vector w' = S(S(w)) and the place S(w').
--- So at either level the place of a vector v is S(v).
+-- Document 01's levels and places. Level 1 uses the vector w and the place S(w), level 2 the vector w' = S(S(w)) and the place S(w').
 use Prim.Native.Nat.{ℕ, _/_, _%_}
 use Rattle.hash.specs.Mix.{mixOf, unmixOf}
 
@@ -10,6 +9,10 @@ secondOf w = mixOf (mixOf w)
 -- the word whose w' is v
 abbrev pub firstOf : ℕ → ℕ
 firstOf v = unmixOf (unmixOf v)
+
+-- the place of a vector v, at either level
+abbrev pub placeOf : ℕ → ℕ
+placeOf v = mixOf v
 
 -- the threshold that a place gives
 abbrev pub thresholdAt : ℕ → ℕ

@@ -1,14 +1,14 @@
 // Identifiers: which bytes are one, the word of an identifier, and the place of a word at each level.
 // Definitions: specs/Identifier.antt and specs/Place.antt, in document 01's words. Laws: proofs/Folding.antt (what
-// folding changes), proofs/Causes.antt (each cause is given if and only if it is the first met), proofs/Words.antt.
+// folding changes), proofs/Causes.antt (each cause is given if and only if it is the first met), proofs/Words.antt (either
+// case of a letter gives the same word, the vector at level 2 determines the word).
 // Cites answer (the causes) and hash (the word). The calls of table and plane cite it.
 mod fold;
 
 use answer::Answer;
 ghost use mathlib.Core.Path.{_≡_};
-ghost use Rattle.hash.specs.Mix.{mixOf};
 ghost use Rattle.identifier.specs.Identifier.{readOf};
-ghost use Rattle.identifier.specs.Place.{thresholdAt, bucketAt, secondOf, firstOf};
+ghost use Rattle.identifier.specs.Place.{secondOf, firstOf, placeOf, thresholdAt, bucketAt};
 
 // An identifier is 1 to 20 bytes. Only its word is kept of it.
 pub struct Identifier {}
@@ -54,14 +54,14 @@ impl Identifier {
 
 // The threshold of the vector v at its level.
 pub fn threshold(v: u64) -> u64
-    ensures { λ r. ⌜ r ≡ thresholdAt (mixOf v) ⌝ }
+    ensures { λ r. ⌜ r ≡ thresholdAt (placeOf v) ⌝ }
 {
     hash::mix(v) % 8
 }
 
 // The bucket of the vector v, of n buckets. Modulo 0 a number stays as it is.
 pub fn bucket(v: u64, n: u64) -> u64
-    ensures { λ r. ⌜ r ≡ bucketAt n (mixOf v) ⌝ }
+    ensures { λ r. ⌜ r ≡ bucketAt n (placeOf v) ⌝ }
 {
     let place = hash::mix(v);
     if n == 0 {

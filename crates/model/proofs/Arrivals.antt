@@ -73,7 +73,9 @@ module _ (L : Level) (n : ℕ) where
       due-other : (i : ℕ) → eqb k i ≡ false → due L n (w ∷ ws) i ≡ due L n ws i
       due-other i f = ap (map (dueAs L)) (cond-false (w ∷ keep (λ u. eqb (bucket L n u) i) ws) (keep (λ u. eqb (bucket L n u) i) ws) f)
 
-  pub arrive-lower : (bounds ws : List ℕ) (w : ℕ) → bucket L n w < n → length bounds ≡ n → AllFree L n bounds ws → arrive bounds ws w ≡ lower L n bounds (w ∷ ws)
+  -- an arrival lowers the bounds for one word more
+  pub arrive-lower : (bounds ws : List ℕ) (w : ℕ) → bucket L n w < n → length bounds ≡ n → AllFree L n bounds ws
+      → arrive bounds ws w ≡ lower L n bounds (w ∷ ws)
   arrive-lower bounds ws w b len h =
       ap (set bounds k) (fall-bound (getD bounds k 0) (dueAs L w) (due L n ws k) (h k b) ∙ ap (boundOf (getD bounds k 0)) (sym here))
       ∙ sym (lower-one bounds ws w len h)

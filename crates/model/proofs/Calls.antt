@@ -5,7 +5,7 @@ use Prim.Native.Nat.{ℕ, _+_}
 use native.Mathlib.Omega.{arith}
 use mathlib.Core.Path.{_≡_, refl, sym, ap, ap₂, _∙_, subst⁻¹}
 use mathlib.Core.Bool.{Bool, true, false, cond}
-use mathlib.Core.Logic.{_⊎_, ⊎-elim}
+use mathlib.Core.Logic.{⊎-elim}
 use mathlib.Core.Option.{none, some}
 use mathlib.Core.List.{List, [], _∷_, map}
 use lib.Dec.{eqb}
@@ -17,15 +17,16 @@ use Rattle.lists.proofs.Entries.{insert-length, insert-found, insert-other, rem
 use Rattle.answer.specs.declared.Answer.{Answer}
 use Rattle.model.specs.Levels.{Level}
 use Rattle.model.specs.Model.{State, Call, add, change, withdraw, query, Outcome, step}
-use Rattle.model.specs.History.{Machine, accepted, after, acceptedOf, addsIn, withdrawalsIn, liveBy, planBy}
-use Rattle.model.proofs.Steps.{by-step}
+use Rattle.model.specs.Machine.{Machine, accepted, after, acceptedOf}
+use Rattle.model.specs.History.{addsIn, withdrawalsIn, liveBy, planBy}
+use Rattle.model.proofs.Steps.{Follows, by-step}
 use Rattle.model.proofs.Valid.{Valid, valid-step}
 
 -- the call, if it is accepted
 abbrev pub took : Answer → Call ℕ → List (Call ℕ)
 took a c = cond (accepted a) (c ∷ []) []
 
--- a word of which something is told is live
+-- a word that has a plan is live
 is-live : (b : Bool) (q p x : ℕ) → cond b (some q) none ≡ some p → some x ≡ cond b (some x) none
 is-live true q p x e = refl
 is-live false q p x e = absurd (none≢some e)
@@ -33,7 +34,7 @@ is-live false q p x e = absurd (none≢some e)
 -- ---- one call
 
 module _ (L1 L2 : Level) (s : State) where
-  -- the count after a call that is accepted or not
+  -- the count after the call
   abbrev Counts : Call ℕ → Outcome → Type 0
   Counts c o = length (o .after .live) + withdrawalsIn (took (o .answer) c) ≡ length (s .live) + addsIn (took (o .answer) c)
 
@@ -57,7 +58,8 @@ module _ (L1 L2 : Level) (s : State) where
         (λ y. rw y (ap (λ (u : ℕ). find u (insert e (s .live))) (eqb-true v (e .word) y) ∙ insert-found e (s .live) asc (a .fresh)))
         (λ n. rw n (insert-other e (s .live) v (eqb-false v (e .word) n) ∙ h)))
         (λ e p f. cases (eqb v (e .word))
-        (λ y. rw y (ap (λ (u : ℕ). find u (update e (s .live))) (eqb-true v (e .word) y) ∙ update-found e p (s .live) f ∙ is-live b q p (e .plan) (sym h ∙ ap (λ (u : ℕ). find u (s .live)) (eqb-true v (e .word) y) ∙ f)))
+        (λ y. rw y (ap (λ (u : ℕ). find u (update e (s .live))) (eqb-true v (e .word) y) ∙ update-found e p (s .live) f
+        ∙ is-live b q p (e .plan) (sym h ∙ ap (λ (u : ℕ). find u (s .live)) (eqb-true v (e .word) y) ∙ f)))
         (λ n. rw n (update-other e (s .live) v (eqb-false v (e .word) n) ∙ h)))
         (λ w p f. cases (eqb v w)
         (λ y. rw y (ap (λ (u : ℕ). find u (remove w (s .live))) (eqb-true v w y) ∙ remove-found w (s .live) asc))
@@ -93,8 +95,7 @@ plan-cons v q (query w) cs = refl
 -- ---- lists of calls C, each of which is refused and changes nothing, or is the step of the call f c
 
 module _ {C : Type 0} (L1 L2 : Level) (N : Machine State C) (f : C → Call ℕ)
-    (each : (s : State) (c : C) → ((accepted (N .answer s c) ≡ false) × (N .next s c ≡ s))
-    ⊎ (_≡_ {A = Outcome} (record { answer = N .answer s c; after = N .next s c }) (step L1 L2 s (f c)))) where
+    (each : (s : State) (c : C) → Follows L1 L2 s (f c) (record { answer = N .answer s c; after = N .next s c })) where
   pub valid-next : (s : State) (c : C) → Valid L1 L2 s → Valid L1 L2 (N .next s c)
   valid-next s c v =
       ⊎-elim (λ r. subst⁻¹ (Valid L1 L2) (r .1) v) (λ e. subst⁻¹ (λ (o : Outcome). Valid L1 L2 (o .after)) e (valid-step L1 L2 s (f c) v)) (each s c)
@@ -124,7 +125,7 @@ module _ {C : Type 0} (L1 L2 : Level) (N : Machine State C) (f : C → Call ℕ)
       go true one rest = omega (arith, adds-cons (f c) (taken (N .next s c) cs), withdrawals-cons (f c) (taken (N .next s c) cs))
       go false one rest = omega arith
 
-  -- a word of which b and q tell before is live, and with the plan, as the accepted calls tell
+  -- v is live, and with the plan, as the accepted calls tell; b and q tell of it before them
   pub told-after : (v : ℕ) (s : State) → Valid L1 L2 s → (b : Bool) (q : ℕ) → find v (s .live) ≡ cond b (some q) none → (cs : List C)
       → find v (after N s cs .live) ≡ cond (liveBy v b (taken s cs)) (some (planBy v q (taken s cs))) none
   told-after v s w b q h [] = h
@@ -143,5 +144,6 @@ module _ {C : Type 0} (L1 L2 : Level) (N : Machine State C) (f : C → Call ℕ)
           → Told b q (map f (cond a (c ∷ acceptedOf N (N .next s c) cs) (acceptedOf N (N .next s c) cs))) (after N (N .next s c) cs)
       go true h′ rest =
           rest (liveBy v b (f c ∷ [])) (planBy v q (f c ∷ [])) h′
-          ∙ sym (ap₂ (λ (x : Bool) (p : ℕ). cond x (some p) none) (live-cons v b (f c) (taken (N .next s c) cs)) (plan-cons v q (f c) (taken (N .next s c) cs)))
+          ∙ sym (ap₂ (λ (x : Bool) (p : ℕ). cond x (some p) none)
+          (live-cons v b (f c) (taken (N .next s c) cs)) (plan-cons v q (f c) (taken (N .next s c) cs)))
       go false h′ rest = rest b q h′

@@ -1,4 +1,4 @@
--- The definitions run: document 01's session, and a bound that falls.
+-- The definitions run: document 01's session, from the bytes to the answers, and a bound that falls.
 -- Assumes nothing.
 use Prim.Native.Nat.{ℕ}
 use mathlib.Core.Path.{_≡_, refl}
@@ -7,33 +7,53 @@ use Rattle.hash.specs.Mix.{mixOf}
 use Rattle.hash.specs.Fnv.{fnvFrom}
 use Rattle.answer.specs.declared.Answer.the-variants.{Accepted, WrongByte, Live, NotLive}
 use Rattle.identifier.specs.Identifier.{allowed, folded, wordOf, firstRefused, readOf}
+use Rattle.model.specs.Levels.{Level}
 use Rattle.model.specs.Model.{add, change, withdraw, query, opened}
-use Rattle.model.specs.History.{answers, model}
+use Rattle.model.specs.Machine.{after, answers}
+use Rattle.model.specs.History.{wordModel, model}
 
--- Bus-17 and Tram_2 in three spellings each, and a/b
-bus1 : List ℕ
-bus1 = 0x42 ∷ 0x75 ∷ 0x73 ∷ 0x2d ∷ 0x31 ∷ 0x37 ∷ []
+Bus-17 : List ℕ
+Bus-17 = 0x42 ∷ 0x75 ∷ 0x73 ∷ 0x2d ∷ 0x31 ∷ 0x37 ∷ []
 
-bus2 : List ℕ
-bus2 = 0x42 ∷ 0x55 ∷ 0x53 ∷ 0x2d ∷ 0x31 ∷ 0x37 ∷ []
+BUS-17 : List ℕ
+BUS-17 = 0x42 ∷ 0x55 ∷ 0x53 ∷ 0x2d ∷ 0x31 ∷ 0x37 ∷ []
 
-bus3 : List ℕ
-bus3 = 0x62 ∷ 0x75 ∷ 0x73 ∷ 0x2d ∷ 0x31 ∷ 0x37 ∷ []
+bus-17 : List ℕ
+bus-17 = 0x62 ∷ 0x75 ∷ 0x73 ∷ 0x2d ∷ 0x31 ∷ 0x37 ∷ []
 
-bus4 : List ℕ
-bus4 = 0x62 ∷ 0x55 ∷ 0x53 ∷ 0x2d ∷ 0x31 ∷ 0x37 ∷ []
+bUS-17 : List ℕ
+bUS-17 = 0x62 ∷ 0x55 ∷ 0x53 ∷ 0x2d ∷ 0x31 ∷ 0x37 ∷ []
 
-tram1 : List ℕ
-tram1 = 0x54 ∷ 0x72 ∷ 0x61 ∷ 0x6d ∷ 0x5f ∷ 0x32 ∷ []
+«Tram_2» : List ℕ
+«Tram_2» = 0x54 ∷ 0x72 ∷ 0x61 ∷ 0x6d ∷ 0x5f ∷ 0x32 ∷ []
 
-tram2 : List ℕ
-tram2 = 0x74 ∷ 0x72 ∷ 0x61 ∷ 0x6d ∷ 0x5f ∷ 0x32 ∷ []
+«tram_2» : List ℕ
+«tram_2» = 0x74 ∷ 0x72 ∷ 0x61 ∷ 0x6d ∷ 0x5f ∷ 0x32 ∷ []
 
-ab : List ℕ
-ab = 0x61 ∷ 0x2f ∷ 0x62 ∷ []
+a/b : List ℕ
+a/b = 0x61 ∷ 0x2f ∷ 0x62 ∷ []
 
 -- after `open 1 1`
-session : answers model (opened 1 1) (add bus1 40 ∷ add bus2 41 ∷ query bus3 ∷ change bus4 9 ∷ add tram1 0 ∷ withdraw bus2 ∷ query bus2 ∷ query tram2 ∷ add ab 3 ∷ [])
+session :
+    answers model (opened 1 1)
+    (add Bus-17 40 ∷ add BUS-17 41 ∷ query bus-17 ∷ change bUS-17 9 ∷ add «Tram_2» 0
+    ∷ withdraw BUS-17 ∷ query BUS-17 ∷ query «tram_2» ∷ add a/b 3 ∷ [])
     ≡ Accepted 1 ∷ Live 40 ∷ Accepted 40 ∷ Accepted 40 ∷ Accepted 2 ∷ Accepted 9 ∷ NotLive ∷ Accepted 0 ∷ WrongByte 1 ∷ []
-unfolding bus1 bus2 bus3 bus4 tram1 tram2 ab mixOf fnvFrom allowed folded wordOf firstRefused readOf
+unfolding Bus-17 BUS-17 bus-17 bUS-17 «Tram_2» «tram_2» a/b mixOf fnvFrom allowed folded wordOf firstRefused readOf
 session = refl
+
+-- a level that takes the word itself for vector and place
+plain : Level
+plain = record { vector = λ w. w; place = λ w. w }
+
+-- 6 is 3 XOR 5, and its threshold 6: the first level's bound falls to 6, and the word goes on to the second
+falls : after (wordModel plain plain) (opened 1 1) (add 5 40 ∷ add 3 0 ∷ add 6 1 ∷ [])
+    ≡ record {
+      buckets1 = 1;
+      buckets2 = 1;
+      live = record { word = 3; plan = 0 } ∷ record { word = 5; plan = 40 } ∷ record { word = 6; plan = 1 } ∷ [];
+      bounds1 = 6 ∷ [];
+      bounds2 = 8 ∷ [];
+    }
+unfolding plain
+falls = refl

@@ -1,12 +1,12 @@
--- The laws of the crate.
+-- The laws of the crate; Statements restates those that others cite.
 pub mod Levels
 pub mod Steps
 pub mod Valid
 pub mod Arrivals
 pub mod AddSteps
-pub mod Refine
-pub mod Calls
 pub mod Requests
+pub mod Calls
+pub mod Refine
 pub mod Orders
 pub mod Lift
 pub mod Example

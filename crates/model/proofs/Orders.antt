@@ -17,7 +17,8 @@ use Rattle.gf2.specs.Bound.{boundOf}
 use Rattle.bucket.specs.Bucket.{largestBound}
 use Rattle.model.specs.Levels.{Level, lower, passed}
 use Rattle.model.specs.Model.{baseLimit, State, addOf, Outcome, opened, settled, base, step}
-use Rattle.model.specs.History.{accepted, after, AllAccepted, wordModel}
+use Rattle.model.specs.Machine.{accepted, after, AllAccepted}
+use Rattle.model.specs.History.{wordModel}
 use Rattle.model.proofs.Levels.{lower-anti, lower-again, passed-sub}
 use Rattle.model.proofs.Steps.{added, accepts}
 use Rattle.model.proofs.Arrivals.{joined, joined-perm}
@@ -73,14 +74,15 @@ module _ (L1 L2 : Level) (b1 b2 : ℕ) where
   abbrev Fits : List Entry → Type 0
   Fits es = length (base L1 L2 (fromOpening (sort es))) ≤ baseLimit
 
-  -- ---- es came already, new is added to the state that they left: all accepted, and what that leaves
+  -- ---- es came first, new is added to the state that they left: where all are accepted what that leaves, and when all are
 
   record Ran (s : State) (es new : List Entry) : Type 0 where
     leaves : after (wordModel L1 L2) s (map addOf new) ≡ fromOpening (sort (joined es new))
     distinct : Distinct (joined es new)
     fits : Fits (joined es new)
 
-  ran : (new es : List Entry) (s : State) → s ≡ fromOpening (sort es) → Distinct es → Fits es → AllAccepted (wordModel L1 L2) s (map addOf new) → Ran s es new
+  ran : (new es : List Entry) (s : State) → s ≡ fromOpening (sort es) → Distinct es → Fits es
+      → AllAccepted (wordModel L1 L2) s (map addOf new) → Ran s es new
   ran [] es s q d h a = record { leaves = q; distinct = d; fits = h }
   ran (e ∷ new) es s q d h a =
       let r = added L1 L2 (fromOpening (sort es)) e (subst (λ (t : State). accepted (step L1 L2 t (addOf e) .answer) ≡ true) q (a .0)) in
@@ -91,7 +93,8 @@ module _ (L1 L2 : Level) (b1 b2 : ℕ) where
       (subst (λ (t : State). length (base L1 L2 t) ≤ baseLimit) m (r .fits)) (a .1) in
       record { leaves = k .leaves; distinct = k .distinct; fits = k .fits }
 
-  runs : (new es : List Entry) (s : State) → s ≡ fromOpening (sort es) → Distinct (joined es new) → Fits (joined es new) → AllAccepted (wordModel L1 L2) s (map addOf new)
+  runs : (new es : List Entry) (s : State) → s ≡ fromOpening (sort es) → Distinct (joined es new) → Fits (joined es new)
+      → AllAccepted (wordModel L1 L2) s (map addOf new)
   runs [] es s q d h = tt
   runs (e ∷ new) es s q d h =
       let m = settled-again (insert-sub e (sort es)) in
@@ -117,5 +120,6 @@ module _ (L1 L2 : Level) (b1 b2 : ℕ) where
   order-free {ds} {es} s a =
       let d = start ds a .distinct in
       let j = List·Permᴰ·trans (joined-all ds) (List·Permᴰ·trans s (Permᴰ·symm (joined-all es))) in
-      let other = runs es [] (opened b1 b2) opened-is (distinct-perm j d) (subst (λ (l : List Entry). length (base L1 L2 (fromOpening l)) ≤ baseLimit) (sort-order j d) (start ds a .fits)) in
+      let other = runs es [] (opened b1 b2) opened-is (distinct-perm j d)
+      (subst (λ (l : List Entry). length (base L1 L2 (fromOpening l)) ≤ baseLimit) (sort-order j d) (start ds a .fits)) in
       (other, adds-leave ds a ∙ ap fromOpening (sort-order s (distinct-perm (joined-all ds) d)) ∙ sym (adds-leave es other))

@@ -5,7 +5,7 @@ use mathlib.Core.Path.{_≡_, refl, sym, ap₂, _∙_, subst⁻¹}
 use mathlib.Core.Bool.{cond}
 use mathlib.Core.List.{List, [], _∷_}
 use Rattle.answer.specs.declared.Answer.{Answer}
-use Rattle.model.specs.History.{Machine, accepted, after, answers, acceptedOf, Alike, Refines, Compares}
+use Rattle.model.specs.Machine.{Machine, accepted, after, answers, acceptedOf, Alike, Refines, Compares}
 
 module _ {T S C : Type 0} (M : Machine T C) (N : Machine S C) (Stands : T → S → Type 0) (r : Refines M N Stands) where
   pub stands-after : (t : T) (s : S) → Stands t s → (cs : List C) → Stands (after M t cs) (after N s cs)

@@ -1,35 +1,78 @@
--- Calls with any bytes as identifier: each is turned down by causes 1 and 2 and changes nothing, or is the step by its word.
--- Assumes nothing.
-use Prim.Native.Nat.{ℕ}
-use mathlib.Core.Path.{_≡_, refl, ap}
-use mathlib.Core.Bool.{false}
-use mathlib.Core.Logic.{_⊎_, inl, inr}
+-- Calls with any bytes as identifier: each is turned down by cause 1 or 2 and changes nothing, or is the step by its word. Causes 4 and
+-- 5 are never given. Assumes nothing.
+use Prim.Native.Nat.{ℕ, _<_}
+use native.Mathlib.Omega.{arith}
+use mathlib.Core.Path.{_≡_, refl, sym, ap, _∙_}
+use mathlib.Core.Bool.{false, not}
+use mathlib.Core.Logic.{inl, inr, ⊎-elim}
 use mathlib.Core.List.{List}
+use mathlib.Core.Option.{Option, none, some}
 use lib.Dec.{ltb}
 use lib.ListN.{length}
+use borrow.Author.Tests.{ne-eqb}
+use Rattle.lists.specs.Entries.{Entry, find}
 use Rattle.lists.proofs.Tests.{by-test}
+use Rattle.answer.specs.Numbers.{numberOf}
 use Rattle.identifier.specs.Identifier.{sized, firstRefused, wordOf, readOf}
 use Rattle.identifier.specs.declared.Read.{Read}
 use Rattle.identifier.specs.declared.Read.the-variants.{Word, Refused}
-use Rattle.model.specs.Levels.{firstLevel, secondLevel}
-use Rattle.model.specs.Model.{State, Call, step}
+use Rattle.model.specs.Levels.{Level, firstLevel, secondLevel}
+use Rattle.model.specs.Model.{baseLimit, State, Call, add, change, withdraw, query, Outcome, stepLive, wouldLeave, base, stepAdd, step}
 use Rattle.model.specs.Request.{subject, askOf, byWord, serveRead, serve}
-use Rattle.model.specs.History.{accepted}
+use Rattle.model.specs.Machine.{accepted}
+use Rattle.model.proofs.Steps.{refused-keeps, Follows}
 
--- what bytes are read as is their word, or a cause
+-- bytes are read as their word, or refused with cause 1 or 2
 abbrev Reads : List ℕ → Read → Type 0
 Reads i (Word w) = w ≡ wordOf i
-Reads i (Refused a) = accepted a ≡ false
+Reads i (Refused a) = (0 < numberOf a) × (numberOf a < 3)
 
 reads : (i : List ℕ) → Reads i (readOf i)
 unfolding readOf
-reads i = by-test (Reads i) (sized (length i)) (λ t. by-test (Reads i) (ltb (firstRefused i) (length i)) (λ u. refl) (λ u. refl)) (λ t. refl)
+reads i =
+    by-test (Reads i) (not (sized (length i))) (λ t. omega arith) (λ t. by-test (Reads i) (ltb (firstRefused i) (length i)) (λ u. omega arith) (λ u. refl))
 
-pub serve-each : (s : State) (c : Call (List ℕ))
-    → ((accepted (serve s c .answer) ≡ false) × (serve s c .after ≡ s)) ⊎ (serve s c ≡ step firstLevel secondLevel s (byWord c))
+pub serve-each : (s : State) (c : Call (List ℕ)) → Follows firstLevel secondLevel s (byWord c) (serve s c)
 serve-each s c = go (readOf (subject c)) (reads (subject c))
   where
-    go : (r : Read) → Reads (subject c) r
-        → ((accepted (serveRead s c r .answer) ≡ false) × (serveRead s c r .after ≡ s)) ⊎ (serveRead s c r ≡ step firstLevel secondLevel s (byWord c))
-    go (Refused a) h = inl (h, refl)
+    go : (r : Read) → Reads (subject c) r → Follows firstLevel secondLevel s (byWord c) (serveRead s c r)
+    go (Refused a) h = inl (ne-eqb (numberOf a) 0 (omega arith), refl)
     go (Word w) h = inr (ap (λ (v : ℕ). step firstLevel secondLevel s (askOf v c)) h)
+
+-- a refused call changes nothing
+pub serve-keeps : (s : State) (c : Call (List ℕ)) → accepted (serve s c .answer) ≡ false → serve s c .after ≡ s
+serve-keeps s c r =
+    ⊎-elim (λ h. h .1)
+    (λ e. ap (λ (o : Outcome). o .after) e ∙ refused-keeps firstLevel secondLevel s (byWord c) (sym (ap (λ (o : Outcome). accepted (o .answer)) e) ∙ r))
+    (serve-each s c)
+
+-- ---- causes 4 and 5
+
+abbrev pub Never45 : ℕ → Type 0
+Never45 n = (n ≡ 4 → ⊥) × (n ≡ 5 → ⊥)
+
+live-never : (s : State) (l : List Entry) (o : Option ℕ) → Never45 (numberOf (stepLive s l o .answer))
+live-never s l none = omega arith
+live-never s l (some p) = omega arith
+
+step-never : (L1 L2 : Level) (s : State) (c : Call ℕ) → Never45 (numberOf (step L1 L2 s c .answer))
+step-never L1 L2 s (add w p) = go (find w (s .live))
+  where
+    e : Entry
+    e = record { word = w; plan = p }
+
+    go : (o : Option ℕ) → Never45 (numberOf (stepAdd L1 L2 s e o .answer))
+    go (some q) = omega arith
+    go none =
+        by-test (λ (o : Outcome). Never45 (numberOf (o .answer))) (ltb baseLimit (length (base L1 L2 (wouldLeave L1 L2 s e))))
+        (λ t. omega arith) (λ t. omega arith)
+step-never L1 L2 s (change w p) = live-never s _ (find w (s .live))
+step-never L1 L2 s (withdraw w) = live-never s _ (find w (s .live))
+step-never L1 L2 s (query w) = live-never s _ (find w (s .live))
+
+pub serve-never : (s : State) (c : Call (List ℕ)) → Never45 (numberOf (serve s c .answer))
+serve-never s c = go (readOf (subject c)) (reads (subject c))
+  where
+    go : (r : Read) → Reads (subject c) r → Never45 (numberOf (serveRead s c r .answer))
+    go (Refused a) h = omega arith
+    go (Word w) h = step-never firstLevel secondLevel s (askOf w c)

@@ -1,5 +1,5 @@
--- The laws that others cite, each with the sentence of document 01 that it stands for; the files named prove them. L1 and L2 are any
--- two levels, so document 01's firstLevel and secondLevel.
+-- The laws that others cite, each under the sentence that it stands for. To read them takes specs/ and `Largest` (gf2, specs/Bound.antt);
+-- `arrivals` and `lift-fits` also take the definitions that they name. What stands before a dot is the file with the proof.
 -- Assumes nothing.
 use Prim.Native.Nat.{ℕ, _+_, _<_, _≤_}
 use native.Mathlib.Omega.{arith}
@@ -12,22 +12,24 @@ use lib.ListN.{length, getD}
 use Rattle.lists.specs.Entries.{Entry, words, find, insert}
 use Rattle.lists.proofs.Keep.{tabulate-at}
 use Rattle.gf2.specs.Bound.{Largest}
+use Rattle.answer.specs.Numbers.{numberOf}
 use Rattle.answer.specs.declared.Answer.the-variants.{Full}
 use Rattle.model.specs.Levels.{Level, firstLevel, secondLevel, passed, due, lower}
-use Rattle.model.specs.Model.{State, Call, addOf, change, withdraw, query, opened, settled, base, step, lifted}
-use Rattle.model.specs.Request.{byWord}
-use Rattle.model.specs.History.{Machine, accepted, after, answers, acceptedOf, Alike, AllAccepted, wordModel, model, acceptedCalls, Refines, Compares, addsIn, withdrawalsIn, told}
-use Rattle.model.proofs.Levels.{AllFree}
+use Rattle.model.specs.Model.{State, Call, addOf, change, withdraw, query, Outcome, opened, wouldLeave, base, step, lifted}
+use Rattle.model.specs.Request.{byWord, serve}
+use Rattle.model.specs.Machine.{Machine, accepted, after, answers, acceptedOf, AllAccepted, Alike, Refines, Compares}
+use Rattle.model.specs.History.{wordModel, model, acceptedCalls, addsIn, withdrawalsIn, told}
+use Rattle.model.proofs.Levels as Levels
 use Rattle.model.proofs.Steps as Steps
-use Rattle.model.proofs.Arrivals as Arrivals
 use Rattle.model.proofs.Valid as Valid
-use Rattle.model.proofs.Refine as Refine
-use Rattle.model.proofs.Calls as Calls
+use Rattle.model.proofs.Arrivals as Arrivals
 use Rattle.model.proofs.Requests as Requests
+use Rattle.model.proofs.Calls as Calls
+use Rattle.model.proofs.Refine as Refine
 use Rattle.model.proofs.Orders as Orders
 use Rattle.model.proofs.Lift as Lift
 
--- ---- one call
+-- ---- one call, at any two levels
 
 -- "Bounds are 8 at first"
 pub opening-first : (b1 b2 i : ℕ) → i < b1 → getD (opened b1 b2 .bounds1) i 0 ≡ 8
@@ -36,29 +38,30 @@ opening-first b1 b2 i h = tabulate-at (λ j. 8) b1 i h
 pub opening-second : (b1 b2 i : ℕ) → i < b2 → getD (opened b1 b2 .bounds2) i 0 ≡ 8
 opening-second b1 b2 i h = tabulate-at (λ j. 8) b2 i h
 
-module _ (L1 L2 : Level) (s : State) where
-  -- statement 3, the rule of the bounds: after an accepted add each is the largest number, not above the old one, under which no
-  -- non-empty selection of the words due there XORs to zero; first level
-  pub bounds-first : (e : Entry) → accepted (step L1 L2 s (addOf e) .answer) ≡ true → (i : ℕ) → i < s .buckets1
-      → Largest (getD (s .bounds1) i 0)
-      (due L1 (s .buckets1) (words (step L1 L2 s (addOf e) .after .live)) i)
-      (getD (step L1 L2 s (addOf e) .after .bounds1) i 0)
-  bounds-first e a i h = rw (Steps.added L1 L2 s e a .left) (Steps.bounds-first L1 L2 s (insert e (s .live)) i h)
+module _ (L1 L2 : Level) (s : State) (e : Entry) where
+  -- what the add of e does
+  abbrev pub outcome : Outcome
+  outcome = step L1 L2 s (addOf e)
+
+  -- statement 3, the bounds: after an accepted add each bound is the largest number, not above the old one, under which no non-empty
+  -- selection of the words due there XORs to zero. First level
+  pub bounds-first : accepted (outcome .answer) ≡ true → (i : ℕ) → i < s .buckets1
+      → Largest (getD (s .bounds1) i 0) (due L1 (s .buckets1) (words (outcome .after .live)) i) (getD (outcome .after .bounds1) i 0)
+  bounds-first a i h = rw (Steps.added L1 L2 s e a .left) (Steps.bounds-first L1 L2 s (insert e (s .live)) i h)
 
   -- then the second, where the words are due that the first does not hold now
-  pub bounds-second : (e : Entry) → accepted (step L1 L2 s (addOf e) .answer) ≡ true → (i : ℕ) → i < s .buckets2
-      → Largest (getD (s .bounds2) i 0)
-      (due L2 (s .buckets2) (passed L1 (s .buckets1) (step L1 L2 s (addOf e) .after .bounds1) (words (step L1 L2 s (addOf e) .after .live))) i)
-      (getD (step L1 L2 s (addOf e) .after .bounds2) i 0)
-  bounds-second e a i h = rw (Steps.added L1 L2 s e a .left) (Steps.bounds-second L1 L2 s (insert e (s .live)) i h)
+  pub bounds-second : accepted (outcome .answer) ≡ true → (i : ℕ) → i < s .buckets2
+      → Largest (getD (s .bounds2) i 0) (due L2 (s .buckets2) (passed L1 (s .buckets1) (outcome .after .bounds1) (words (outcome .after .live))) i)
+      (getD (outcome .after .bounds2) i 0)
+  bounds-second a i h = rw (Steps.added L1 L2 s e a .left) (Steps.bounds-second L1 L2 s (insert e (s .live)) i h)
 
-  -- statement 3, the rule of the base list: refused as full exactly when more than 64 words would fall to the base list under the
-  -- bounds that the add would so leave (Steps: `settled` has those bounds, accepted or not)
-  pub full-exactly : (e : Entry) → find (e .word) (s .live) ≡ none
-      → (step L1 L2 s (addOf e) .answer ≡ Full) ↔ (64 < length (base L1 L2 (settled L1 L2 s (insert e (s .live)))))
-  full-exactly e f = Steps.full-exactly L1 L2 s e f
+  -- statement 3, the base list: refused as full exactly when more than 64 words would fall to it under the bounds that the add would so
+  -- leave (Steps.bounds-first and Steps.bounds-second: these are those of wouldLeave, accepted or not)
+  pub full-exactly : find (e .word) (s .live) ≡ none → (step L1 L2 s (addOf e) .answer ≡ Full) ↔ (64 < length (base L1 L2 (wouldLeave L1 L2 s e)))
+  full-exactly f = Steps.full-exactly L1 L2 s e f
 
-  -- "changes, withdrawals, queries and refused calls keep them"; queries and refused calls keep everything
+module _ (L1 L2 : Level) (s : State) where
+  -- "changes, withdrawals, queries and refused calls keep them": queries and refused calls keep everything
   pub change-keeps : (w p : ℕ) → (step L1 L2 s (change w p) .after .bounds1 ≡ s .bounds1) × (step L1 L2 s (change w p) .after .bounds2 ≡ s .bounds2)
   change-keeps = Steps.change-keeps L1 L2 s
 
@@ -71,7 +74,17 @@ module _ (L1 L2 : Level) (s : State) where
   pub refused-keeps : (c : Call ℕ) → accepted (step L1 L2 s c .answer) ≡ false → step L1 L2 s c .after ≡ s
   refused-keeps = Steps.refused-keeps L1 L2 s
 
--- ---- lists of calls, with any bytes as identifiers
+-- "While it depends there, the bound falls by one": words that so arrive at a level one after the other, in any order, where no non-empty
+-- selection of the words ws that are due there already XORs to zero, leave the bounds that one look at all of them leaves
+pub arrivals : (L : Level) (n : ℕ) → 0 < n → (bounds ws new vs : List ℕ) → length bounds ≡ n → Levels.AllFree L n bounds ws → List·Permᴰ (new ++ ws) vs
+    → Arrivals.arrives L n bounds ws new ≡ lower L n bounds vs
+arrivals = Arrivals.arrives-all
+
+-- ---- lists of calls, with any bytes as identifiers, at document 01's levels
+
+-- "refused calls keep them", also those of bytes that are no identifier
+pub serve-keeps : (s : State) (c : Call (List ℕ)) → accepted (serve s c .answer) ≡ false → serve s c .after ≡ s
+serve-keeps = Requests.serve-keeps
 
 -- "The live count equals accepted adds less accepted withdrawals since opening"
 pub count : (b1 b2 : ℕ) (cs : List (Call (List ℕ)))
@@ -83,12 +96,16 @@ pub live-plan : (b1 b2 : ℕ) (cs : List (Call (List ℕ))) (v : ℕ) → find v
 live-plan b1 b2 cs v =
     Calls.told-after firstLevel secondLevel model byWord Requests.serve-each v (opened b1 b2) (Valid.valid-opened firstLevel secondLevel b1 b2) false 0 refl cs
 
--- "in the base list, at most 64 entries"
+-- "in the base list, .. at most 64 entries"
 pub base-fits : (b1 b2 : ℕ) (cs : List (Call (List ℕ))) → length (base firstLevel secondLevel (after model (opened b1 b2) cs)) ≤ 64
 base-fits b1 b2 cs =
     Calls.valid-after firstLevel secondLevel model byWord Requests.serve-each (opened b1 b2) (Valid.valid-opened firstLevel secondLevel b1 b2) cs .fits
 
--- ---- lists of calls put to a table that refines the model: M is the table, N the model
+-- "the table itself never gives cause 4 or 5 in a list": the model does not, and the answers are the model's (`settles`)
+pub never-4-5 : (s : State) (c : Call (List ℕ)) → (numberOf (serve s c .answer) ≡ 4 → ⊥) × (numberOf (serve s c .answer) ≡ 5 → ⊥)
+never-4-5 = Requests.serve-never
+
+-- ---- lists of calls put to a table M that refines the model N
 
 module _ {T S C : Type 0} (M : Machine T C) (N : Machine S C) (Stands : T → S → Type 0) (refines : Refines M N Stands) where
   -- "So the opening and these calls alone settle every answer and bound": the answers are the model's, and the table stands for the
@@ -96,34 +113,26 @@ module _ {T S C : Type 0} (M : Machine T C) (N : Machine S C) (Stands : T → S 
   pub settles : (t : T) (s : S) → Stands t s → (cs : List C) → (answers M t cs ≡ answers N s cs) × Stands (after M t cs) (after N s cs)
   settles t s h cs = (Refine.answers-after M N Stands refines t s h cs, Refine.stands-after M N Stands refines t s h cs)
 
-  -- and the same calls are accepted
-  pub accepted-alike : (t : T) (s : S) → Stands t s → (cs : List C) → acceptedOf M t cs ≡ acceptedOf N s cs
-  accepted-alike = Refine.accepted-after M N Stands refines
+  -- and the calls that the table accepts are those that the model accepts
+  pub accepts-alike : (t : T) (s : S) → Stands t s → (cs : List C) → acceptedOf M t cs ≡ acceptedOf N s cs
+  accepts-alike = Refine.accepted-after M N Stands refines
 
   -- statement 3, the claim about lists: t and u are as openings left them, ds and es any calls, refused ones included. Where the two
   -- tables are then the same in bucket numbers, live words, plans and bounds (Same), each further call of every list gets the same
   -- answer from both, and they are the same again after each call
-  pub statement-3 : (Same : T → T → Type 0) → Compares Stands Same → (t u : T) (s q : S) → Stands t s → Stands u q → (ds es : List C)
+  pub statement-3 : (Same : T → T → Type 0) → Compares Stands Same → (t u : T) (s r : S) → Stands t s → Stands u r → (ds es : List C)
       → Same (after M t ds) (after M u es) → (cs : List C) → Alike M Same (after M t ds) (after M u es) cs
   statement-3 = Refine.statement-3 M N Stands refines
 
--- ---- what an add does word by word
+-- ---- orders of document 02
 
--- words that arrive at a level one after the other, in any order, each lowering its bucket's bound by one while it depends there, leave
--- the bounds that one look at all of them leaves
-pub arrivals : (L : Level) (n : ℕ) → 0 < n → (bounds ws new vs : List ℕ) → length bounds ≡ n → AllFree L n bounds ws → List·Permᴰ (new ++ ws) vs
-    → Arrivals.arrives L n bounds ws new ≡ lower L n bounds vs
-arrivals = Arrivals.arrives-all
-
--- ---- later orders of document 02
-
--- order 8: if all adds of a sequence are accepted from opening, so are all in any other sequence of them, and both leave one state
+-- order 8: if all adds of a sequence are accepted from opening, so are all in every other sequence of them, and both leave one state
 pub order-of-adds : (L1 L2 : Level) (b1 b2 : ℕ) {ds es : List Entry} → List·Permᴰ ds es
     → AllAccepted (wordModel L1 L2) (opened b1 b2) (map addOf ds)
     → AllAccepted (wordModel L1 L2) (opened b1 b2) (map addOf es)
     × (after (wordModel L1 L2) (opened b1 b2) (map addOf ds) ≡ after (wordModel L1 L2) (opened b1 b2) (map addOf es))
 order-of-adds = Orders.order-free
 
--- order 9: a lift never overfills the base list
+-- order 9: a lift never overfills the base list. Every state is valid that calls reach (Calls.valid-after) or a lift leaves (Lift.valid-lifted)
 pub lift-fits : (L1 L2 : Level) (s : State) → Valid.Valid L1 L2 s → length (base L1 L2 (lifted L1 L2 s)) ≤ 64
 lift-fits = Lift.lift-fits

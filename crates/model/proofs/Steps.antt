@@ -3,7 +3,7 @@
 use Prim.Native.Nat.{ℕ, _<_, _≤_}
 use mathlib.Core.Path.{_≡_, refl, sym, ap, _∙_}
 use mathlib.Core.Bool.{true, false, true≢false, false≢true}
-use mathlib.Core.Logic.{_↔_}
+use mathlib.Core.Logic.{_↔_, _⊎_}
 use mathlib.Core.Option.{Option, none, some}
 use mathlib.Core.List.{List}
 use lib.Dec.{ltb}
@@ -15,33 +15,37 @@ use Rattle.gf2.specs.Bound.{Largest}
 use Rattle.answer.specs.declared.Answer.{Answer}
 use Rattle.answer.specs.declared.Answer.the-variants.{Accepted, Live, NotLive, Full}
 use Rattle.model.specs.Levels.{Level, due, passed}
-use Rattle.model.specs.Model.{baseLimit, State, Call, add, addOf, change, withdraw, query, Outcome, withLive, settled, base, stepAdd, stepLive, step}
-use Rattle.model.specs.History.{accepted}
+use Rattle.model.specs.Model.{baseLimit, State, Call, add, addOf, change, withdraw, query, Outcome, withLive, settled, wouldLeave, base, stepAdd, stepLive, step}
+use Rattle.model.specs.Machine.{accepted}
 use Rattle.model.proofs.Levels.{lower-largest}
 
-module _ (L1 L2 : Level) where
-  live-keeps : (s : State) (l : List Entry) (o : Option ℕ) → (stepLive L1 L2 s l o .after .bounds1 ≡ s .bounds1) × (stepLive L1 L2 s l o .after .bounds2 ≡ s .bounds2)
-  live-keeps s l none = (refl, refl)
-  live-keeps s l (some p) = (refl, refl)
+-- t has the bounds of s
+abbrev pub Keeps : State → State → Type 0
+Keeps s t = (t .bounds1 ≡ s .bounds1) × (t .bounds2 ≡ s .bounds2)
 
+live-keeps : (s : State) (l : List Entry) (o : Option ℕ) → Keeps s (stepLive s l o .after)
+live-keeps s l none = (refl, refl)
+live-keeps s l (some p) = (refl, refl)
+
+live-refused : (s : State) (l : List Entry) (o : Option ℕ) → accepted (stepLive s l o .answer) ≡ false → stepLive s l o .after ≡ s
+live-refused s l none r = refl
+live-refused s l (some p) r = absurd (true≢false r)
+
+module _ (L1 L2 : Level) where
   -- a query changes nothing
   pub query-keeps : (s : State) (w : ℕ) → step L1 L2 s (query w) .after ≡ s
   query-keeps s w = go (find w (s .live))
     where
-      go : (o : Option ℕ) → stepLive L1 L2 s (s .live) o .after ≡ s
+      go : (o : Option ℕ) → stepLive s (s .live) o .after ≡ s
       go none = refl
       go (some p) = refl
 
   -- changes and withdrawals keep every bound
-  pub change-keeps : (s : State) (w p : ℕ) → (step L1 L2 s (change w p) .after .bounds1 ≡ s .bounds1) × (step L1 L2 s (change w p) .after .bounds2 ≡ s .bounds2)
+  pub change-keeps : (s : State) (w p : ℕ) → Keeps s (step L1 L2 s (change w p) .after)
   change-keeps s w p = live-keeps s (update (record { word = w; plan = p }) (s .live)) (find w (s .live))
 
-  pub withdraw-keeps : (s : State) (w : ℕ) → (step L1 L2 s (withdraw w) .after .bounds1 ≡ s .bounds1) × (step L1 L2 s (withdraw w) .after .bounds2 ≡ s .bounds2)
+  pub withdraw-keeps : (s : State) (w : ℕ) → Keeps s (step L1 L2 s (withdraw w) .after)
   withdraw-keeps s w = live-keeps s (remove w (s .live)) (find w (s .live))
-
-  live-refused : (s : State) (l : List Entry) (o : Option ℕ) → accepted (stepLive L1 L2 s l o .answer) ≡ false → stepLive L1 L2 s l o .after ≡ s
-  live-refused s l none r = refl
-  live-refused s l (some p) r = absurd (true≢false r)
 
   -- a refused call changes nothing
   pub refused-keeps : (s : State) (c : Call ℕ) → accepted (step L1 L2 s c .answer) ≡ false → step L1 L2 s c .after ≡ s
@@ -53,11 +57,15 @@ module _ (L1 L2 : Level) where
       go : (o : Option ℕ) → accepted (stepAdd L1 L2 s e o .answer) ≡ false → stepAdd L1 L2 s e o .after ≡ s
       go (some q) = λ r. refl
       go none =
-          by-test (λ (x : Outcome). accepted (x .answer) ≡ false → x .after ≡ s) (ltb baseLimit (length (base L1 L2 (settled L1 L2 s (insert e (s .live))))))
+          by-test (λ (x : Outcome). accepted (x .answer) ≡ false → x .after ≡ s) (ltb baseLimit (length (base L1 L2 (wouldLeave L1 L2 s e))))
           (λ t r. refl) (λ t r. absurd (true≢false r))
   refused-keeps s (change w p) = live-refused s (update (record { word = w; plan = p }) (s .live)) (find w (s .live))
   refused-keeps s (withdraw w) = live-refused s (remove w (s .live)) (find w (s .live))
   refused-keeps s (query w) = λ r. query-keeps s w
+
+  -- o is a refusal that changes nothing, or what the call c does
+  abbrev pub Follows : State → Call ℕ → Outcome → Type 0
+  Follows s c o = ((accepted (o .answer) ≡ false) × (o .after ≡ s)) ⊎ (o ≡ step L1 L2 s c)
 
   -- ---- the bounds that the live words l would leave: first level before second
 
@@ -74,21 +82,21 @@ module _ (L1 L2 : Level) where
 
   module _ (s : State) (e : Entry) (f : find (e .word) (s .live) ≡ none) where
     -- accepted where the base list has room
-    pub accepts : length (base L1 L2 (settled L1 L2 s (insert e (s .live)))) ≤ baseLimit
+    pub accepts : length (base L1 L2 (wouldLeave L1 L2 s e)) ≤ baseLimit
         → step L1 L2 s (addOf e)
-        ≡ record { answer = Accepted (length (insert e (s .live))); after = settled L1 L2 s (insert e (s .live)) }
-    accepts h = ap (stepAdd L1 L2 s e) f ∙ cond-false _ _ (le-ltb baseLimit (length (base L1 L2 (settled L1 L2 s (insert e (s .live))))) h)
+        ≡ record { answer = Accepted (length (insert e (s .live))); after = wouldLeave L1 L2 s e }
+    accepts h = ap (stepAdd L1 L2 s e) f ∙ cond-false _ _ (le-ltb baseLimit (length (base L1 L2 (wouldLeave L1 L2 s e))) h)
 
     -- refused as full where it has not
-    pub overfull : baseLimit < length (base L1 L2 (settled L1 L2 s (insert e (s .live))))
+    pub overfull : baseLimit < length (base L1 L2 (wouldLeave L1 L2 s e))
         → step L1 L2 s (addOf e) ≡ record { answer = Full; after = s }
-    overfull h = ap (stepAdd L1 L2 s e) f ∙ cond-true _ _ (lt-ltb baseLimit (length (base L1 L2 (settled L1 L2 s (insert e (s .live))))) h)
+    overfull h = ap (stepAdd L1 L2 s e) f ∙ cond-true _ _ (lt-ltb baseLimit (length (base L1 L2 (wouldLeave L1 L2 s e))) h)
 
     -- refused as full exactly where it has not
-    pub full-exactly : (step L1 L2 s (addOf e) .answer ≡ Full) ↔ (baseLimit < length (base L1 L2 (settled L1 L2 s (insert e (s .live)))))
+    pub full-exactly : (step L1 L2 s (addOf e) .answer ≡ Full) ↔ (baseLimit < length (base L1 L2 (wouldLeave L1 L2 s e)))
     full-exactly = (
-      λ r. cases (ltb baseLimit (length (base L1 L2 (settled L1 L2 s (insert e (s .live))))))
-          (λ t. ltb-true baseLimit (length (base L1 L2 (settled L1 L2 s (insert e (s .live))))) t)
+      λ r. cases (ltb baseLimit (length (base L1 L2 (wouldLeave L1 L2 s e))))
+          (λ t. ltb-true baseLimit (length (base L1 L2 (wouldLeave L1 L2 s e))) t)
           (λ t. absurd (true≢false (ap accepted (sym (ap (λ (o : Outcome). o .answer) (accepts (ltb-false baseLimit _ t))) ∙ r)))),
       λ h. ap (λ (o : Outcome). o .answer) (overfull h),
     )
@@ -96,8 +104,8 @@ module _ (L1 L2 : Level) where
   -- what an accepted add tells
   pub record Added (s : State) (e : Entry) : Type 0 where
     pub fresh : find (e .word) (s .live) ≡ none
-    pub fits : length (base L1 L2 (settled L1 L2 s (insert e (s .live)))) ≤ baseLimit
-    pub left : step L1 L2 s (addOf e) ≡ record { answer = Accepted (length (insert e (s .live))); after = settled L1 L2 s (insert e (s .live)) }
+    pub fits : length (base L1 L2 (wouldLeave L1 L2 s e)) ≤ baseLimit
+    pub left : step L1 L2 s (addOf e) ≡ record { answer = Accepted (length (insert e (s .live))); after = wouldLeave L1 L2 s e }
 
   pub added : (s : State) (e : Entry) → accepted (step L1 L2 s (addOf e) .answer) ≡ true → Added s e
   added s e a = record { fresh = f; fits = h; left = accepts s e f h }
@@ -109,32 +117,32 @@ module _ (L1 L2 : Level) where
       f : find (e .word) (s .live) ≡ none
       f = go (find (e .word) (s .live)) refl a
 
-      h : length (base L1 L2 (settled L1 L2 s (insert e (s .live)))) ≤ baseLimit
+      h : length (base L1 L2 (wouldLeave L1 L2 s e)) ≤ baseLimit
       h =
-          cases (ltb baseLimit (length (base L1 L2 (settled L1 L2 s (insert e (s .live))))))
+          cases (ltb baseLimit (length (base L1 L2 (wouldLeave L1 L2 s e))))
           (λ t. absurd (false≢true (sym (ap (λ (o : Outcome). accepted (o .answer)) (overfull s e f (ltb-true baseLimit _ t))) ∙ a)))
-          (λ t. ltb-false baseLimit (length (base L1 L2 (settled L1 L2 s (insert e (s .live))))) t)
+          (λ t. ltb-false baseLimit (length (base L1 L2 (wouldLeave L1 L2 s e))) t)
 
   -- ---- the cases of a call: what holds in each holds of what it does
 
   module _ (s : State) (P : Call ℕ → Outcome → Type 0)
       (refused : (c : Call ℕ) (a : Answer) → accepted a ≡ false → P c (record { answer = a; after = s }))
-      (adds : (e : Entry) → Added s e → P (addOf e) (record { answer = Accepted (length (insert e (s .live))); after = settled L1 L2 s (insert e (s .live)) }))
+      (adds : (e : Entry) → Added s e → P (addOf e) (record { answer = Accepted (length (insert e (s .live))); after = wouldLeave L1 L2 s e }))
       (changes : (e : Entry) (q : ℕ) → find (e .word) (s .live) ≡ some q
       → P (change (e .word) (e .plan)) (record { answer = Accepted q; after = withLive s (update e (s .live)) }))
       (withdraws : (w q : ℕ) → find w (s .live) ≡ some q → P (withdraw w) (record { answer = Accepted q; after = withLive s (remove w (s .live)) }))
       (queries : (w q : ℕ) → P (query w) (record { answer = Accepted q; after = s })) where
     live-cases : (c : Call ℕ) (l : List Entry) (o : Option ℕ)
-        → ((q : ℕ) → o ≡ some q → P c (record { answer = Accepted q; after = withLive s l })) → P c (stepLive L1 L2 s l o)
+        → ((q : ℕ) → o ≡ some q → P c (record { answer = Accepted q; after = withLive s l })) → P c (stepLive s l o)
     live-cases c l none f = refused c NotLive refl
     live-cases c l (some q) f = f q refl
 
     add-cases : (e : Entry) (o : Option ℕ) → find (e .word) (s .live) ≡ o → P (addOf e) (stepAdd L1 L2 s e o)
     add-cases e (some q) f = refused (addOf e) (Live q) refl
     add-cases e none f =
-        by-test (P (addOf e)) (ltb baseLimit (length (base L1 L2 (settled L1 L2 s (insert e (s .live))))))
+        by-test (P (addOf e)) (ltb baseLimit (length (base L1 L2 (wouldLeave L1 L2 s e))))
         (λ t. refused (addOf e) Full refl)
-        (λ t. let h = ltb-false baseLimit (length (base L1 L2 (settled L1 L2 s (insert e (s .live))))) t in
+        (λ t. let h = ltb-false baseLimit (length (base L1 L2 (wouldLeave L1 L2 s e))) t in
         adds e (record { fresh = f; fits = h; left = accepts s e f h }))
 
     pub by-step : (c : Call ℕ) → P c (step L1 L2 s c)

@@ -10,7 +10,7 @@ use Rattle.gf2.specs.Bound.{Due, boundOf}
 use Rattle.hash.specs.Mix.{mixOf}
 use Rattle.identifier.specs.Place.{secondOf, thresholdAt, bucketAt}
 
--- what a level makes of a word
+-- what a level makes of a word: a vector and a place
 pub record Level : Type 0 where
   pub vector : ℕ → ℕ
   pub place : ℕ → ℕ
@@ -31,7 +31,7 @@ threshold L w = thresholdAt (L .place w)
 abbrev pub bucket : Level → ℕ → ℕ → ℕ
 bucket L n w = bucketAt n (L .place w)
 
--- the level holds the word: its threshold is below the bucket's bound
+-- document 01's "held": the threshold of the word is below its bucket's bound
 abbrev pub holds : Level → ℕ → List ℕ → ℕ → Bool
 holds L n bounds w = ltb (threshold L w) (getD bounds (bucket L n w) 0)
 

@@ -2,4 +2,5 @@
 pub mod Levels
 pub mod Model
 pub mod Request
+pub mod Machine
 pub mod History

@@ -17,7 +17,7 @@ use Rattle.model.specs.Levels.{Level, lower, passed}
 abbrev pub baseLimit : ℕ
 baseLimit = 64
 
--- the number of buckets of each level, the live words with their plans, ascending by word, and the bounds of each level
+-- the number of buckets of each level, the live words with their plans, ascending by word, and the bounds of each level's buckets
 pub record State : Type 0 where
   pub buckets1 : ℕ
   pub buckets2 : ℕ
@@ -25,7 +25,7 @@ pub record State : Type 0 where
   pub bounds1 : List ℕ
   pub bounds2 : List ℕ
 
--- a call; I is what names its identifier: the word, or any bytes
+-- a call; I is what stands for identifiers: words, or any bytes
 pub data Call (I : Type 0) : Type 0 where
   add : (i : I) (plan : ℕ) → Call I
   change : (i : I) (plan : ℕ) → Call I
@@ -55,6 +55,11 @@ opened b1 b2 = record {
 abbrev pub withLive : State → List Entry → State
 withLive s l = record { buckets1 = s .buckets1; buckets2 = s .buckets2; live = l; bounds1 = s .bounds1; bounds2 = s .bounds2 }
 
+-- a call that asks for a live word and leaves the live words l, by the plan of the word, if it is live
+abbrev pub stepLive : State → List Entry → Option ℕ → Outcome
+stepLive s l (some p) = record { answer = Accepted p; after = withLive s l }
+stepLive s l none = record { answer = NotLive; after = s }
+
 module _ (L1 L2 : Level) where
   -- the state with these live words, and the bounds lowered for them: first level before second, where the words are due that the
   -- first does not hold
@@ -64,26 +69,25 @@ module _ (L1 L2 : Level) where
       let second : List ℕ = lower L2 (s .buckets2) (s .bounds2) (passed L1 (s .buckets1) first (words l)) in
       record { buckets1 = s .buckets1; buckets2 = s .buckets2; live = l; bounds1 = first; bounds2 = second }
 
-  -- the live words that neither level holds: those of the base list
+  -- the state that the add of the new word e would leave
+  abbrev pub wouldLeave : State → Entry → State
+  wouldLeave s e = settled s (insert e (s .live))
+
+  -- the live words that neither level holds: those of the base list (which has their w')
   abbrev pub base : State → List ℕ
   base s = passed L2 (s .buckets2) (s .bounds2) (passed L1 (s .buckets1) (s .bounds1) (words (s .live)))
 
-  -- the add that would leave t: an add for which the base list has no room changes nothing at all
+  -- the add that would leave t; where that needs a longer base list, the add changes nothing at all
   abbrev pub unlessFull : State → State → Outcome
   unlessFull s t =
       cond (ltb baseLimit (length (base t)))
       (record { answer = Full; after = s })
       (record { answer = Accepted (length (t .live)); after = t })
 
-  -- the add of e, by whether its word is live
+  -- the add of e, by the plan of its word, if that is live
   abbrev pub stepAdd : State → Entry → Option ℕ → Outcome
   stepAdd s e (some p) = record { answer = Live p; after = s }
-  stepAdd s e none = unlessFull s (settled s (insert e (s .live)))
-
-  -- a call that asks for a live word and leaves the live words l, by whether the word is live
-  abbrev pub stepLive : State → List Entry → Option ℕ → Outcome
-  stepLive s l (some p) = record { answer = Accepted p; after = withLive s l }
-  stepLive s l none = record { answer = NotLive; after = s }
+  stepAdd s e none = unlessFull s (wouldLeave s e)
 
   -- what a call does
   abbrev pub step : State → Call ℕ → Outcome

@@ -5,6 +5,6 @@ use Rattle.identifier.specs.declared.Read.{Read}
 use Rattle.identifier.specs.declared.Read.the-variants.{Word, Refused}
 
 -- the word, or the answer that refuses
-abbrev pub answerOf : Read → Answer
-answerOf (Word w) = Accepted w
-answerOf (Refused a) = a
+abbrev pub wordAnswer : Read → Answer
+wordAnswer (Word w) = Accepted w
+wordAnswer (Refused a) = a

@@ -13,7 +13,8 @@ use Rattle.lists.specs.Entries.{Entry, words, insert}
 use Rattle.lists.proofs.Tests.{by-test, cases, cond-true, cond-false}
 use Rattle.gf2.proofs.Loops.{front-step}
 use Rattle.settle.specs.declared.Outgoing.{Outgoing}
-use Rattle.settle.specs.Outgoing.{padded, plans, outgoing, putIn, putAt, placeOf, inserted, joined}
+use Rattle.settle.specs.Outgoing.{padded, plans, outgoing}
+use Rattle.settle.specs.Steps.{putIn, putAt, positionOf, inserted, joined}
 
 -- ---- one element more: the loop carries the element that the one before it took the place of
 
@@ -27,7 +28,7 @@ carry-end l xs at c i x h e q = sym (take-at l (c ∷ drop at l) (length xs) e) 
 -- ---- arrays of numbers, padded with zeros
 
 module _ {A : Type 0} where
-  pub length-put : (xs : List A) (i : ℕ) (x : A) → i ≤ length xs → length (take i xs ++ x ∷ drop i xs) ≡ suc (length xs)
+  length-put : (xs : List A) (i : ℕ) (x : A) → i ≤ length xs → length (take i xs ++ x ∷ drop i xs) ≡ suc (length xs)
   length-put xs i x h = simp (length-append, length-take, length-drop) (omega arith)
 
 abbrev zeros : ℕ → List ℕ
@@ -51,14 +52,14 @@ put-zeros xs k i x h =
     length-append (take i xs ++ x ∷ drop i xs) (zeros k) ∙ rw (length-put xs i x h, length-append xs) (omega (arith, length-replicate {A = ℕ} k 0)) in
     ap (take (length (xs ++ zeros (suc k)))) e ∙ take-at whole (0 ∷ []) (length (xs ++ zeros (suc k))) n
 
-pub pad-put : (m : ℕ) (xs : List ℕ) (i x : ℕ) → i ≤ length xs → length xs < m → putIn i x (padded m xs) ≡ padded m (take i xs ++ x ∷ drop i xs)
+pad-put : (m : ℕ) (xs : List ℕ) (i x : ℕ) → i ≤ length xs → length xs < m → putIn i x (padded m xs) ≡ padded m (take i xs ++ x ∷ drop i xs)
 pad-put m xs i x h l =
     let e : m - length xs ≡ suc (m - suc (length xs)) = omega arith in
     ap (λ (j : ℕ). putIn i x (xs ++ zeros j)) e
     ∙ put-zeros xs (m - suc (length xs)) i x h
     ∙ ap (λ (j : ℕ). (take i xs ++ x ∷ drop i xs) ++ zeros (m - j)) (sym (length-put xs i x h))
 
-pub pad-join : (m : ℕ) (xs ys : List ℕ) → paste (padded m xs) (length xs) (padded m ys) (length ys) ≡ padded m (xs ++ ys)
+pad-join : (m : ℕ) (xs ys : List ℕ) → paste (padded m xs) (length xs) (padded m ys) (length ys) ≡ padded m (xs ++ ys)
 pad-join m xs ys =
     let e : m - length xs - length ys ≡ m - (length xs + length ys) = omega arith in
     rw (take-append-seam xs, take-append-seam ys, drop-append-add, drop-zeros, length-append) (ap (λ (j : ℕ). (xs ++ ys) ++ zeros j) e)
@@ -88,7 +89,7 @@ module _ (m : ℕ) (es : List Entry) where
       pad-put m (map f es) i (f e) (omega arith) (omega arith) ∙ ap (padded m) (sym (map-put f es i e))
 
   -- an entry more, at i
-  pub put-law : (i : ℕ) (e : Entry) → i ≤ length es → length es < m → putAt i (e .word) (e .plan) (outgoing m es) ≡ outgoing m (take i es ++ e ∷ drop i es)
+  put-law : (i : ℕ) (e : Entry) → i ≤ length es → length es < m → putAt i (e .word) (e .plan) (outgoing m es) ≡ outgoing m (take i es ++ e ∷ drop i es)
   unfolding outgoing
   put-law i e h l = same (add-one (length es) ∙ sym (length-put es i e h)) (put-side (λ x. x .word) i e h l) (put-side (λ x. x .plan) i e h l)
 
@@ -105,13 +106,13 @@ module _ (m : ℕ) (es : List Entry) where
     unfolding outgoing
     join-law = same (sym (length-append es fs)) (join-side (λ x. x .word)) (join-side (λ x. x .plan))
 
--- ---- the place among ascending vectors
+-- ---- the position among ascending vectors
 
-pub place-le : (v : ℕ) (xs : List ℕ) → placeOf v xs ≤ length xs
-place-le v [] = zero-le
-place-le v (x ∷ xs) = by-test (λ (i : ℕ). i ≤ suc (length xs)) (ltb v x) (λ t. zero-le) (λ f. let h = place-le v xs in omega arith)
+position-le : (v : ℕ) (xs : List ℕ) → positionOf v xs ≤ length xs
+position-le v [] = zero-le
+position-le v (x ∷ xs) = by-test (λ (i : ℕ). i ≤ suc (length xs)) (ltb v x) (λ t. zero-le) (λ f. let h = position-le v xs in omega arith)
 
-pub placed : (e : Entry) (es : List Entry) → insert e es ≡ take (placeOf (e .word) (words es)) es ++ e ∷ drop (placeOf (e .word) (words es)) es
+placed : (e : Entry) (es : List Entry) → insert e es ≡ take (positionOf (e .word) (words es)) es ++ e ∷ drop (positionOf (e .word) (words es)) es
 placed e [] = refl
 placed e (x ∷ es) =
     cases (ltb (e .word) (x .word)) (λ t. rw t) (λ f. rw f (ap (λ (l : List Entry). x ∷ l) (placed e es)))
@@ -120,7 +121,7 @@ pub insert-law : (m : ℕ) (es : List Entry) (e : Entry) → length es < m → i
 unfolding outgoing
 insert-law m es e l =
     let k : length (words es) ≡ length es = length-map es (λ x. x .word) in
-    rw (words-of m es) (put-law m es (placeOf (e .word) (words es)) e (omega (arith, place-le (e .word) (words es))) l ∙ ap (outgoing m) (sym (placed e es)))
+    rw (words-of m es) (put-law m es (positionOf (e .word) (words es)) e (omega (arith, position-le (e .word) (words es))) l ∙ ap (outgoing m) (sym (placed e es)))
 
 -- ---- loops over the first m elements
 
@@ -135,11 +136,11 @@ past xs m i h =
     drop-of-length-le (take m xs) k
 
 module _ (v : ℕ) (xs : List ℕ) (m i : ℕ) where
-  pub place-here : m ≤ length xs → i < m → v < getD xs i 0 → placeOf v (drop i (take m xs)) ≡ 0
-  place-here h k l = rw (part xs m i h k) (cond-true 0 (suc (placeOf v (drop (suc i) (take m xs)))) (lt-ltb v (getD xs i 0) l))
+  pub position-here : m ≤ length xs → i < m → v < getD xs i 0 → positionOf v (drop i (take m xs)) ≡ 0
+  position-here h k l = rw (part xs m i h k) (cond-true 0 (suc (positionOf v (drop (suc i) (take m xs)))) (lt-ltb v (getD xs i 0) l))
 
-  pub place-next : m ≤ length xs → i < m → getD xs i 0 ≤ v → placeOf v (drop i (take m xs)) ≡ suc (placeOf v (drop (suc i) (take m xs)))
-  place-next h k l = rw (part xs m i h k) (cond-false 0 (suc (placeOf v (drop (suc i) (take m xs)))) (le-ltb v (getD xs i 0) l))
+  pub position-next : m ≤ length xs → i < m → getD xs i 0 ≤ v → positionOf v (drop i (take m xs)) ≡ suc (positionOf v (drop (suc i) (take m xs)))
+  position-next h k l = rw (part xs m i h k) (cond-false 0 (suc (positionOf v (drop (suc i) (take m xs)))) (le-ltb v (getD xs i 0) l))
 
-  pub place-end : m ≤ i → placeOf v (drop i (take m xs)) ≡ 0
-  place-end h = rw (past xs m i h)
+  pub position-end : m ≤ i → positionOf v (drop i (take m xs)) ≡ 0
+  position-end h = rw (past xs m i h)

@@ -1,6 +1,6 @@
 -- What a bucket holds: a list of entries, in any order, by vector and plan. The bucket's steps on that list, at every width.
 -- Assumes nothing.
-use Prim.Native.Nat.{ℕ, suc, _/_, _^_, _<_}
+use Prim.Native.Nat.{ℕ, _^_, _<_}
 use native.Mathlib.Omega.{arith}
 use mathlib.Core.Path.{_≡_, refl, sym, ap, ap₂, _∙_, subst, subst⁻¹, subst₂}
 use mathlib.Core.Bool.{Bool, true, false, _||_, true≢false, Bool-set}
@@ -21,6 +21,7 @@ use Rattle.gf2.specs.Select.{elem, sums, chosen}
 use Rattle.gf2.proofs.Select.{sums-cons, zero-in, sums-perm}
 use Rattle.gf2.proofs.Chosen.{Row, elem→row}
 use Rattle.gf2.proofs.Lowest.{tz-pow}
+use Rattle.gf2.proofs.Loops.{length-solStep}
 use Rattle.gf2.proofs.Solutions.{plan-set, plan-kept}
 use Rattle.bucket.specs.declared.Bucket.{Bucket}
 use Rattle.bucket.specs.declared.Tried.{Tried}
@@ -81,10 +82,6 @@ pub record Holds (n r : ℕ) (b : Bucket) (rows : List Entry) : Type 0 where
   pub plans : (e : Entry) → List·Memᴰ e rows → lookup b (e .word) ≡ e .plan
   pub wide : length (b .sols) ≡ r
   pub distinct : Distinct rows
-
-pub length-solStep : (u d : ℕ) (ss : List ℕ) → length (solStep u d ss) ≡ length ss
-length-solStep u d [] = refl
-length-solStep u d (s ∷ ss) = ap suc (length-solStep u (d / 2) ss)
 
 pub holds-empty : (n r : ℕ) → Holds n r (emptyBucket n r) []
 unfolding emptyBucket

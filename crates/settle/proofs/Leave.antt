@@ -21,7 +21,8 @@ use Rattle.bucket.specs.declared.Bucket.{Bucket}
 use Rattle.bucket.specs.Bucket.{lookup, withdraw}
 use Rattle.settle.specs.declared.Outgoing.{Outgoing}
 use Rattle.settle.specs.Settle.{withdrawAll}
-use Rattle.settle.specs.Outgoing.{outgoing, inserted, leavingOf, entered}
+use Rattle.settle.specs.Outgoing.{outgoing}
+use Rattle.settle.specs.Steps.{inserted, leavingOf, entered}
 use Rattle.settle.proofs.Arrays.{count-of, insert-law, part, past}
 
 -- ---- how many

@@ -1,7 +1,7 @@
 -- The laws of the crate.
-pub mod Arrays
 pub mod Hold
-pub mod Leave
-pub mod Run
 pub mod Fall
+pub mod Arrays
+pub mod Leave
 pub mod Sound
+pub mod Run

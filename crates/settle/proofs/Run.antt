@@ -6,23 +6,20 @@ use native.Mathlib.Omega.{arith}
 use mathlib.Core.Path.{_≡_, refl, sym, ap, ap₂, _∙_, subst⁻¹}
 use mathlib.Core.Bool.{true, false}
 use mathlib.Core.List.{List, [], _∷_, _++_, append-assoc, append-nil}
-use lib.ListN.{length, take, length-append, length-map}
+use lib.ListN.{length, take, length-append}
 use borrow.Author.Tests.{lt-ltb, le-ltb}
 use Rattle.lists.specs.Entries.{Entry}
 use Rattle.lists.proofs.Tests.{cond-true, cond-false}
-use Rattle.lists.proofs.Keep.{perm-length}
-use Rattle.gf2.specs.Select.{chosen}
 use Rattle.bucket.specs.declared.Bucket.{Bucket}
 use Rattle.bucket.specs.declared.Tried.{Tried}
-use Rattle.bucket.specs.Bucket.{lookup, add}
+use Rattle.bucket.specs.Bucket.{add}
 use Rattle.settle.specs.declared.Outgoing.{Outgoing}
 use Rattle.settle.specs.declared.Settled.{Settled}
 use Rattle.settle.specs.Settle.{SoundBucket, contents, leaving, withdrawAll, atBound, lowered, Settlement, ahead, settle}
-use Rattle.settle.specs.Outgoing.{outgoing, putAt, joined, settledOf}
+use Rattle.settle.specs.Outgoing.{outgoing, settledOf}
+use Rattle.settle.specs.Steps.{putAt, joined}
 use Rattle.settle.proofs.Arrays.{count-of, words-of, push-law, join-law}
-use Rattle.settle.proofs.Leave.{chosen-length}
-use Rattle.settle.proofs.Fall.{rows-of}
-use Rattle.settle.proofs.Sound.{sound-listed, lowered-sound, lowered-length}
+use Rattle.settle.proofs.Sound.{contents-few, lowered-sound, lowered-length}
 
 -- ---- the three ways of the definition
 
@@ -39,11 +36,6 @@ module _ (n : ℕ) (thr : ℕ → ℕ) (e : Entry) where
   settle-past (suc t) b l = cond-false _ _ (le-ltb (thr (e .word)) (suc t) l)
 
 -- ---- the loop
-
-contents-few : {n r : ℕ} {b : Bucket} → SoundBucket n r b → length (contents n b) ≤ n
-contents-few {n} {r} {b} h =
-    let f : ℕ → Entry = (λ k. record { word = k; plan = lookup b k }) in
-    omega (arith, perm-length (rows-of (sound-listed h)), length-map (chosen (b .mark) (h .matrix)) f, chosen-length (b .mark) (h .matrix), h .sound .inverse .rows)
 
 module _ (n r m : ℕ) (thr : ℕ → ℕ) (e : Entry) where
   -- b₀ is the bucket to which e came, b the bucket now, out the words that have left

@@ -1,15 +1,15 @@
 -- A sound bucket: what it holds and which words leave it when its bound falls, by the rows of K. What an add under the bound means.
 -- Assumes nothing.
-use Prim.Native.Nat.{ℕ, _+_, _^_, _≤_, _<_}
+use Prim.Native.Nat.{ℕ, zero, suc, _+_, _^_, _≤_, _<_}
 use native.Mathlib.Omega.{arith}
 use mathlib.Core.Path.{_≡_, refl, sym, ap, _∙_, subst, subst⁻¹}
 use mathlib.Core.Bool.{Bool, true, false, not, _&&_}
 use mathlib.Core.List.{List, [], _∷_, _++_, map, Perm, Perm·refl, List·Permᴰ, Permᴰ·symm, Memᴰ·of-map}
-use lib.Dec.{T, eqb}
-use lib.ListN.{length, length-append}
+use lib.Dec.{T, eqb, ltb}
+use lib.ListN.{length, set, length-append, length-map}
 use Rattle.lists.specs.Lists.{keep}
 use Rattle.lists.specs.Entries.{Entry, words, Distinct, Ascending}
-use Rattle.lists.proofs.Tests.{and-l, and-r, T→true}
+use Rattle.lists.proofs.Tests.{cases, by-test, and-l, and-r, T→true, true→T, false→T}
 use Rattle.lists.proofs.Keep.{keep-perm, keep-part, perm-length}
 use Rattle.lists.proofs.Entries.{none-find, sub-ascending}
 use Rattle.lists.proofs.Sorts.{sort-order, sort-same, ascending-distinct}
@@ -18,15 +18,18 @@ use Rattle.gf2.specs.Bound.{Free, boundOf}
 use Rattle.gf2.proofs.Select.{indep-cons, indep-perm}
 use Rattle.gf2.proofs.Depend.{occupied-indep}
 use Rattle.gf2.proofs.Bound.{fall-bound}
+use Rattle.gf2.proofs.Loops.{length-solStep}
 use Rattle.bucket.specs.declared.Bucket.{Bucket}
-use Rattle.bucket.specs.Bucket.{largestBound, lookup}
+use Rattle.bucket.specs.declared.Tried.{Tried}
+use Rattle.bucket.specs.Bucket.{largestBound, lookup, addAt, add}
+use Rattle.bucket.proofs.Steps.{add-sound, add-goes, add-depends}
 use Rattle.eliminate.specs.declared.Rows.{Rows}
 use Rattle.eliminate.specs.Elimination.{soundRows}
-use Rattle.eliminate.proofs.Free.{found-is}
-use Rattle.settle.specs.Settle.{SoundBucket, listed, contents, leaving, lowered, Settlement, settle}
-use Rattle.settle.specs.Outgoing.{leavingOf}
+use Rattle.eliminate.proofs.Exact.{found-is}
+use Rattle.settle.specs.Settle.{SoundBucket, listed, contents, leaving, lowered, Settlement, ahead, settle}
+use Rattle.settle.specs.Steps.{leavingOf}
 use Rattle.settle.proofs.Hold.{Holds, holds-perm, mem-elem, elem-sums}
-use Rattle.settle.proofs.Leave.{keep-within}
+use Rattle.settle.proofs.Leave.{keep-within, chosen-length}
 use Rattle.settle.proofs.Fall.{rows-of, rows-ascending, holds-lowered, held, over, seen, under-held, settle-law}
 
 -- ---- a sound bucket holds its rows
@@ -70,6 +73,11 @@ module _ {n r : ℕ} {b : Bucket} where
   pub holds-sound : {rows : List Entry} → Holds n r b rows → b .bound ≤ largestBound → SoundBucket n r b
   holds-sound h l = record { matrix = h .matrix; sound = h .sound; wide = h .wide; low = l }
 
+pub contents-few : {n r : ℕ} {b : Bucket} → SoundBucket n r b → length (contents n b) ≤ n
+contents-few {n} {r} {b} h =
+    let f : ℕ → Entry = (λ k. record { word = k; plan = lookup b k }) in
+    omega (arith, perm-length (rows-of (sound-listed h)), length-map (chosen (b .mark) (h .matrix)) f, chosen-length (b .mark) (h .matrix), h .sound .inverse .rows)
+
 -- ---- the bound falls
 
 module _ {n r : ℕ} {b : Bucket} (thr : ℕ → ℕ) (t : ℕ) (h : SoundBucket n r b) where
@@ -103,6 +111,46 @@ module _ {n r : ℕ} {b : Bucket} (thr : ℕ → ℕ) (t : ℕ) (h : SoundBucket
 
   pub lowered-length : length (leaving n thr t b) + length (contents n (lowered n thr t b)) ≡ length (contents n b)
   lowered-length = omega (arith, perm-length parts, length-append (leaving n thr t b) staying, perm-length (rows-of lower))
+
+-- ---- an add keeps a bucket sound
+
+module _ (n r : ℕ) (thr : ℕ → ℕ) (e : Entry) (small : e .word < 2 ^ n) where
+  added-sound : {b : Bucket} → SoundBucket n r b → SoundBucket n r (add n (e .word) (e .plan) b .bucket)
+  unfolding addAt
+  added-sound {b} h =
+      cases (elem (e .word) (sums (chosen (b .mark) (h .matrix))))
+      (λ t. subst⁻¹ (λ (a : Tried). SoundBucket n r (a .bucket)) (add-depends n (h .matrix) b (h .sound) (e .word) (e .plan) small (true→T t)) h)
+      (λ f.
+      let g = add-goes n (h .matrix) b (h .sound) (e .word) (e .plan) small (false→T f) in
+      subst⁻¹ (λ (a : Tried). SoundBucket n r (a .bucket)) (g .result) (record {
+        matrix = set (h .matrix) (g .row) (e .word);
+        sound = add-sound n (h .matrix) b (g .row) (e .word) (e .plan) (h .sound) (g .row-lt) small (g .was-free) (g .has-bit);
+        wide = length-solStep _ _ (b .sols) ∙ h .wide;
+        low = h .low;
+      }))
+
+  -- the bucket afterwards is sound, and at most its words and e leave
+  abbrev Kept : Bucket → Settlement → Type 0
+  Kept b s = SoundBucket n r (s .bucket) × (length (s .out) ≤ suc (length (contents n b)))
+
+  keeps : (t : ℕ) (b : Bucket) → b .bound ≡ t → SoundBucket n r b → Kept b (settle n thr e t b)
+  keeps zero b q h = (h, omega arith)
+  keeps (suc t) b q h =
+      by-test (Kept b) (ltb (thr (e .word)) (suc t))
+      (λ l. by-test (Kept b) (add n (e .word) (e .plan) b .done) (λ d. (added-sound h, omega arith)) (λ d. fallen (keeps t (lowered n thr t b) refl (lowered-sound thr t h low))))
+      (λ f. (h, omega arith))
+    where
+      low : t ≤ largestBound
+      low = omega (arith, h .low)
+
+      fallen : Kept (lowered n thr t b) (settle n thr e t (lowered n thr t b)) → Kept b (ahead (leaving n thr t b) (settle n thr e t (lowered n thr t b)))
+      fallen k = (k .0, omega (arith, k .1, lowered-length thr t h, length-append (leaving n thr t b) (settle n thr e t (lowered n thr t b) .out)))
+
+  pub settle-sound : (b : Bucket) → SoundBucket n r b → SoundBucket n r (settle n thr e (b .bound) b .bucket)
+  settle-sound b h = keeps (b .bound) b refl h .0
+
+  pub settle-few : (b : Bucket) → SoundBucket n r b → length (settle n thr e (b .bound) b .out) ≤ suc n
+  settle-few b h = omega (arith, keeps (b .bound) b refl h .1, contents-few h)
 
 -- ---- the meaning of an add under the bound
 

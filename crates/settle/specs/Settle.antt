@@ -9,8 +9,7 @@ use lib.Dec.{eqb, ltb}
 use lib.ListN.{length}
 use Rattle.lists.specs.Lists.{keep, countFrom}
 use Rattle.lists.specs.Entries.{Entry, words}
-use Rattle.hash.specs.Mix.{mixOf}
-use Rattle.identifier.specs.Place.{thresholdAt}
+use Rattle.identifier.specs.Place.{placeOf, thresholdAt}
 use Rattle.bucket.specs.declared.Bucket.{Bucket}
 use Rattle.bucket.specs.declared.Tried.{Tried}
 use Rattle.bucket.specs.Bucket.{Sound, largestBound, lookup, live, add, withdraw}
@@ -22,9 +21,9 @@ pub record SoundBucket (n r : ℕ) (b : Bucket) : Type 0 where
   pub wide : length (b .sols) ≡ r
   pub low : b .bound ≤ largestBound
 
--- the threshold of a vector, at either level: its place is S of it
+-- the threshold of a vector, at either level
 abbrev pub thresholdOf : ℕ → ℕ
-thresholdOf v = thresholdAt (mixOf v)
+thresholdOf v = thresholdAt (placeOf v)
 
 -- the vectors ks with their plans
 abbrev pub listed : Bucket → List ℕ → List Entry

@@ -1,7 +1,8 @@
 // Settling under a bound: a word is added to one bucket, whose bound falls while the word depends; the words that leave go one level
-// further. specs/Settle.antt has the definition, in document 01's order, specs/Outgoing.antt the words that leave as the code keeps
-// them; proofs/Hold.antt what a bucket holds as a list of entries, proofs/Fall.antt where the bound comes to stand, who stays and
-// who leaves. Cites gf2, lists, bucket, eliminate (the rows of K) and identifier (thresholds); table builds on it.
+// further. specs/Settle.antt has the definition, in document 01's order, and specs/Outgoing.antt its result as the code keeps it.
+// Laws: proofs/Hold.antt (what a bucket holds, as a list of entries), proofs/Fall.antt (where the bound comes to stand, who stays and
+// who leaves), proofs/Sound.antt (`settle-meaning`; the bucket stays sound).
+// Cites gf2, lists, identifier (thresholds), eliminate (the rows of K) and bucket. table builds on it.
 use bucket::Bucket;
 use identifier::threshold;
 ghost use mathlib.Core.Path.{_≡_};
@@ -11,7 +12,8 @@ ghost use lib.ListN.{take};
 ghost use lib.Seq.{paste};
 ghost use Rattle.gf2.specs.Select.{chosen};
 ghost use Rattle.settle.specs.Settle.{SoundBucket, thresholdOf, leaving, withdrawAll, atBound, settle};
-ghost use Rattle.settle.specs.Outgoing.{putIn, placeOf, outgoing, putAt, inserted, joined, leavingOf, entered, settledOf};
+ghost use Rattle.settle.specs.Outgoing.{outgoing, settledOf};
+ghost use Rattle.settle.specs.Steps.{putIn, positionOf, putAt, inserted, joined, leavingOf, entered};
 
 // The words that leave a bucket, with their plans, in order; unused elements are 0.
 pub struct Outgoing {
@@ -43,9 +45,9 @@ pub(crate) fn put_in(words: [u64; Outgoing::MOST], i: usize, x: u64) -> [u64; Ou
 }
 
 // How many of the first `count` vectors stand before the first that is larger than v.
-pub(crate) fn place_of(vectors: [u64; Outgoing::MOST], count: usize, v: u64) -> usize
+pub(crate) fn position_of(vectors: [u64; Outgoing::MOST], count: usize, v: u64) -> usize
     requires { do ⌜ count ≤ (← ⟦Outgoing::MOST⟧) ⌝ }
-    ensures { λ r. ⌜ r ≡ placeOf v (take count vectors) ⌝ }
+    ensures { λ r. ⌜ r ≡ positionOf v (take count vectors) ⌝ }
 {
     let mut i: usize = 0;
     while i < count {
@@ -110,7 +112,7 @@ impl Outgoing {
         ensures { λ r. ⌜ r ≡ inserted v plan self ⌝ }
     {
         let vectors = self.vectors;
-        self.put_at(place_of(vectors, self.count, v), v, plan)
+        self.put_at(position_of(vectors, self.count, v), v, plan)
     }
 
     // v with its plan after all others.
@@ -140,7 +142,7 @@ impl Outgoing {
     }
 }
 
-// The words with v and its plan in b among them, where d is set and v's threshold is t.
+// v with its plan in b inserted, where d is set and v's threshold is t.
 pub(crate) fn entered(out: Outgoing, b: Bucket, d: u64, v: u64, t: u64) -> Outgoing
     requires { do ⌜ out .count < (← ⟦Outgoing::MOST⟧) ⌝ }
     ensures { λ r. ⌜ r ≡ entered d thresholdOf t b v out ⌝ }
@@ -166,6 +168,17 @@ pub(crate) fn leaving_of(b: Bucket, rows: [u64; Bucket::ROWS], t: u64) -> Outgoi
         out = entered(out, b, (mark >> i) % 2, rows[i], t);
     }
     out
+}
+
+// The words of threshold t, with their plans, smallest first.
+pub(crate) fn leaving(b: Bucket, t: u64) -> Outgoing
+    requires { do ⌜ SoundBucket (← ⟦Bucket::ROWS⟧) (← ⟦Bucket::SOLUTIONS⟧) b ⌝ }
+    ensures { λ r. do ⌜ r ≡ outgoing (← ⟦Outgoing::MOST⟧ .entry) (leaving (← ⟦Bucket::ROWS⟧ .entry) thresholdOf t b) ⌝ }
+{
+    let cols = b.cols;
+    let found = eliminate::rows_of(cols, b.mark);
+    let rows = found.rows;
+    leaving_of(b, rows, t)
 }
 
 // Each of the words is withdrawn.
@@ -196,17 +209,6 @@ pub(crate) fn at_bound(b: Bucket, t: u64) -> Bucket
         sols,
         bound: t,
     }
-}
-
-// The words of threshold t, with their plans, smallest first.
-pub(crate) fn leaving(b: Bucket, t: u64) -> Outgoing
-    requires { do ⌜ SoundBucket (← ⟦Bucket::ROWS⟧) (← ⟦Bucket::SOLUTIONS⟧) b ⌝ }
-    ensures { λ r. do ⌜ r ≡ outgoing (← ⟦Outgoing::MOST⟧ .entry) (leaving (← ⟦Bucket::ROWS⟧ .entry) thresholdOf t b) ⌝ }
-{
-    let cols = b.cols;
-    let found = eliminate::rows_of(cols, b.mark);
-    let rows = found.rows;
-    leaving_of(b, rows, t)
 }
 
 // The word k with its plan comes to the bucket. While it depends there, the bound falls by one, and the words whose threshold equals

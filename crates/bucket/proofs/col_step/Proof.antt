@@ -1,21 +1,27 @@
--- `bucket::col_step` meets its contract. The loop rewrites the columns from the front: those before i are done, the others are to come.
+-- `bucket::col_step` meets its contract. The loop rewrites the columns from the front: those before `at` are done, the others are to come.
 -- Assumes nothing.
 use mathlib.Core.Path.{_≡_, refl, sym, _∙_}
 use mathlib.Core.List.{_++_}
 use Prim.Native.Nat.{_-_, _<_}
 use native.Mathlib.Omega.{arith}
 use borrow.Author.Needs.{needs}
-use lib.ListN.{length, take, drop, length-set}
+use lib.ListN.{length, getD, take, drop, length-set}
 use Rattle.gf2.specs.Vectors.{colStep}
 use Rattle.gf2.proofs.Loops.{front-end, colStep-at}
 use Rattle.bucket.proofs.col_step.Statement.{statement}
 use Rattle.bucket.proofs.col_step.Tie as tie
 
 abbrev Inv-loop : tie.InvT-loop
-Inv-loop u v out₀ i₀ out i = (length out ≡ length out₀) × (take i out ++ colStep u v (drop i out) ≡ colStep u v out₀)
+Inv-loop i v out₀ u at₀ out at = (length out ≡ length out₀) × (take at out ++ colStep u v (drop at out) ≡ colStep u v out₀)
 
 abbrev μ-loop : tie.MeasureT-loop
-μ-loop u v out₀ i₀ out i = length out₀ - i
+μ-loop i v out₀ u at₀ out at = length out₀ - at
+
+mul-u : tie.Need-mul-u Inv-loop μ-loop
+mul-u c = search needs
+
+array-read-u : tie.Need-array-read-u Inv-loop μ-loop
+array-read-u c = search needs
 
 loop-holds : tie.Need-loop-holds Inv-loop μ-loop
 loop-holds c = search needs
@@ -38,8 +44,8 @@ mul-out c = search needs
 array-write-out : tie.Need-array-write-out Inv-loop μ-loop
 array-write-out c = search needs
 
-add-i : tie.Need-add-i Inv-loop μ-loop
-add-i c = search needs
+add-at : tie.Need-add-at Inv-loop μ-loop
+add-at c = search needs
 
 loop-less : tie.Need-loop-less Inv-loop μ-loop
 loop-less c = search needs
@@ -47,7 +53,7 @@ loop-less c = search needs
 loop-again : tie.Need-loop-again Inv-loop μ-loop
 loop-again c =
     let b = c .before .before .before in
-    let h : b .loop .i < length (b .loop .out) = omega arith in (
+    let h : b .loop .at < length (b .loop .out) = omega arith in (
       simp length-set (b .loop .inv .0),
       colStep-at _ _ _ _ _ h (cc) ∙ b .loop .inv .1,
     )
@@ -55,7 +61,8 @@ loop-again c =
 returns : tie.Need-returns Inv-loop μ-loop
 returns c =
     let b = c .before in
-    sym (front-end (colStep (b .before .args .u) (b .before .args .v)) (b .loop .out) (b .loop .i) refl (omega arith)) ∙ b .loop .inv .1
+    let a = b .before .args in
+    sym (front-end (colStep (getD (a .cols) (a .i) 0) (a .v)) (b .loop .out) (b .loop .at) refl (omega arith)) ∙ b .loop .inv .1
 
 pub col-step-spec : {M : Type 1} → statement M
 col-step-spec =
@@ -63,6 +70,8 @@ col-step-spec =
     (tie.spec
     Inv-loop
     μ-loop
+    mul-u
+    array-read-u
     loop-holds
     mul-a
     array-read-a
@@ -70,7 +79,7 @@ col-step-spec =
     flip-if-requires
     mul-out
     array-write-out
-    add-i
+    add-at
     loop-less
     loop-again
     returns)

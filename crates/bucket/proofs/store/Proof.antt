@@ -5,8 +5,7 @@ use native.Mathlib.Omega.{arith}
 use lib.Seq.{length-take-le}
 use borrow.Author.Needs.{needs}
 use Rattle.bucket.specs.Words.{Shaped}
-use Rattle.bucket.proofs.Parts.{length-marked, room, length-solved, stored}
-use Rattle.bucket.proofs.Words.{length-words}
+use Rattle.bucket.proofs.Parts.{length-marked, room, length-solved, length-stored, stored}
 use Rattle.bucket.proofs.put.Reads as put-reads
 use Rattle.bucket.proofs.store.Reads as reads
 use Rattle.bucket.proofs.store.Lts as lts
@@ -65,8 +64,7 @@ same-length : tie.Need-same-length
 same-length c =
     let b = c .before .before .before .before .before .before .before in
     let s = b .before .before .before .before .before .before in
-    rw (c .before .before .put2 .ensures, b .put .ensures, stored 64 8 (s .args .part .now) (s .args .b) (s .pre) (shaped s))
-    (length-words 64 8 (s .args .b) (shaped s) ∙ sym (s .pre))
+    rw (c .before .before .put2 .ensures, b .put .ensures) (length-stored 64 8 (s .args .part .now) (s .args .b) (s .pre) (shaped s) _)
 
 returns : tie.Need-returns
 returns c =

@@ -1,4 +1,6 @@
-use mathlib.Core.Path.{_≡_, sym}
+-- `eliminate::dual_at` meets its contract.
+-- Assumes nothing.
+use mathlib.Core.Path.{sym}
 use native.Mathlib.Omega.{arith}
 use lib.Count.{trailing-le}
 use lib.ListN.{List·getD-eq-default}

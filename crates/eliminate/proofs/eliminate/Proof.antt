@@ -1,16 +1,18 @@
-use mathlib.Core.Path.{_≡_, refl, sym, ap, ap₂, _∙_}
-use mathlib.Core.Bool.{Bool, true, false}
-use mathlib.Core.List.{List}
+-- `eliminate::eliminate` meets its contract. The loop's invariant: the state is that after the first `j` columns, all of them placed;
+-- outside `occupied` each product has its own bit alone, and no free row from `j` on is taken.
+-- Assumes nothing.
+use mathlib.Core.Path.{_≡_, refl, sym, ap, _∙_}
+use mathlib.Core.Bool.{true, false}
 use mathlib.Core.Logic.{⊎-elim}
-use Prim.Native.Nat.{ℕ, _+_, _-_, _/_, _%_, _≤_, _<_, _^_}
+use Prim.Native.Nat.{ℕ, _-_, _/_, _%_, _≤_, _<_, _^_}
 use native.Mathlib.Omega.{arith}
-use borrow.Author.Tests.{lt-ltb, le-ltb}
-use lib.Bits.{bitXor, bitOr}
-use lib.ListN.{length, getD, length-set}
+use borrow.Author.Tests.{le-ltb}
+use lib.Bits.{bitXor}
+use lib.ListN.{length, getD}
 use Rattle.gf2.specs.Vectors.{solStep}
 use Rattle.gf2.proofs.Bit.{bit-zero}
 use Rattle.gf2.proofs.Loops.{solStep-none, length-solStep}
-use Rattle.eliminate.specs.Elimination.{clearFrom, passed, pick, ordered, Work, rowAt, stepAt, after, placed, eliminated}
+use Rattle.eliminate.specs.Elimination.{clearFrom, passed, Work, rowAt, stepAt, after, placed, eliminated}
 use Rattle.eliminate.proofs.Laws.{row-is, answer-is, stuck, after-more, placed-more, clearFrom-none, length-clearFrom}
 use Rattle.eliminate.proofs.Free.{FreeBits, cols→bits}
 use Rattle.eliminate.proofs.Skip.{Untaken, passed-is, free-bits-after, untaken-after}

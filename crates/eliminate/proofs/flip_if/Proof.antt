@@ -1,4 +1,6 @@
-use mathlib.Core.Path.{_≡_, sym}
+-- `eliminate::flip_if` meets its contract.
+-- Assumes nothing.
+use mathlib.Core.Path.{sym}
 use Rattle.gf2.proofs.Loops.{flip-set}
 use borrow.Author.Needs.{needs}
 use Rattle.eliminate.proofs.flip_if.Statement.{statement}

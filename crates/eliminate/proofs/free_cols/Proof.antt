@@ -1,5 +1,7 @@
+-- `eliminate::free_cols` meets its contract. The loop's invariant: the test of the columns from `i` on is the test of all.
+-- Assumes nothing.
 use mathlib.Core.Path.{_≡_, refl, sym, ap, _∙_}
-use Prim.Native.Nat.{ℕ, _+_, _-_, _≤_, _<_, _^_}
+use Prim.Native.Nat.{ℕ, _-_, _≤_, _<_, _^_}
 use native.Mathlib.Omega.{arith}
 use lib.ListN.{length, getD, drop}
 use Rattle.gf2.specs.Vectors.{outside}

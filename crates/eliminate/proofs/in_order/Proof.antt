@@ -1,3 +1,5 @@
+-- `eliminate::in_order` meets its contract. The loop's invariant: what is written, then `ordered` of what is to come.
+-- Assumes nothing.
 use mathlib.Core.Path.{_≡_, refl, sym, _∙_}
 use mathlib.Core.List.{_++_}
 use Prim.Native.Nat.{_+_, _-_, _≤_, _<_}

@@ -1,4 +1,6 @@
-use mathlib.Core.Path.{_≡_, sym, _∙_}
+-- `eliminate::pass` meets its contract.
+-- Assumes nothing.
+use mathlib.Core.Path.{_∙_}
 use Rattle.eliminate.proofs.Laws.{passed-set}
 use borrow.Author.Needs.{needs}
 use Rattle.eliminate.proofs.pass.Statement.{statement}

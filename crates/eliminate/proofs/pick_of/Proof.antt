@@ -1,5 +1,6 @@
+-- `eliminate::pick_of` meets its contract.
+-- Assumes nothing.
 use Rattle.eliminate.proofs.Laws.{preferred-set}
-use mathlib.Core.Path.{_≡_, sym}
 use native.Mathlib.Omega.{arith}
 use lib.Count.{trailing-le}
 use Rattle.eliminate.specs.Elimination.{pick}

@@ -1,4 +1,5 @@
-use mathlib.Core.Path.{_≡_}
+-- `eliminate::power` meets its contract: a shift of 1 below the width loses no bit.
+-- Assumes nothing.
 use native.Mathlib.Nat.{one-mul, mod-eq-of-lt}
 use lib.Pow.{pow-lt}
 use borrow.Author.Needs.{needs}

@@ -1,8 +1,7 @@
 -- `eliminate::rows_of` meets its contract.
 -- Assumes nothing.
-use mathlib.Core.Path.{_≡_, sym, _∙_}
-use lib.ListN.{length}
-use Rattle.eliminate.proofs.Free.{sound-empty, sound-yes, sound-no}
+use mathlib.Core.Path.{sym, _∙_}
+use Rattle.eliminate.proofs.Exact.{sound-empty, sound-yes, sound-no}
 use borrow.Author.Needs.{needs}
 use Rattle.eliminate.proofs.rows_of.Statement.{statement}
 use Rattle.eliminate.proofs.rows_of.Tie as tie

@@ -1,7 +1,7 @@
 -- `eliminate::unit_rows` meets its contract. The loop's invariant: the first `i` elements are those of the unit matrix.
 -- Assumes nothing.
 use mathlib.Core.Path.{_≡_}
-use Prim.Native.Nat.{_+_, _-_, _≤_, _<_}
+use Prim.Native.Nat.{_-_, _≤_, _<_}
 use native.Mathlib.Omega.{arith}
 use lib.ListN.{length, take, length-set}
 use Rattle.gf2.specs.Vectors.{units}

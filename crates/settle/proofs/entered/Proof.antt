@@ -3,7 +3,7 @@
 use mathlib.Core.Path.{sym, ap, _∙_}
 use Prim.Native.Nat.{ℕ}
 use Rattle.settle.specs.Settle.{thresholdOf}
-use Rattle.settle.specs.Outgoing.{inserted}
+use Rattle.settle.specs.Steps.{inserted}
 use Rattle.settle.proofs.Leave.{entered-not, entered-on}
 use borrow.Author.Needs.{needs}
 use Rattle.settle.proofs.entered.Statement.{statement}

@@ -5,7 +5,7 @@ use Prim.Native.Nat.{_-_, _≤_}
 use native.Mathlib.Omega.{arith}
 use Rattle.settle.specs.Settle.{thresholdOf}
 use lib.ListN.{length}
-use Rattle.settle.specs.Outgoing.{entered}
+use Rattle.settle.specs.Steps.{entered}
 use Rattle.settle.proofs.Leave.{Found, found-none, found-count, found-down, found-all}
 use borrow.Author.Needs.{needs}
 use Rattle.settle.proofs.leaving_of.Statement.{statement}

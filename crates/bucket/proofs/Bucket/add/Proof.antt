@@ -1,6 +1,6 @@
 -- `bucket::Bucket::add` meets its contract.
 -- Assumes nothing.
-use mathlib.Core.Path.{_≡_}
+use mathlib.Core.Path.{_≡_, sym}
 use borrow.Author.Needs.{needs}
 use borrow.Author.Tests.{lt-ltb, le-ltb}
 use Rattle.bucket.specs.Bucket.{freeRow, addAt, add}
@@ -12,12 +12,6 @@ product-requires c κs = search needs
 
 lowest-requires : tie.Need-lowest-requires
 lowest-requires c κs = search needs
-
-mul-col-step : tie.Need-mul-col-step
-mul-col-step c = search needs
-
-array-read-col-step : tie.Need-array-read-col-step
-array-read-col-step c = search needs
 
 power-requires : tie.Need-power-requires
 power-requires c κs = search needs
@@ -45,14 +39,14 @@ unfolding add addAt
 returns c =
     let b = c .before .before .before .before .before .before in
     let a = b .before .before .before .before .args in
-    let e : freeRow 64 (a .k) (a .self) ≡ b .before .lowest .result = cc in
+    let e : freeRow 64 (a .k) (a .self) ≡ b .before .lowest .result = rw (← b .before .before .product .ensures) (sym (b .before .lowest .ensures)) in
     rw (e, lt-ltb _ _ (b .if1 .taken), c .power2 .ensures, c .before .sol-step .ensures, c .before .before .lookup .ensures, c .before .before .before .before .col-step .ensures, c .before .before .before .before .before .power .ensures)
 
 returns-2 : tie.Need-returns-2
 unfolding add
 returns-2 c =
     let a = c .before .before .before .before .args in
-    let e : freeRow 64 (a .k) (a .self) ≡ c .before .lowest .result = cc in
+    let e : freeRow 64 (a .k) (a .self) ≡ c .before .lowest .result = rw (← c .before .before .product .ensures) (sym (c .before .lowest .ensures)) in
     rw (e, le-ltb _ _ (c .if1 .left))
 
 pub add-spec : {M : Type 1} → statement M
@@ -61,8 +55,6 @@ add-spec =
     (tie.spec
     product-requires
     lowest-requires
-    mul-col-step
-    array-read-col-step
     power-requires
     col-step-requires
     mul-sol-step

@@ -27,14 +27,14 @@ shr-if3 c = search needs
 returns : tie.Need-returns
 unfolding live rowOf
 returns c =
-    let b = c .before .before .before .before .before in
-    rw (← b .before .product .ensures, ← b .lowest .ensures, eq-eqb _ _ (c .before .before .if2 .taken ∙ c .before .before .before .power .ensures), eq-eqb _ _ (c .if3 .taken))
+    let b = c .before .before .before .before in
+    rw (← b .before .product .ensures, ← b .lowest .ensures, eq-eqb _ _ (c .before .if2 .taken ∙ c .before .before .power .ensures), eq-eqb _ _ (c .if3 .taken))
 
 returns-2 : tie.Need-returns-2
 unfolding live rowOf
 returns-2 c =
-    let b = c .before .before .before .before .before in
-    rw (← b .before .product .ensures, ← b .lowest .ensures, eq-eqb _ _ (c .before .before .if2 .taken ∙ c .before .before .before .power .ensures), ne-eqb _ _ (c .if3 .left))
+    let b = c .before .before .before .before in
+    rw (← b .before .product .ensures, ← b .lowest .ensures, eq-eqb _ _ (c .before .if2 .taken ∙ c .before .before .power .ensures), ne-eqb _ _ (c .if3 .left))
 
 returns-3 : tie.Need-returns-3
 unfolding live rowOf

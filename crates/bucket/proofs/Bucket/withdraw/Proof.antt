@@ -34,11 +34,11 @@ freed c =
 row-of-requires : tie.Need-row-of-requires
 row-of-requires c κs = search needs
 
-mul-u : tie.Need-mul-u
-mul-u c = search needs
+mul-lowest : tie.Need-mul-lowest
+mul-lowest c = search needs
 
-array-read-u : tie.Need-array-read-u
-array-read-u c = search needs
+array-read-lowest : tie.Need-array-read-lowest
+array-read-lowest c = search needs
 
 lowest-requires : tie.Need-lowest-requires
 lowest-requires c κs = search needs
@@ -75,8 +75,8 @@ withdraw-spec =
     tie.close
     (tie.spec
     row-of-requires
-    mul-u
-    array-read-u
+    mul-lowest
+    array-read-lowest
     lowest-requires
     power-requires
     col-step-requires

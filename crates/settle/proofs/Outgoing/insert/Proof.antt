@@ -4,8 +4,8 @@ use borrow.Author.Needs.{needs}
 use Rattle.settle.proofs.Outgoing.insert.Statement.{statement}
 use Rattle.settle.proofs.Outgoing.insert.Tie as tie
 
-place-of-requires : tie.Need-place-of-requires
-place-of-requires c κs = search needs
+position-of-requires : tie.Need-position-of-requires
+position-of-requires c κs = search needs
 
 put-at-requires : tie.Need-put-at-requires
 put-at-requires c κs = search needs
@@ -14,4 +14,4 @@ returns : tie.Need-returns
 returns c = cc
 
 pub insert-spec : {M : Type 1} → statement M
-insert-spec = tie.close (tie.spec place-of-requires put-at-requires returns)
+insert-spec = tie.close (tie.spec position-of-requires put-at-requires returns)

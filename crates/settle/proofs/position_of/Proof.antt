@@ -1,18 +1,18 @@
--- `settle::place_of` meets its contract: no vector that the loop passed is larger than v.
+-- `settle::position_of` meets its contract: no vector that the loop passed is larger than v.
 -- Assumes nothing.
 use mathlib.Core.Path.{_≡_}
 use Prim.Native.Nat.{_+_, _-_, _≤_}
 use native.Mathlib.Omega.{arith}
 use native.Mathlib.Numerals.{add-one}
 use lib.ListN.{length, take, drop}
-use Rattle.settle.proofs.Arrays.{place-here, place-next, place-end}
-use Rattle.settle.specs.Outgoing.{placeOf}
+use Rattle.settle.proofs.Arrays.{position-here, position-next, position-end}
+use Rattle.settle.specs.Steps.{positionOf}
 use borrow.Author.Needs.{needs}
-use Rattle.settle.proofs.place_of.Statement.{statement}
-use Rattle.settle.proofs.place_of.Tie as tie
+use Rattle.settle.proofs.position_of.Statement.{statement}
+use Rattle.settle.proofs.position_of.Tie as tie
 
 abbrev Inv-loop : tie.InvT-loop
-Inv-loop count v vectors i₀ i = (i ≤ count) × (placeOf v (take count vectors) ≡ i + placeOf v (drop i (take count vectors)))
+Inv-loop count v vectors i₀ i = (i ≤ count) × (positionOf v (take count vectors) ≡ i + positionOf v (drop i (take count vectors)))
 
 abbrev μ-loop : tie.MeasureT-loop
 μ-loop count v vectors i₀ i = count - i
@@ -32,7 +32,7 @@ returns c =
     let a = c .before .before .before .args in
     let e : length (a .t1) ≡ 65 = search needs in
     let h : a .count ≤ length (a .t1) = omega arith in
-    omega (arith, place-here (a .v) (a .t1) (a .count) (l .i) h (c .before .loop-test .taken) (c .if1 .taken))
+    omega (arith, position-here (a .v) (a .t1) (a .count) (l .i) h (c .before .loop-test .taken) (c .if1 .taken))
 
 add-i : tie.Need-add-i Inv-loop μ-loop
 add-i c = search needs
@@ -46,17 +46,17 @@ loop-again c =
     let a = c .before .before .before .args in
     let e : length (a .t1) ≡ 65 = search needs in
     let h : a .count ≤ length (a .t1) = omega arith in
-    (search needs, rw add-one (omega (arith, place-next (a .v) (a .t1) (a .count) (l .i) h (c .before .loop-test .taken) (c .if1 .left))))
+    (search needs, rw add-one (omega (arith, position-next (a .v) (a .t1) (a .count) (l .i) h (c .before .loop-test .taken) (c .if1 .left))))
 
 returns-2 : tie.Need-returns-2 Inv-loop μ-loop
 returns-2 c =
     let l = c .before .loop in
     let a = c .before .before .args in
     let h : a .count ≤ l .i = omega arith in
-    omega (arith, place-end (a .v) (a .t1) (a .count) (l .i) h)
+    omega (arith, position-end (a .v) (a .t1) (a .count) (l .i) h)
 
-pub place-of-spec : {M : Type 1} → statement M
-place-of-spec =
+pub position-of-spec : {M : Type 1} → statement M
+position-of-spec =
     tie.close
     (tie.spec
     Inv-loop
