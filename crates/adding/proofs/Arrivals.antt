@@ -4,7 +4,7 @@
 use Prim.Native.Nat.{ℕ, zero, suc, _+_, _^_, _≤_, _<_}
 use native.Mathlib.Nat.{not-suc-le-zero, le-of-suc-le-suc}
 use native.Mathlib.Omega.{arith}
-use mathlib.Core.Path.{_≡_, refl, sym, ap, ap₂, _∙_, subst}
+use mathlib.Core.Path.{_≡_, refl, sym, ap, ap₂, _∙_, subst, subst⁻¹}
 use mathlib.Core.List.{List, [], _∷_, _++_, map}
 use lib.Dec.{eqb}
 use lib.ListN.{length, getD, set, drop, length-set}
@@ -108,8 +108,23 @@ module _ (n r : ℕ) (S : ℕ → ℕ) where
       arrive-other m j (arriveAt n r S bs e .buckets) es (length-set bs _ _ ∙ q) (u .1)
       ∙ getD-set-other bs _ j _ (emptyBucket n r) (λ z. u .0 (z ∙ ap (λ (k : ℕ). index S k (e .word)) q))
 
-  taken : (m : ℕ) (D : Table) (vs : List ℕ) (T : Table) → length (D .level2) ≡ m → length (T .level2) ≡ m → 0 < m
+  taken : (m : ℕ) (D : Table) (vs : List ℕ) (T : Table) → length (D .level2) ≡ m → length (T .level2) ≡ m
       → ((j : ℕ) → j < m → Untouched m j vs → nth n r (T .level2) j ≡ nth n r (D .level2) j) → takeOver n r S D vs T ≡ withSecond T (D .level2)
-  taken m D [] T p q pos h = ap (withSecond T) (ext-getD (emptyBucket n r) (T .level2) (D .level2) (q ∙ sym p) (λ j l. h j (subst (λ (k : ℕ). j < k) q l) tt))
-  taken m D (v ∷ vs) T p q pos h =
-      taken m D vs (withSecond T (put S (T .level2) v (bucketOf n r S (D .level2) v))) p (length-set (T .level2) _ _ ∙ q) pos (λ j l u. cases (eqb j (index S m v)) (λ y. ?) (λ f. ?))
+  taken m D [] T p q h = ap (withSecond T) (ext-getD (emptyBucket n r) (T .level2) (D .level2) (q ∙ sym p) (λ j l. h j (subst (λ (k : ℕ). j < k) q l) tt))
+  taken m D (v ∷ vs) T p q h =
+      let b : Bucket = bucketOf n r S (D .level2) v in
+      let at : (bs : List Bucket) → length bs ≡ m → index S (length bs) v ≡ index S m v = (λ bs e. ap (λ (k : ℕ). index S k v) e) in
+      taken m D vs (withSecond T (put S (T .level2) v b)) p (length-set (T .level2) _ _ ∙ q) (λ j l u.
+      cases (eqb j (index S m v))
+      (λ y.
+      let e = sym (eqb-true j (index S m v) y) in
+      ap (λ (i : ℕ). nth n r (set (T .level2) i b) j) (at (T .level2) q ∙ e) ∙ getD-set-same (T .level2) j b (emptyBucket n r) (subst⁻¹ (λ (k : ℕ). j < k) q l) ∙ ap (nth n r (D .level2)) (at (D .level2) p ∙ e))
+      (λ f. getD-set-other (T .level2) _ j b (emptyBucket n r) (λ z. eqb-false j (index S m v) f (z ∙ at (T .level2) q)) ∙ h j l (eqb-false j (index S m v) f, u)))
+
+  -- the buckets of the words that arrived are all that changed
+  pub taken-all : (T : Table) (es : List Entry) → takeOver n r S (allToSecond n r S T es) (words es) T ≡ withSecond T (allToSecond n r S T es .level2)
+  taken-all T es =
+      let D : Table = allToSecond n r S T es in
+      let e : D .level2 ≡ arriveAll n r S (T .level2) es .buckets = ap (λ (U : Table). U .level2) (all-law T es) in
+      taken (length (T .level2)) D (words es) T (ap (λ (l : List Bucket). length l) e ∙ arrive-length (T .level2) es) refl
+      (λ j l u. sym (ap (λ (bs : List Bucket). nth n r bs j) e ∙ arrive-other (length (T .level2)) j (T .level2) es refl u))

@@ -19,8 +19,8 @@ use Rattle.bucket.specs.Words.{bucketWords, wordsOf, bucketFrom}
 use Rattle.settle.specs.Settle.{SoundBucket}
 use Rattle.model.specs.Model.{baseLimit}
 use Rattle.concrete.specs.Table.{Table, thr, index, put, nth, bucketOf, arriveAt}
-use Rattle.concrete.specs.Layout.{header, levelNumbers, basePairs, numbersOf, bucketPlace, tableFrom, lengthOf}
-use Rattle.concrete.specs.Test.{mostBuckets1, inRange, shapeTest}
+use Rattle.concrete.specs.Layout.{header, mostBuckets1, inRange, levelNumbers, basePairs, numbersOf, bucketPlace, tableFrom, lengthOf}
+use Rattle.concrete.specs.Test.{shapeTest}
 use Rattle.concrete.proofs.Numbers.{ShapedTable, length-level, back, laid, write-first, write-second, write-base, read-first, read-second}
 use Rattle.adding.specs.Arrivals.{withFirst, withSecond, withBase, Ready, FlatReady}
 

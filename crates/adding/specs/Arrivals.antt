@@ -13,8 +13,7 @@ use Rattle.settle.specs.declared.Outgoing.{Outgoing}
 use Rattle.settle.specs.Settle.{SoundBucket}
 use Rattle.model.specs.Model.{baseLimit}
 use Rattle.concrete.specs.Table.{Table, Placed, put, nth, bucketOf, arriveAt}
-use Rattle.concrete.specs.Layout.{numbersOf, tableFrom}
-use Rattle.concrete.specs.Test.{inRange}
+use Rattle.concrete.specs.Layout.{inRange, numbersOf, tableFrom}
 
 -- k words with their plans, from the front of two lists
 abbrev pub entriesFrom : ℕ → List ℕ → List ℕ → List Entry
