@@ -1,16 +1,17 @@
 -- An add as the code goes about it: the words that leave level 1 arrive at level 2 one after the other, and what leaves that goes to the
 -- base list at once. S is the mix, n the number of rows, r of solution words.
 -- Assumes nothing.
-use Prim.Native.Nat.{ℕ, zero, suc, _≤_, _<_}
+use Prim.Native.Nat.{ℕ, zero, suc, _+_, _≤_, _<_}
 use mathlib.Core.Path.{_≡_}
 use mathlib.Core.Bool.{Bool, true, cond}
-use mathlib.Core.List.{List, [], _∷_}
+use mathlib.Core.List.{List, [], _∷_, _++_}
 use lib.Dec.{leb}
-use lib.ListN.{length, getD, drop}
+use lib.ListN.{length, getD, take, drop}
 use Rattle.lists.specs.Entries.{Entry, insertAll}
 use Rattle.bucket.specs.declared.Bucket.{Bucket}
+use Rattle.bucket.specs.Words.{bucketWords, wordsOf, bucketFrom}
 use Rattle.settle.specs.declared.Outgoing.{Outgoing}
-use Rattle.settle.specs.Settle.{SoundBucket}
+use Rattle.settle.specs.Settle.{SoundBucket, Settlement, settle}
 use Rattle.model.specs.Model.{baseLimit}
 use Rattle.concrete.specs.Table.{Table, Placed, put, nth, bucketOf, arriveAt}
 use Rattle.concrete.specs.Layout.{inRange, numbersOf, tableFrom}
@@ -23,6 +24,15 @@ entriesFrom (suc k) vs ps = record { word = getD vs 0 0; plan = getD ps 0 0 } �
 -- the words that leave a bucket, as the code keeps them
 abbrev pub entriesOf : Outgoing → List Entry
 entriesOf o = entriesFrom (o .count) (o .vectors) (o .plans)
+
+module _ (n r : ℕ) where
+  -- e settles in the bucket at a place
+  abbrev pub settledAt : (ℕ → ℕ) → ℕ → Entry → List ℕ → Settlement
+  settledAt thr at e t = let b : Bucket = bucketFrom n r (drop at t) in settle n thr e (b .bound) b
+
+  -- the bucket in the place of the one that starts there
+  abbrev pub storedAt : ℕ → Bucket → List ℕ → List ℕ
+  storedAt at b t = take at t ++ (wordsOf b ++ drop (at + bucketWords n r) t)
 
 -- the table with these buckets at level 1
 abbrev pub withFirst : Table → List Bucket → Table
