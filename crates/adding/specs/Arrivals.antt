@@ -65,9 +65,10 @@ module _ (n r : ℕ) (S : ℕ → ℕ) where
 abbrev pub fits : Table → Bool
 fits T = leb (length (T .base)) baseLimit
 
--- the numbers of U if its base list is not too long, else the numbers t as they were
-abbrev pub unlessFull : List ℕ → Table → List ℕ
-unlessFull t U = cond (fits U) (numbersOf U) t
+-- the words go on if the base list of U, the table after that, is not too long; else the numbers t stay as they were
+pub record Passed (t : List ℕ) (U : Table) (done : Bool) (after : List ℕ) : Type 0 where
+  pub says : done ≡ fits U
+  pub table : after ≡ cond (fits U) (numbersOf U) t
 
 module _ (n r : ℕ) where
   -- what each step keeps: bucket numbers in range, every bucket sound, the base list not too long

@@ -9,11 +9,16 @@ ghost use mathlib.Core.Path.{_≡_};
 ghost use mathlib.Core.Bool.{true};
 ghost use Prim.Native.Nat.{_+_, _≤_};
 ghost use lib.ListN.{length, getD, drop};
+ghost use Rattle.lists.specs.Entries.{insertAll};
+ghost use Rattle.hash.specs.Mix.{mixOf};
 ghost use Rattle.bucket.specs.Words.{bucketFrom};
 ghost use Rattle.settle.specs.Settle.{SoundBucket, thresholdOf, settle};
 ghost use Rattle.settle.specs.Outgoing.{settledOf};
+ghost use Rattle.model.specs.Model.{baseLimit};
+ghost use Rattle.concrete.specs.Layout.{pairsFrom, basePairs, numbersOf};
 ghost use Rattle.concrete.specs.Calls.{rows, solutions, tableOf};
-ghost use Rattle.adding.specs.Arrivals.{settledAt, storedAt};
+ghost use Rattle.base.specs.Base.{Pairs};
+ghost use Rattle.adding.specs.Arrivals.{entriesOf, settledAt, storedAt, withBase, toSecond, Passed, FlatReady};
 
 // v with its plan settles in the bucket at a place. Nothing is written.
 pub(crate) fn settled_at(t: &[u64], at: usize, v: u64, plan: u64) -> Settled
@@ -30,4 +35,49 @@ pub(crate) fn store_at(t: &mut [u64], at: usize, b: Bucket)
 {
     let end = at + Bucket::WORDS;
     bucket::store(&mut t[at..end], b);
+}
+
+// The words into the base list, one after the other.
+pub(crate) fn insert_all(pairs: &mut [u64], count: usize, out: Outgoing)
+    requires { ⌜ Pairs count (now pairs) × (count + out .count ≤ baseLimit) ⌝ }
+    ensures { λ _. ⌜ now (pairs .exit) ≡ basePairs (insertAll (entriesOf out) (pairsFrom count (now (pairs .entry)))) ⌝ }
+{
+    let vectors = out.vectors;
+    let plans = out.plans;
+    let more = out.count;
+    let mut i: usize = 0;
+    while i < more {
+        base::insert(pairs, count + i, vectors[i], plans[i]);
+        i += 1;
+    }
+}
+
+// The words into the base list of a table, and its count.
+pub(crate) fn enter_base(t: &mut [u64], out: Outgoing)
+    requires { ⌜ FlatReady rows solutions (now t) × (getD (now t) 2 0 + out .count ≤ baseLimit) ⌝ }
+    ensures { λ _. ⌜ now (t .exit) ≡ numbersOf (withBase (tableOf (now (t .entry))) (insertAll (entriesOf out) (tableOf (now (t .entry)) .base))) ⌝ }
+{
+    let start = t.len() - Table::BASE_NUMBERS;
+    let count = t[2] as usize;
+    let more = out.count;
+    insert_all(&mut t[start..], count, out);
+    t[2] = (count + more) as u64;
+}
+
+// The word v arrives at level 2, and what leaves that at the base list. False if that has no room: then nothing is written.
+pub(crate) fn arrive_second(t: &mut [u64], v: u64, plan: u64) -> bool
+    requires { ⌜ FlatReady rows solutions (now t) ⌝ }
+    ensures { λ r. ⌜ Passed (now (t .entry)) (toSecond rows solutions mixOf (tableOf (now (t .entry))) (record { word = v; plan = plan })) r (now (t .exit)) ⌝ }
+{
+    let at = sound::second_place(t, v);
+    let s = settled_at(t, at, v, plan);
+    let out = s.out;
+    let more = out.count as u64;
+    if Table::BASE_ENTRIES < t[2] + more {
+        return false;
+    }
+    let b = s.bucket;
+    store_at(t, at, b);
+    enter_base(t, out);
+    true
 }
