@@ -1,15 +1,16 @@
 -- Tables whose buckets are sound, and their numbers: what one bucket, the base list or the live count changes. At every number n of rows
 -- and r of solution words, and for every mix S.
 -- Assumes nothing.
-use Prim.Native.Nat.{ℕ, _+_, _*_, _^_, _≤_, _<_}
-use native.Mathlib.Nat.{mod-lt, add-mul}
+use Prim.Native.Nat.{ℕ, suc, _+_, _-_, _*_, _≤_, _<_}
+use native.Mathlib.Nat.{mod-lt, add-mul, mul-le-mul-right}
 use native.Mathlib.Omega.{arith}
 use mathlib.Core.Path.{_≡_, refl, sym, ap, ap₂, _∙_, subst, subst⁻¹, subst₂}
 use mathlib.Core.Bool.{Bool, true, _&&_}
-use mathlib.Core.List.{List, [], _∷_, _++_}
+use mathlib.Core.List.{List, [], _∷_, _++_, append-nil}
 use lib.Dec.{eqb, leb}
-use lib.ListN.{length, getD, set, take, drop, length-set}
-use lib.Seq.{getD-set-same, getD-set-other, drop-append-add}
+use lib.ListN.{length, getD, set, take, drop, length-append, length-set, length-drop, drop-of-length-le}
+use lib.Seq.{getD-set-same, getD-set-other, length-take-le, drop-append-add, take-all}
+use borrow.Rule.Slice.PartMut.{putMid}
 use borrow.Author.Tests.{eqb-true, eqb-false, eq-eqb, le-leb, leb-true}
 use Rattle.lists.specs.Entries.{Entry, insertAll}
 use Rattle.lists.proofs.Tests.{cases, and-one, and-two, and-both}
@@ -19,10 +20,12 @@ use Rattle.bucket.specs.Words.{bucketWords, wordsOf, bucketFrom}
 use Rattle.settle.specs.Settle.{SoundBucket}
 use Rattle.model.specs.Model.{baseLimit}
 use Rattle.concrete.specs.Table.{Table, thr, index, put, nth, bucketOf, arriveAt}
-use Rattle.concrete.specs.Layout.{header, mostBuckets1, inRange, levelNumbers, basePairs, numbersOf, bucketPlace, tableFrom, lengthOf}
+use Rattle.concrete.specs.Layout.{header, baseNumbers, mostBuckets1, inRange, levelNumbers, pairsFrom, basePairs, numbersOf, bucketPlace, tableFrom, lengthOf}
 use Rattle.concrete.specs.Test.{shapeTest}
 use Rattle.concrete.proofs.Numbers.{ShapedTable, length-level, back, laid, write-first, write-second, write-base, read-first, read-second}
+use Rattle.base.specs.Base.{Pairs}
 use Rattle.adding.specs.Arrivals.{withFirst, withSecond, withBase, Ready, FlatReady}
+use Rattle.adding.proofs.Base.{from-pairs, pairs-of}
 
 range-some : (b1 b2 : ℕ) → inRange b1 b2 ≡ true → (0 < b1) × (0 < b2)
 range-some b1 b2 h =
@@ -109,12 +112,6 @@ module _ (n r : ℕ) where
     unfolding numbersOf
     live-count = ap (λ (l : List ℕ). getD l 3 0) (h .numbers)
 
-    abbrev place0 : ℕ
-    place0 = bucketPlace n r (getD t 0 0 + getD t 1 0)
-
-    place0-is : bucketPlace n r (length (T .level1) + length (T .level2)) ≡ place0
-    place0-is = ap₂ (λ (a b : ℕ). bucketPlace n r (a + b)) count1 count2
-
     pub size : length t ≡ lengthOf n r (getD t 0 0) (getD t 1 0)
     size = subst (λ (l : List ℕ). length l ≡ lengthOf n r (getD l 0 0) (getD l 1 0)) (h .numbers) (laid n r T (ready-shaped T (h .table)) .size)
 
@@ -122,13 +119,45 @@ module _ (n r : ℕ) where
     unfolding shapeTest
     shape = and-both (le-leb header (length t) (omega (arith, size))) (and-both (sym (ap₂ inRange count1 count2) ∙ h .table .range) (eq-eqb _ _ size))
 
-    -- the base list
-    pub base-at : drop place0 t ≡ basePairs (T .base)
-    base-at = ap₂ (λ (k : ℕ) (l : List ℕ). drop k l) (sym place0-is) (sym (h .numbers)) ∙ base-part T (h .table)
+    pub long : header + baseNumbers ≤ length t
+    long = omega (arith, size)
 
-    pub base-put : (es : List Entry) → set (take place0 t ++ basePairs es) 2 (length es) ≡ numbersOf (withBase T es)
-    base-put es =
-        ap₂ (λ (k : ℕ) (l : List ℕ). set (take k l ++ basePairs es) 2 (length es)) (sym place0-is) (sym (h .numbers)) ∙ sym (write-base n r T (ready-shaped T (h .table)) es)
+    place-room : (i : ℕ) → i < getD t 0 0 + getD t 1 0 → bucketPlace n r i + bucketWords n r ≤ length t
+    place-room i l =
+        let k : suc i * bucketWords n r ≤ (getD t 0 0 + getD t 1 0) * bucketWords n r = mul-le-mul-right (bucketWords n r) l in
+        let e : suc i * bucketWords n r ≡ i * bucketWords n r + bucketWords n r = omega arith in
+        omega (arith, size)
+
+    -- the base list, the last numbers
+    abbrev start : ℕ
+    start = length t - baseNumbers
+
+    start-is : start ≡ bucketPlace n r (length (T .level1) + length (T .level2))
+    start-is = omega (arith, size) ∙ sym (ap₂ (λ (a b : ℕ). bucketPlace n r (a + b)) count1 count2)
+
+    abbrev last : List ℕ
+    last = take (length t - start) (drop start t)
+
+    pub last-is : last ≡ basePairs (T .base)
+    last-is =
+        take-all (length t - start) (drop start t) (omega (arith, length-drop start t))
+        ∙ ap₂ (λ (k : ℕ) (l : List ℕ). drop k l) start-is (sym (h .numbers)) ∙ base-part T (h .table)
+
+    pub last-pairs : Pairs (getD t 2 0) last
+    last-pairs = subst⁻¹ (Pairs (getD t 2 0)) last-is (pairs-of (getD t 2 0) (T .base) count0 (subst (λ (k : ℕ). k ≤ baseLimit) count0 (h .table .fits)))
+
+    pub last-read : pairsFrom (getD t 2 0) last ≡ T .base
+    last-read = ap (pairsFrom (getD t 2 0)) last-is ∙ from-pairs (getD t 2 0) (T .base) count0
+
+    pub last-room : (ys : List ℕ) → 2 < length (putMid start (length t - start) t ys)
+    last-room ys = let l = long in omega (arith, length-append (take start t) (ys ++ drop (length t - start) (drop start t)), length-take-le start t (omega arith))
+
+    pub last-put : (es : List Entry) (ys : List ℕ) (k : ℕ) → ys ≡ basePairs es → k ≡ length es → set (putMid start (length t - start) t ys) 2 k ≡ numbersOf (withBase T es)
+    last-put es ys k q l =
+        ap₂ (λ (zs : List ℕ) (j : ℕ). set (take start t ++ zs) 2 j)
+        (ap₂ (λ (zs ws : List ℕ). zs ++ ws) q (drop-of-length-le (drop start t) {i = length t - start} (omega (arith, length-drop start t))) ∙ append-nil (basePairs es)) l
+        ∙ ap₂ (λ (j : ℕ) (l : List ℕ). set (take j l ++ basePairs es) 2 (length es)) start-is (sym (h .numbers))
+        ∙ sym (write-base n r T (ready-shaped T (h .table)) es)
 
     module _ (S : ℕ → ℕ) (v : ℕ) where
       -- the bucket of v at each level
@@ -151,6 +180,12 @@ module _ (n r : ℕ) where
       here2 = ap (λ (m : ℕ). index S m v) count2
 
       -- it is at its place
+      pub room1 : bucketPlace n r at1 + bucketWords n r ≤ length t
+      room1 = place-room at1 (omega (arith, lt1))
+
+      pub room2 : bucketPlace n r (getD t 0 0 + at2) + bucketWords n r ≤ length t
+      room2 = place-room (getD t 0 0 + at2) (omega (arith, lt2))
+
       pub bucket1 : bucketFrom n r (drop (bucketPlace n r at1) t) ≡ bucketOf n r S (T .level1) v
       bucket1 = sym (ap (nth n r (T .level1)) here1 ∙ read-first n r t at1 lt1)
 

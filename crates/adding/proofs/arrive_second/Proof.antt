@@ -1,3 +1,10 @@
+-- `adding::arrive_second` meets its contract.
+-- Assumes nothing.
+use native.Mathlib.Omega.{arith}
+use Rattle.lists.specs.Entries.{Entry}
+use Rattle.hash.specs.Mix.{mixOf}
+use Rattle.adding.proofs.Tables.{count0, shape, long}
+use Rattle.adding.proofs.Settled.{second-room, second-sound, second-few, second-full, second-stored, second-count, second-done}
 use borrow.Author.Needs.{needs}
 use Rattle.adding.proofs.arrive_second.Statement.{statement}
 use Rattle.adding.proofs.arrive_second.Tie as tie
@@ -8,45 +15,60 @@ use Rattle.adding.proofs.settled_at.Reads as settled-at-reads
 use Rattle.adding.proofs.store_at.Reads as store-at-reads
 use Rattle.sound.proofs.second_place.Reads as second-place-reads
 
--- src/lib.rt:72:9
+abbrev word : tie.Start → Entry
+word s = record { word = s .args .v; plan = s .args .plan }
+
 second-place-requires : tie.Need-second-place-requires
-second-place-requires c κs = ?
+second-place-requires c κs = shape 64 8 _ (c .before .before .pre)
 
--- src/lib.rt:73:9
 settled-at-requires : tie.Need-settled-at-requires
-settled-at-requires c κs = ?
+settled-at-requires c κs =
+    let s = c .before .before .before .before in
+    let p = c .before .second-place .ensures in
+    (second-room 64 8 mixOf _ (s .pre) (word s) _ p, second-sound 64 8 mixOf _ (s .pre) (word s) _ p)
 
--- src/lib.rt:76:30
 slice-read-if1 : tie.Need-slice-read-if1
-slice-read-if1 c = ?
+slice-read-if1 c = let h = long 64 8 _ (c .before .before .before .before .before .before .before .pre) in omega arith
 
--- src/lib.rt:76:30
 add-if1 : tie.Need-add-if1
-add-if1 c = ?
+add-if1 c =
+    let s = c .before .before .before .before .before .before .before in
+    let k = second-few 64 8 mixOf _ (s .pre) (word s) _ (c .before .before .before .before .second-place .ensures) 65 _ (c .before .before .settled-at .ensures) (s .fits .v .fits) in
+    omega (arith, count0 64 8 _ (s .pre), s .pre .table .fits)
 
--- src/lib.rt:77:9
 same-length : tie.Need-same-length
 same-length c = search needs
 
--- src/lib.rt:77:9
 returns : tie.Need-returns
-returns c = ?
+returns c =
+    let s = c .before .before .before .before .before .before .before .before in
+    let b = c .before .before .before in
+    second-full 64 8 mixOf _ (s .pre) (word s) _ (b .before .before .second-place .ensures) 65 _ (b .settled-at .ensures) (c .if1 .taken)
 
--- src/lib.rt:80:5
 store-at-requires : tie.Need-store-at-requires
-store-at-requires c κs = ?
+store-at-requires c κs =
+    let s = c .before .before .before .before .before .before .before .before .before .before in
+    second-room 64 8 mixOf _ (s .pre) (word s) _ (c .before .before .before .before .before .before .before .second-place .ensures)
 
--- src/lib.rt:81:5
 enter-base-requires : tie.Need-enter-base-requires
-enter-base-requires c κs = ?
+enter-base-requires c κs =
+    let d = c .before .before .before .before .before .before .before .before .before in
+    let s = d .before .before .before .before .before in
+    let p = d .before .before .second-place .ensures in
+    let q = d .settled-at .ensures in
+    let q1 = c .before .before .before .store-at .ensures in
+    let k = second-count 64 8 mixOf _ (s .pre) (word s) _ p 65 _ q (s .fits .v .fits) _ q1 in
+    (second-stored 64 8 mixOf _ (s .pre) (word s) _ p 65 _ q (s .fits .v .fits) _ q1, omega arith)
 
--- src/lib.rt:68:1
 same-length-2 : tie.Need-same-length-2
 same-length-2 c = search needs
 
--- src/lib.rt:68:1
 returns-2 : tie.Need-returns-2
-returns-2 c = ?
+returns-2 c =
+    let d = c .before .before .before .before .before .before .before .before .before .before .before .before in
+    let s = d .before .before .before .before .before in
+    second-done 64 8 mixOf _ (s .pre) (word s) _ (d .before .before .second-place .ensures) 65 _ (d .settled-at .ensures) (s .fits .v .fits) _ (c .before .before .before .before .before .before .store-at .ensures) _
+    (c .before .before .enter-base .ensures) (c .before .before .before .before .before .before .before .before .before .if1 .left)
 
 pub arrive-second-spec : {M : Type 1} → statement M
 arrive-second-spec =

@@ -1,3 +1,14 @@
+-- `adding::enter_base` meets its contract.
+-- Assumes nothing.
+use native.Mathlib.Omega.{arith}
+use mathlib.Core.Path.{ap, _∙_}
+use mathlib.Core.List.{List}
+use Rattle.lists.specs.Entries.{Entry, insertAll}
+use Rattle.concrete.specs.Layout.{basePairs}
+use Rattle.concrete.specs.Calls.{tableOf}
+use Rattle.adding.specs.Arrivals.{entriesOf}
+use Rattle.adding.proofs.Tables.{count0, long, last-pairs, last-read, last-room, last-put}
+use Rattle.adding.proofs.Arrivals.{entries-length, insert-all-length}
 use borrow.Author.Needs.{needs}
 use Rattle.adding.proofs.enter_base.Statement.{statement}
 use Rattle.adding.proofs.enter_base.Tie as tie
@@ -5,49 +16,44 @@ use Rattle.adding.proofs.enter_base.Reads as reads
 use Rattle.adding.proofs.enter_base.Lts as lts
 use Rattle.adding.proofs.insert_all.Reads as insert-all-reads
 
--- src/lib.rt:60:17
 sub-start : tie.Need-sub-start
-sub-start c = ?
+sub-start c = let h = long 64 8 _ (c .before .pre .0) in omega arith
 
--- src/lib.rt:61:17
 slice-read-count : tie.Need-slice-read-count
-slice-read-count c = ?
+slice-read-count c = let h = long 64 8 _ (c .before .before .pre .0) in omega arith
 
--- src/lib.rt:63:16
 mul-insert-all : tie.Need-mul-insert-all
 mul-insert-all c = search needs
 
--- src/lib.rt:63:16
 sub-insert-all : tie.Need-sub-insert-all
 sub-insert-all c = search needs
 
--- src/lib.rt:63:16
 part-insert-all-start : tie.Need-part-insert-all-start
 part-insert-all-start c = search needs
 
--- src/lib.rt:63:16
 part-insert-all-end : tie.Need-part-insert-all-end
 part-insert-all-end c = search needs
 
--- src/lib.rt:63:5
 insert-all-requires : tie.Need-insert-all-requires
-insert-all-requires c κs = ?
+insert-all-requires c κs = let p = c .before .before .before .pre in (last-pairs 64 8 _ (p .0), p .1)
 
--- src/lib.rt:64:13
 add-t : tie.Need-add-t
 add-t c = search needs
 
--- src/lib.rt:64:5
 slice-write-t : tie.Need-slice-write-t
-slice-write-t c = ?
+slice-write-t c = last-room 64 8 _ (c .before .before .before .before .before .before .pre .0) (c .before .before .insert-all .last .0)
 
--- src/lib.rt:56:1
 same-length : tie.Need-same-length
 same-length c = search needs
 
--- src/lib.rt:56:1
 returns : tie.Need-returns
-returns c = ?
+returns c =
+    let s = c .before .before .before .before .before .before in
+    let h = s .pre .0 in
+    let o = s .args .out in
+    let es : List Entry = entriesOf o in
+    last-put 64 8 _ h _ _ _ (c .before .before .insert-all .ensures ∙ ap (λ (bs : List Entry). basePairs (insertAll es bs)) (last-read 64 8 _ h))
+    (omega (arith, insert-all-length es (tableOf (s .args .t .now) .base), entries-length (o .count) (o .vectors) (o .plans), count0 64 8 _ h))
 
 pub enter-base-spec : {M : Type 1} → statement M
 enter-base-spec =
