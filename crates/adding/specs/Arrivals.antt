@@ -4,7 +4,7 @@
 use Prim.Native.Nat.{ℕ, zero, suc, _+_, _≤_, _<_}
 use mathlib.Core.Path.{_≡_}
 use mathlib.Core.Bool.{Bool, true, cond}
-use mathlib.Core.List.{List, [], _∷_, _++_}
+use mathlib.Core.List.{List, [], _∷_, _++_, map}
 use lib.Dec.{leb}
 use lib.ListN.{length, getD, take, drop}
 use Rattle.lists.specs.Entries.{Entry, insertAll}
@@ -13,7 +13,7 @@ use Rattle.bucket.specs.Words.{bucketWords, wordsOf, bucketFrom}
 use Rattle.settle.specs.declared.Outgoing.{Outgoing}
 use Rattle.settle.specs.Settle.{SoundBucket, Settlement, settle}
 use Rattle.model.specs.Model.{baseLimit}
-use Rattle.concrete.specs.Table.{Table, Placed, put, nth, bucketOf, arriveAt}
+use Rattle.concrete.specs.Table.{Table, Placed, onSecond, put, nth, bucketOf, arriveAt}
 use Rattle.concrete.specs.Layout.{inRange, numbersOf, tableFrom}
 
 -- k words with their plans, from the front of two lists
@@ -24,6 +24,10 @@ entriesFrom (suc k) vs ps = record { word = getD vs 0 0; plan = getD ps 0 0 } �
 -- the words that leave a bucket, as the code keeps them
 abbrev pub entriesOf : Outgoing → List Entry
 entriesOf o = entriesFrom (o .count) (o .vectors) (o .plans)
+
+-- and as level 2 sees them
+abbrev pub seconds : (ℕ → ℕ) → Outgoing → List Entry
+seconds S o = map (onSecond S) (entriesOf o)
 
 module _ (n r : ℕ) where
   -- e settles in the bucket at a place
@@ -70,6 +74,11 @@ pub record Passed (t : List ℕ) (U : Table) (done : Bool) (after : List ℕ) : 
   pub says : done ≡ fits U
   pub table : after ≡ cond (fits U) (numbersOf U) t
 
+-- the same where only the answer counts if the base list is too long
+pub record Carried (U : Table) (done : Bool) (after : List ℕ) : Type 0 where
+  pub says : done ≡ fits U
+  pub table : done ≡ true → after ≡ numbersOf U
+
 module _ (n r : ℕ) where
   -- what each step keeps: bucket numbers in range, every bucket sound, the base list not too long
   pub record Ready (T : Table) : Type 0 where
@@ -82,3 +91,10 @@ module _ (n r : ℕ) where
   pub record FlatReady (t : List ℕ) : Type 0 where
     pub table : Ready (tableFrom n r t)
     pub numbers : numbersOf (tableFrom n r t) ≡ t
+
+  -- two such lists of numbers, with equal bucket numbers
+  pub record Alike (t u : List ℕ) : Type 0 where
+    pub one : FlatReady t
+    pub other : FlatReady u
+    pub buckets1 : getD t 0 0 ≡ getD u 0 0
+    pub buckets2 : getD t 1 0 ≡ getD u 1 0

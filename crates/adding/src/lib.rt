@@ -9,7 +9,7 @@ ghost use mathlib.Core.Path.{_≡_};
 ghost use mathlib.Core.Bool.{true};
 ghost use Prim.Native.Nat.{_+_, _≤_};
 ghost use lib.ListN.{length, getD, drop};
-ghost use Rattle.lists.specs.Entries.{insertAll};
+ghost use Rattle.lists.specs.Entries.{words, insertAll};
 ghost use Rattle.hash.specs.Mix.{mixOf};
 ghost use Rattle.bucket.specs.Words.{bucketFrom};
 ghost use Rattle.settle.specs.Settle.{SoundBucket, thresholdOf, settle};
@@ -18,7 +18,7 @@ ghost use Rattle.model.specs.Model.{baseLimit};
 ghost use Rattle.concrete.specs.Layout.{pairsFrom, basePairs, numbersOf};
 ghost use Rattle.concrete.specs.Calls.{rows, solutions, tableOf};
 ghost use Rattle.base.specs.Base.{Pairs};
-ghost use Rattle.adding.specs.Arrivals.{entriesOf, settledAt, storedAt, withBase, toSecond, Passed, FlatReady};
+ghost use Rattle.adding.specs.Arrivals.{entriesOf, seconds, settledAt, storedAt, withBase, toSecond, allToSecond, takeOver, Passed, Carried, FlatReady, Alike};
 
 // v with its plan settles in the bucket at a place. Nothing is written.
 pub(crate) fn settled_at(t: &[u64], at: usize, v: u64, plan: u64) -> Settled
@@ -80,4 +80,93 @@ pub(crate) fn arrive_second(t: &mut [u64], v: u64, plan: u64) -> bool
     store_at(t, at, b);
     enter_base(t, out);
     true
+}
+
+// The words that leave level 1 arrive at level 2 one after the other. False as soon as the base list has no room.
+pub(crate) fn carry(t: &mut [u64], out: Outgoing) -> bool
+    requires { do ⌜ FlatReady rows solutions (now t) × (out .count ≤ (← ⟦Outgoing::MOST⟧)) ⌝ }
+    ensures { λ r. ⌜ Carried (allToSecond rows solutions mixOf (tableOf (now (t .entry))) (seconds mixOf out)) r (now (t .exit)) ⌝ }
+{
+    let vectors = out.vectors;
+    let plans = out.plans;
+    let count = out.count;
+    let mut i: usize = 0;
+    while i < count {
+        if arrive_second(t, identifier::second(vectors[i]), plans[i]) {
+            i += 1;
+        } else {
+            return false;
+        }
+    }
+    true
+}
+
+// The numbers of `from` into `to`.
+pub(crate) fn copy(to: &mut [u64], from: &[u64])
+    requires { ⌜ length (now to) ≡ length (now from) ⌝ }
+    ensures { λ _. ⌜ now (to .exit) ≡ now (from .entry) ⌝ }
+{
+    let mut i: usize = 0;
+    while i < from.len() {
+        to[i] = from[i];
+        i += 1;
+    }
+}
+
+// The level 2 buckets of these words become those of another table.
+pub(crate) fn take_buckets(t: &mut [u64], from: &[u64], out: Outgoing)
+    requires { do ⌜ Alike rows solutions (now t) (now from) × (out .count ≤ (← ⟦Outgoing::MOST⟧)) ⌝ }
+    ensures { λ _. ⌜ now (t .exit) ≡ numbersOf (takeOver rows solutions mixOf (tableOf (now (from .entry))) (words (seconds mixOf out)) (tableOf (now (t .entry)))) ⌝ }
+{
+    let vectors = out.vectors;
+    let count = out.count;
+    let mut i: usize = 0;
+    while i < count {
+        let at = sound::second_place(from, identifier::second(vectors[i]));
+        store_at(t, at, sound::bucket_at(from, at));
+        i += 1;
+    }
+}
+
+// The base list becomes that of another table.
+pub(crate) fn take_base(t: &mut [u64], from: &[u64])
+    requires { ⌜ Alike rows solutions (now t) (now from) ⌝ }
+    ensures { λ _. ⌜ now (t .exit) ≡ numbersOf (withBase (tableOf (now (t .entry))) (tableOf (now (from .entry)) .base)) ⌝ }
+{
+    let start = t.len() - Table::BASE_NUMBERS;
+    copy(&mut t[start..], &from[start..]);
+    t[2] = from[2];
+}
+
+// The words that leave level 1 go on, each tried on a draft first; then what they changed is written.
+pub(crate) fn pass_drafted(t: &mut [u64], draft: &mut [u64], out: Outgoing) -> bool
+    requires { do ⌜ FlatReady rows solutions (now t) × ((length (now draft) ≡ length (now t)) × (out .count ≤ (← ⟦Outgoing::MOST⟧))) ⌝ }
+    ensures { λ r. ⌜ Passed (now (t .entry)) (allToSecond rows solutions mixOf (tableOf (now (t .entry))) (seconds mixOf out)) r (now (t .exit)) ⌝ }
+{
+    copy(draft, t);
+    if carry(draft, out) {
+        take_buckets(t, draft, out);
+        take_base(t, draft);
+        return true;
+    }
+    false
+}
+
+// The words that leave level 1 go on, or nothing is written. One word alone needs no draft.
+pub(crate) fn pass_on(t: &mut [u64], out: Outgoing) -> bool
+    requires { do ⌜ FlatReady rows solutions (now t) × (out .count ≤ (← ⟦Outgoing::MOST⟧)) ⌝ }
+    ensures { λ r. ⌜ Passed (now (t .entry)) (allToSecond rows solutions mixOf (tableOf (now (t .entry))) (seconds mixOf out)) r (now (t .exit)) ⌝ }
+{
+    let count = out.count;
+    if count == 0 {
+        return true;
+    }
+    if count == 1 {
+        let vectors = out.vectors;
+        let plans = out.plans;
+        return arrive_second(t, identifier::second(vectors[0]), plans[0]);
+    }
+    let n = t.len();
+    let mut draft = [0u64; Table::LONGEST];
+    pass_drafted(t, &mut draft[..n], out)
 }
