@@ -14,8 +14,8 @@ use Rattle.lists.proofs.Tests.{and-one, and-two}
 use Rattle.bucket.specs.declared.Bucket.{Bucket}
 use Rattle.bucket.specs.Words.{bucketWords, bucketFrom}
 use Rattle.concrete.specs.Table.{nth, thr, index, bucketOf, holds}
-use Rattle.concrete.specs.Layout.{header, bucketPlace, lengthOf, tableFrom}
-use Rattle.concrete.specs.Test.{mostBuckets1, mostBuckets2, inRange, shapeTest}
+use Rattle.concrete.specs.Layout.{header, mostBuckets1, mostBuckets2, inRange, baseNumbers, bucketPlace, lengthOf, tableFrom}
+use Rattle.concrete.specs.Test.{shapeTest}
 use Rattle.concrete.proofs.Numbers.{length-levelFrom, read-first, read-second}
 
 -- bucket numbers in range
@@ -68,6 +68,10 @@ module _ (n r : ℕ) (xs : List ℕ) where
   length-second = length-levelFrom n r b2 _
 
   module _ (s : Shape) where
+    -- the base list is the rest
+    pub base-in : bucketPlace n r (b1 + b2) + baseNumbers ≡ length xs
+    base-in = sym (s .size)
+
     -- the words of bucket i are in the table
     pub bucket-in : (i : ℕ) → i < b1 + b2 → bucketPlace n r i + bucketWords n r ≤ length xs
     bucket-in i l =

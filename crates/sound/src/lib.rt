@@ -6,13 +6,17 @@ use bucket::Bucket;
 ghost use mathlib.Core.Path.{_≡_};
 ghost use mathlib.Core.Bool.{true};
 ghost use Prim.Native.Nat.{_+_, _*_, _<_, _≤_};
+ghost use lib.Dec.{eqb};
 ghost use lib.ListN.{length, getD, drop};
+ghost use Rattle.gf2.specs.Select.{chosen};
 ghost use Rattle.hash.specs.Mix.{mixOf};
 ghost use Rattle.bucket.specs.Words.{bucketFrom};
 ghost use Rattle.concrete.specs.Table.{index, holds};
-ghost use Rattle.concrete.specs.Layout.{bucketPlace, lengthOf};
-ghost use Rattle.concrete.specs.Test.{inRange};
-ghost use Rattle.concrete.specs.Calls.{rows, solutions, tableOf, shaped};
+ghost use Rattle.concrete.specs.Layout.{bucketPlace, inRange, lengthOf, levelFrom, pairsFrom};
+ghost use Rattle.concrete.specs.Content.{occupied};
+ghost use Rattle.concrete.specs.Test.{allOf, ascends};
+ghost use Rattle.concrete.specs.Calls.{rows, solutions, tableOf, shaped, sound};
+ghost use Rattle.sound.specs.Held.{rowTest, bucketSound, levelSound, pairTest, countsSound, baseSound};
 
 // The table of document 01: its limits and the places of its parts.
 pub struct Table {}
@@ -30,10 +34,13 @@ impl Table {
     pub const MOST_BUCKETS: usize = (Self::MOST_BUCKETS_1 + Self::MOST_BUCKETS_2) as usize;
 
     // Entries of the base list, used or not.
-    pub const BASE_ENTRIES: usize = 64;
+    pub const BASE_ENTRIES: u64 = 64;
+
+    // A plan is at most this.
+    pub const MOST_PLAN: u64 = (1 << Bucket::SOLUTIONS) - 1;
 
     // A pair for each entry.
-    pub const BASE_NUMBERS: usize = 2 * Self::BASE_ENTRIES;
+    pub const BASE_NUMBERS: usize = 2 * (Self::BASE_ENTRIES as usize);
 
     // The longest table.
     pub const LONGEST: usize = Self::HEADER
@@ -142,6 +149,14 @@ pub fn holds_second(t: &[u64], v: u64) -> bool
     identifier::threshold(v) < bound_at(t, second_index(t, v))
 }
 
+// The place of the base list.
+pub fn base_place(t: &[u64]) -> usize
+    requires { ⌜ shaped (now t) ≡ true ⌝ }
+    ensures { λ r. ⌜ r ≡ bucketPlace rows solutions (getD (now (t .entry)) 0 0 + getD (now (t .entry)) 1 0) ⌝ }
+{
+    bucket_place((t[0] + t[1]) as usize)
+}
+
 // The bucket whose words start at a place.
 pub fn bucket_at(t: &[u64], place: usize) -> Bucket
     requires { do ⌜ place + (← ⟦Bucket::WORDS⟧) ≤ length (now t) ⌝ }
@@ -149,4 +164,206 @@ pub fn bucket_at(t: &[u64], place: usize) -> Bucket
 {
     let end = place + Bucket::WORDS;
     bucket::load(&t[place..end])
+}
+
+// An occupied row v of bucket i of m, under its bound, is held where the tests send it: at level 2 also by its level 1 form.
+pub(crate) fn row_held(t: &[u64], second: bool, m: u64, i: u64, bound: u64, v: u64) -> bool
+    requires { ⌜ shaped (now t) ≡ true ⌝ }
+    ensures { λ r. ⌜ r ≡ rowTest (now (t .entry)) second m i bound v ⌝ }
+{
+    if identifier::bucket(v, m) != i {
+        return false;
+    }
+    if bound <= identifier::threshold(v) {
+        return false;
+    }
+    if second {
+        return !holds_first(t, identifier::first(v));
+    }
+    true
+}
+
+// Each of the rows that the mark names is held so.
+pub(crate) fn rows_held(
+    t: &[u64],
+    second: bool,
+    m: u64,
+    i: u64,
+    bound: u64,
+    mark: u64,
+    vectors: [u64; Bucket::ROWS],
+) -> bool
+    requires { ⌜ shaped (now t) ≡ true ⌝ }
+    ensures { λ r. ⌜ r ≡ allOf (rowTest (now (t .entry)) second m i bound) (chosen mark vectors) ⌝ }
+{
+    let mut left = mark;
+    while left != 0 {
+        let a = u64::trailing_zeros(left) as usize;
+        if row_held(t, second, m, i, bound, vectors[a]) {
+            left = left & (left - 1);
+        } else {
+            return false;
+        }
+    }
+    true
+}
+
+// The bucket at a place, number i of m, is sound.
+pub(crate) fn bucket_sound(t: &[u64], second: bool, m: u64, i: u64, place: usize) -> bool
+    requires { do ⌜ (shaped (now t) ≡ true) × (place + (← ⟦Bucket::WORDS⟧) ≤ length (now t)) ⌝ }
+    ensures { λ r. ⌜ r ≡ bucketSound (now (t .entry)) second m i place ⌝ }
+{
+    let b = bucket_at(t, place);
+    if Bucket::LARGEST_BOUND < b.bound {
+        return false;
+    }
+    let cols = b.cols;
+    let found = eliminate::rows_of(cols, b.mark);
+    if found.ok {
+        let vectors = found.rows;
+        return rows_held(t, second, m, i, b.bound, b.mark, vectors);
+    }
+    false
+}
+
+// The m buckets of a level, from a place on, are sound.
+pub(crate) fn level_sound(t: &[u64], second: bool, m: u64, place: usize) -> bool
+    requires { do ⌜ (shaped (now t) ≡ true) × (place + m * (← ⟦Bucket::WORDS⟧) ≤ length (now t)) ⌝ }
+    ensures { λ r. ⌜ r ≡ levelSound (now (t .entry)) second m place ⌝ }
+{
+    let mut i: u64 = 0;
+    let mut at = place;
+    while i < m {
+        if bucket_sound(t, second, m, i, at) {
+            i += 1;
+            at += Bucket::WORDS;
+        } else {
+            return false;
+        }
+    }
+    true
+}
+
+// The occupied rows of m buckets, from a place on, and the base entries.
+pub(crate) fn live_count(t: &[u64], m: u64, place: usize, base: u64) -> u64
+    requires { do ⌜ (place + m * (← ⟦Bucket::WORDS⟧) ≤ length (now t)) × (base ≤ (← ⟦Table::BASE_ENTRIES⟧)) ⌝ }
+    ensures { λ r. ⌜ r ≡ occupied (levelFrom rows solutions m (drop place (now (t .entry)))) + base ⌝ }
+{
+    let mut sum = base;
+    let mut i: u64 = 0;
+    let mut at = place;
+    while i < m {
+        sum += u64::count_ones(t[at + Bucket::MARK_AT]) as u64;
+        i += 1;
+        at += Bucket::WORDS;
+    }
+    sum
+}
+
+// The entry of a word by its w' is held in the base list.
+pub(crate) fn pair_held(t: &[u64], word: u64, plan: u64) -> bool
+    requires { ⌜ shaped (now t) ≡ true ⌝ }
+    ensures { λ r. ⌜ r ≡ pairTest (now (t .entry)) (record { word = word; plan = plan }) ⌝ }
+{
+    if Table::MOST_PLAN < plan {
+        return false;
+    }
+    if holds_second(t, word) {
+        return false;
+    }
+    !holds_first(t, identifier::first(word))
+}
+
+// Each of the first pairs from a place on is held so.
+pub(crate) fn pairs_held(t: &[u64], count: u64, place: usize) -> bool
+    requires { ⌜ (shaped (now t) ≡ true) × (place + 2 * count ≤ length (now t)) ⌝ }
+    ensures { λ r. ⌜ r ≡ allOf (pairTest (now (t .entry))) (pairsFrom count (drop place (now (t .entry)))) ⌝ }
+{
+    let mut left = count;
+    let mut at = place;
+    while 0 < left {
+        if pair_held(t, t[at], t[at + 1]) {
+            left -= 1;
+            at += 2;
+        } else {
+            return false;
+        }
+    }
+    true
+}
+
+// The words of the first pairs from a place on ascend.
+pub(crate) fn pairs_ascend(t: &[u64], count: u64, place: usize) -> bool
+    requires { ⌜ place + 2 * count ≤ length (now t) ⌝ }
+    ensures { λ r. ⌜ r ≡ ascends (pairsFrom count (drop place (now (t .entry)))) ⌝ }
+{
+    let mut left = count;
+    let mut at = place;
+    while 1 < left {
+        let next = at + 2;
+        if t[at] < t[next] {
+            left -= 1;
+            at = next;
+        } else {
+            return false;
+        }
+    }
+    true
+}
+
+// From a place on each number is 0.
+pub(crate) fn zero_from(t: &[u64], place: usize) -> bool
+    requires { ⌜ place ≤ length (now t) ⌝ }
+    ensures { λ r. ⌜ r ≡ allOf (λ x. eqb x 0) (drop place (now (t .entry))) ⌝ }
+{
+    let mut at = place;
+    while at < t.len() {
+        if t[at] != 0 {
+            return false;
+        }
+        at += 1;
+    }
+    true
+}
+
+// The base count is in range, and the live count is right.
+pub(crate) fn counts_sound(t: &[u64]) -> bool
+    requires { ⌜ shaped (now t) ≡ true ⌝ }
+    ensures { λ r. ⌜ r ≡ countsSound (now (t .entry)) ⌝ }
+{
+    let count = t[2];
+    if Table::BASE_ENTRIES < count {
+        return false;
+    }
+    t[3] == live_count(t, t[0] + t[1], Table::HEADER, count)
+}
+
+// The base list is sound.
+pub(crate) fn base_sound(t: &[u64]) -> bool
+    requires { do ⌜ (shaped (now t) ≡ true) × (getD (now t) 2 0 ≤ (← ⟦Table::BASE_ENTRIES⟧)) ⌝ }
+    ensures { λ r. ⌜ r ≡ baseSound (now (t .entry)) ⌝ }
+{
+    let count = t[2];
+    let place = base_place(t);
+    if pairs_ascend(t, count, place) {
+        if zero_from(t, place + 2 * (count as usize)) {
+            return pairs_held(t, count, place);
+        }
+    }
+    false
+}
+
+// Not cause 5. What is cheap is tested first.
+pub fn sound(t: &[u64]) -> bool
+    requires { ⌜ shaped (now t) ≡ true ⌝ }
+    ensures { λ r. ⌜ r ≡ sound (now (t .entry)) ⌝ }
+{
+    if counts_sound(t) {
+        if base_sound(t) {
+            if level_sound(t, false, t[0], Table::HEADER) {
+                return level_sound(t, true, t[1], bucket_place(t[0] as usize));
+            }
+        }
+    }
+    false
 }

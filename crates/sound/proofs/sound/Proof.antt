@@ -1,0 +1,75 @@
+-- `sound::sound` meets its contract.
+-- Assumes nothing.
+use mathlib.Core.Path.{refl, sym, ap, _∙_}
+use mathlib.Core.Bool.{true}
+use native.Mathlib.Omega.{arith}
+use lib.ListN.{getD}
+use Rattle.sound.specs.Held.{levelSound}
+use Rattle.sound.proofs.Shape.{shape}
+use Rattle.sound.proofs.Held.{holding, failing, base-fits, whole}
+use borrow.Author.Needs.{needs}
+use Rattle.sound.proofs.sound.Statement.{statement}
+use Rattle.sound.proofs.sound.Tie as tie
+
+counts-sound-requires : tie.Need-counts-sound-requires
+counts-sound-requires c κs = search needs
+
+base-sound-requires : tie.Need-base-sound-requires
+base-sound-requires c κs = let z = c .before .before .before in (z .pre, base-fits (z .args .t .now) (sym (c .before .counts-sound .ensures) ∙ c .if1 .taken))
+
+shared-slice-read-level-sound : tie.Need-shared-slice-read-level-sound
+shared-slice-read-level-sound c = let z = c .before .before .before .before .before .before in let s = shape 64 8 (z .args .t .now) (z .pre) in omega arith
+
+level-sound-requires : tie.Need-level-sound-requires
+level-sound-requires c κs = let z = c .before .before .before .before .before .before in let s = shape 64 8 (z .args .t .now) (z .pre) in (z .pre, omega arith)
+
+shared-slice-read-level-sound-2 : tie.Need-shared-slice-read-level-sound-2
+shared-slice-read-level-sound-2 c = let z = c .before .before .before .before .before .before .before .before .before in let s = shape 64 8 (z .args .t .now) (z .pre) in omega arith
+
+shared-slice-read-bucket-place : tie.Need-shared-slice-read-bucket-place
+shared-slice-read-bucket-place c = let z = c .before .before .before .before .before .before .before .before .before .before in let s = shape 64 8 (z .args .t .now) (z .pre) in omega arith
+
+bucket-place-requires : tie.Need-bucket-place-requires
+bucket-place-requires c κs = let z = c .before .before .before .before .before .before .before .before .before .before in let s = shape 64 8 (z .args .t .now) (z .pre) in omega arith
+
+level-sound-requires-2 : tie.Need-level-sound-requires-2
+level-sound-requires-2 c κs = let z = c .before .before .before .before .before .before .before .before .before .before .before in let s = shape 64 8 (z .args .t .now) (z .pre) in (z .pre, omega arith)
+
+returns : tie.Need-returns
+returns c =
+    let t = c .before .before .before .before .before .before .before .before .before .before .before .before .args .t .now in
+    let l = c .before .before .before .before .before in
+    let b = l .before .before .before in
+    c .level-sound2 .ensures ∙ ap (levelSound t true (getD t 1 0)) (c .before .bucket-place .ensures)
+    ∙ sym (whole t ∙ holding (sym (b .before .before .counts-sound .ensures) ∙ b .before .if1 .taken) (holding (sym (b .base-sound .ensures) ∙ l .before .before .if2 .taken) (holding (sym (l .level-sound .ensures) ∙ c .before .before .before .before .if3 .taken) refl)))
+
+returns-2 : tie.Need-returns-2
+returns-2 c =
+    let l = c .before in
+    let b = l .before .before .before in
+    sym (whole _ ∙ holding (sym (b .before .before .counts-sound .ensures) ∙ b .before .if1 .taken) (holding (sym (b .base-sound .ensures) ∙ l .before .before .if2 .taken) (failing _ (sym (l .level-sound .ensures) ∙ c .if3 .left))))
+
+returns-3 : tie.Need-returns-3
+returns-3 c =
+    let b = c .before in
+    sym (whole _ ∙ holding (sym (b .before .before .counts-sound .ensures) ∙ b .before .if1 .taken) (failing _ (sym (b .base-sound .ensures) ∙ c .if2 .left)))
+
+returns-4 : tie.Need-returns-4
+returns-4 c = sym (whole _ ∙ failing _ (sym (c .before .counts-sound .ensures) ∙ c .if1 .left))
+
+pub sound-spec : {M : Type 1} → statement M
+sound-spec =
+    tie.close
+    (tie.spec
+    counts-sound-requires
+    base-sound-requires
+    shared-slice-read-level-sound
+    level-sound-requires
+    shared-slice-read-level-sound-2
+    shared-slice-read-bucket-place
+    bucket-place-requires
+    level-sound-requires-2
+    returns
+    returns-2
+    returns-3
+    returns-4)

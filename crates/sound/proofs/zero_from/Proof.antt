@@ -1,0 +1,64 @@
+use borrow.Author.Tests.{eq-eqb, ne-eqb}
+use Rattle.sound.proofs.Loops.{go-on, stop, zero-next, zero-end}
+use Prim.Native.Nat.{ℕ, _+_, _-_, _*_, _^_, _≤_, _<_}
+use native.Mathlib.Omega.{arith}
+use mathlib.Core.Path.{_≡_, refl, sym, ap, _∙_}
+use lib.Dec.{eqb}
+use lib.ListN.{length, drop}
+use Rattle.concrete.specs.Test.{allOf}
+use borrow.Author.Needs.{needs}
+use Rattle.sound.proofs.zero_from.Statement.{statement}
+use Rattle.sound.proofs.zero_from.Tie as tie
+use Rattle.sound.proofs.zero_from.Reads as reads
+use Rattle.sound.proofs.zero_from.Lts as lts
+
+abbrev Inv-loop : tie.InvT-loop
+Inv-loop t place at₀ at = (at ≤ length t) × (allOf (λ x. eqb x 0) (drop at t) ≡ allOf (λ x. eqb x 0) (drop place t))
+
+abbrev μ-loop : tie.MeasureT-loop
+μ-loop t place at₀ at = length t - at
+
+loop-holds : tie.Need-loop-holds Inv-loop μ-loop
+loop-holds c = search needs
+
+mul-if1 : tie.Need-mul-if1 Inv-loop μ-loop
+mul-if1 c = search needs
+
+shared-slice-read-if1 : tie.Need-shared-slice-read-if1 Inv-loop μ-loop
+shared-slice-read-if1 c = search needs
+
+returns : tie.Need-returns Inv-loop μ-loop
+returns c =
+    let b = c .before .before .before in
+    stop _ (zero-next (b .before .args .t .now) (b .loop .at) (c .before .before .loop-test .taken)) (ne-eqb _ _ (c .if1 .taken)) (b .loop .inv .1)
+
+add-at : tie.Need-add-at Inv-loop μ-loop
+add-at c = search needs
+
+loop-less : tie.Need-loop-less Inv-loop μ-loop
+loop-less c = omega arith
+
+loop-again : tie.Need-loop-again Inv-loop μ-loop
+loop-again c =
+    let b = c .before .before .before in
+    (omega arith, go-on (zero-next (b .before .args .t .now) (b .loop .at) (c .before .before .loop-test .taken)) (eq-eqb _ _ (c .if1 .left)) (b .loop .inv .1))
+
+returns-2 : tie.Need-returns-2 Inv-loop μ-loop
+returns-2 c =
+    let b = c .before in
+    sym (zero-end (b .before .args .t .now) (b .loop .at) (c .loop-test .left)) ∙ b .loop .inv .1
+
+pub zero-from-spec : {M : Type 1} → statement M
+zero-from-spec =
+    tie.close
+    (tie.spec
+    Inv-loop
+    μ-loop
+    loop-holds
+    mul-if1
+    shared-slice-read-if1
+    returns
+    add-at
+    loop-less
+    loop-again
+    returns-2)
