@@ -121,7 +121,7 @@ module _ (t : List ℕ) where
   all-rows : occupied (tableOf t .level1) + (occupied (tableOf t .level2) + length (tableOf t .base)) ≡ occupied (levelFrom rows solutions (b1 + b2) (drop header t)) + getD t 2 0
   unfolding tableFrom
   all-rows =
-      let e = rw (drop-drop (b1 * 74) 4 t) at (occupied-both 64 8 b1 b2 (drop 4 t)) in
+      let e = rw (drop-drop (b1 * bucketWords rows solutions) header t) at (occupied-both rows solutions b1 b2 (drop header t)) in
       omega (arith, length-pairsFrom (getD t 2 0) (drop (bucketPlace rows solutions (b1 + b2)) t))
 
   pub whole : sound t ≡ (countsSound t && (baseSound t && (levelSound t false b1 header && levelSound t true b2 (bucketPlace rows solutions b1))))

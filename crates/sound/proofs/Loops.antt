@@ -1,15 +1,15 @@
 -- What the loops of the test ask for: one bucket, one pair, one number or one occupied row, then the rest. At every number n of rows
 -- and r of solution words.
 -- Assumes nothing.
-use Prim.Native.Nat.{ℕ, zero, suc, _+_, _-_, _*_, _/_, _%_, _^_, _≤_, _<_}
+use Prim.Native.Nat.{ℕ, zero, suc, _+_, _-_, _/_, _%_, _^_, _≤_, _<_}
 use native.Mathlib.Nat.{not-suc-le-zero, le-of-suc-le-suc}
 use native.Mathlib.Numerals.{add-one}
 use native.Mathlib.Omega.{arith}
 use mathlib.Core.Path.{_≡_, refl, sym, ap, ap₂, _∙_}
 use mathlib.Core.Bool.{Bool, true, false, _&&_}
 use mathlib.Core.List.{List, [], _∷_}
-use lib.Bits.{bitXor, differ, xor-zero-r}
-use lib.Count.{ones}
+use lib.Bits.{bitXor, bitAnd, differ, xor-zero-r}
+use lib.Count.{ones, trailingZeros}
 use lib.Dec.{eqb, ltb}
 use lib.ListN.{length, getD, drop, drop-of-length-le}
 use lib.Seq.{getD-drop, drop-drop, drop-cons}
@@ -17,6 +17,8 @@ use Rattle.lists.specs.Entries.{Entry}
 use Rattle.gf2.specs.Vectors.{bit}
 use Rattle.gf2.specs.Select.{putIf, chosen}
 use Rattle.gf2.proofs.Bit.{bit-low, bit-suc, xor-low, xor-half, even-pow, half-pow, differ-zero}
+use Rattle.gf2.proofs.Lowest.{tz-lt, tz-bit}
+use Rattle.gf2.proofs.Loops.{without-lt, low-off}
 use Rattle.bucket.specs.declared.Bucket.{Bucket}
 use Rattle.bucket.specs.Words.{bucketWords, bucketFrom}
 use Rattle.concrete.specs.Layout.{levelFrom, pairsFrom}
@@ -33,6 +35,10 @@ stop a e h i = sym (e ∙ ap (λ (c : Bool). c && a) h) ∙ i
 
 -- ---- the rows that a mark names
 
+-- a word without its lowest bit is less
+pub low-lt : (n d : ℕ) → d < 2 ^ n → (d ≡ 0 → ⊥) → bitAnd d (d - 1) < d
+low-lt n d hd ne = rw (low-off n d hd ne) (without-lt d (trailingZeros n d) (tz-bit n d (tz-lt n d hd ne)))
+
 swap : (a b c : Bool) → (a && (b && c)) ≡ (b && (a && c))
 swap true b c = refl
 swap false true c = refl
@@ -44,7 +50,7 @@ module _ (p : ℕ → Bool) where
   put-one (suc d) x q xs ys e = ap (λ (b : Bool). p x && b) e ∙ swap (p x) q (allOf p ys)
 
   -- row a, then the others
-  pub row-one : (rs : List ℕ) (a d : ℕ) → a < length rs → bit a d ≡ 1 → allOf p (chosen d rs) ≡ (p (getD rs a 0) && allOf p (chosen (bitXor d (2 ^ a)) rs))
+  row-one : (rs : List ℕ) (a d : ℕ) → a < length rs → bit a d ≡ 1 → allOf p (chosen d rs) ≡ (p (getD rs a 0) && allOf p (chosen (bitXor d (2 ^ a)) rs))
   row-one [] a d h e = absurd (not-suc-le-zero h)
   row-one (x ∷ rs) zero d h e =
       let o : d % 2 ≡ 1 = sym (bit-low d) ∙ e in
@@ -56,6 +62,12 @@ module _ (p : ℕ → Bool) where
       let f : bitXor d (2 ^ suc a) / 2 ≡ bitXor (d / 2) (2 ^ a) = xor-half d (2 ^ suc a) ∙ ap (bitXor (d / 2)) (half-pow a) in
       put-one (d % 2) x (p (getD rs a 0)) (chosen (d / 2) rs) (chosen (bitXor (d / 2) (2 ^ a)) rs) (row-one rs a (d / 2) (le-of-suc-le-suc h) (sym (bit-suc a d) ∙ e))
       ∙ ap (λ (b : Bool). p (getD rs a 0) && b) (sym (ap₂ (λ (k j : ℕ). allOf p (putIf k x (chosen j rs))) z f))
+
+  -- the row of the lowest bit, then the others
+  pub row-low : (n d : ℕ) (rs : List ℕ) → length rs ≡ n → d < 2 ^ n → (d ≡ 0 → ⊥) → allOf p (chosen d rs) ≡ (p (getD rs (trailingZeros n d) 0) && allOf p (chosen (bitAnd d (d - 1)) rs))
+  row-low n d rs h hd ne =
+      let l : trailingZeros n d < n = tz-lt n d hd ne in
+      rw (low-off n d hd ne) (row-one rs (trailingZeros n d) d (omega arith) (tz-bit n d l))
 
   pub row-none : (rs : List ℕ) → allOf p (chosen 0 rs) ≡ true
   row-none [] = refl

@@ -3,19 +3,18 @@
 use Prim.Native.Nat.{ℕ, suc, _+_, _*_, _≤_, _<_}
 use native.Mathlib.Nat.{mod-lt, mul-le-mul-right}
 use native.Mathlib.Omega.{arith}
-use mathlib.Core.Path.{_≡_, refl, sym, ap, _∙_, subst}
-use mathlib.Core.Bool.{Bool, true, _&&_}
+use mathlib.Core.Path.{_≡_, sym, ap, _∙_}
+use mathlib.Core.Bool.{true, _&&_}
 use mathlib.Core.List.{List}
-use lib.Dec.{ltb, leb}
+use lib.Dec.{leb}
 use lib.ListN.{length, getD, drop}
 use lib.Seq.{getD-drop}
 use borrow.Author.Tests.{eqb-true, leb-true}
 use Rattle.lists.proofs.Tests.{and-one, and-two}
-use Rattle.bucket.specs.declared.Bucket.{Bucket}
 use Rattle.bucket.specs.Words.{bucketWords, bucketFrom}
-use Rattle.concrete.specs.Table.{nth, thr, index, bucketOf, holds}
-use Rattle.concrete.specs.Layout.{header, mostBuckets1, mostBuckets2, inRange, baseNumbers, bucketPlace, lengthOf, tableFrom}
-use Rattle.concrete.specs.Test.{shapeTest}
+use Rattle.concrete.specs.Table.{nth, index, bucketOf}
+use Rattle.concrete.specs.Layout.{header, baseNumbers, bucketPlace, lengthOf, tableFrom}
+use Rattle.concrete.specs.Test.{mostBuckets1, mostBuckets2, inRange, shapeTest}
 use Rattle.concrete.proofs.Numbers.{length-levelFrom, read-first, read-second}
 
 -- bucket numbers in range

@@ -5,8 +5,9 @@ use Prim.Native.Nat.{ℕ, _+_, _-_}
 use native.Mathlib.Omega.{arith}
 use lib.ListN.{take, drop}
 use borrow.Author.Needs.{needs}
-use Rattle.bucket.specs.Words.{bucketFrom}
+use Rattle.bucket.specs.Words.{bucketWords, bucketFrom}
 use Rattle.concrete.proofs.Numbers.{from-part}
+use Rattle.concrete.specs.Calls.{rows, solutions}
 use Rattle.sound.proofs.bucket_at.Statement.{statement}
 use Rattle.sound.proofs.bucket_at.Tie as tie
 
@@ -31,8 +32,8 @@ load-requires c κs = search needs
 returns : tie.Need-returns
 returns c =
     let a = c .before .before .before .args in
-    let e : a .place + 74 - a .place ≡ 74 = omega arith in
-    c .load .ensures ∙ ap (λ (k : ℕ). bucketFrom 64 8 (take k (drop (a .place) (a .t .now)))) e ∙ from-part 64 8 (drop (a .place) (a .t .now))
+    let e : a .place + bucketWords rows solutions - a .place ≡ bucketWords rows solutions = omega arith in
+    c .load .ensures ∙ ap (λ (k : ℕ). bucketFrom rows solutions (take k (drop (a .place) (a .t .now)))) e ∙ from-part rows solutions (drop (a .place) (a .t .now))
 
 pub bucket-at-spec : {M : Type 1} → statement M
 bucket-at-spec =

@@ -1,17 +1,15 @@
+-- `sound::bucket_sound` meets its contract.
+-- Assumes nothing.
 use mathlib.Core.Path.{sym, ap, _∙_}
 use borrow.Author.Tests.{le-leb, lt-leb}
+use borrow.Author.Needs.{needs}
 use Rattle.bucket.specs.declared.Bucket.{Bucket}
 use Rattle.concrete.specs.Test.{bucketTest}
+use Rattle.concrete.specs.Calls.{rows}
 use Rattle.sound.specs.Held.{rowOf}
 use Rattle.sound.proofs.Held.{bucket-over, bucket-broken, bucket-rows}
-use borrow.Author.Needs.{needs}
 use Rattle.sound.proofs.bucket_sound.Statement.{statement}
 use Rattle.sound.proofs.bucket_sound.Tie as tie
-use Rattle.sound.proofs.bucket_sound.Reads as reads
-use Rattle.sound.proofs.bucket_sound.Lts as lts
-use Rattle.eliminate.proofs.rows_of.Reads as rows-of-reads
-use Rattle.sound.proofs.bucket_at.Reads as bucket-at-reads
-use Rattle.sound.proofs.rows_held.Reads as rows-held-reads
 
 bucket-at-requires : tie.Need-bucket-at-requires
 bucket-at-requires c κs = search needs
@@ -21,8 +19,8 @@ returns c =
     let b = c .before .before in
     let a = b .before .before .args in
     let x = b .bucket-at .result in
-    sym (bucket-over 64 (rowOf (a .t .now) (a .second) (a .m) (a .i) x) x (lt-leb _ _ (c .if1 .taken)))
-    ∙ ap (λ (y : Bucket). bucketTest 64 (rowOf (a .t .now) (a .second) (a .m) (a .i) y) y) (b .bucket-at .ensures)
+    sym (bucket-over rows (rowOf (a .t .now) (a .second) (a .m) (a .i) x) x (lt-leb _ _ (c .if1 .taken)))
+    ∙ ap (λ (y : Bucket). bucketTest rows (rowOf (a .t .now) (a .second) (a .m) (a .i) y) y) (b .bucket-at .ensures)
 
 rows-of-requires : tie.Need-rows-of-requires
 rows-of-requires c κs = search needs
@@ -38,8 +36,8 @@ returns-2 c =
     let a = b .before .before .args in
     let x = b .bucket-at .result in
     c .rows-held .ensures
-    ∙ sym (bucket-rows 64 (rowOf (a .t .now) (a .second) (a .m) (a .i) x) x (le-leb _ _ (i .if1 .left)) (r .rows-of .result) (r .rows-of .ensures) (c .before .before .if2 .taken))
-    ∙ ap (λ (y : Bucket). bucketTest 64 (rowOf (a .t .now) (a .second) (a .m) (a .i) y) y) (b .bucket-at .ensures)
+    ∙ sym (bucket-rows rows (rowOf (a .t .now) (a .second) (a .m) (a .i) x) x (le-leb _ _ (i .if1 .left)) (r .rows-of .result) (r .rows-of .ensures) (c .before .before .if2 .taken))
+    ∙ ap (λ (y : Bucket). bucketTest rows (rowOf (a .t .now) (a .second) (a .m) (a .i) y) y) (b .bucket-at .ensures)
 
 returns-3 : tie.Need-returns-3
 returns-3 c =
@@ -48,8 +46,8 @@ returns-3 c =
     let b = i .before .before in
     let a = b .before .before .args in
     let x = b .bucket-at .result in
-    sym (bucket-broken 64 (rowOf (a .t .now) (a .second) (a .m) (a .i) x) x (le-leb _ _ (i .if1 .left)) (r .rows-of .result) (r .rows-of .ensures) (c .if2 .left))
-    ∙ ap (λ (y : Bucket). bucketTest 64 (rowOf (a .t .now) (a .second) (a .m) (a .i) y) y) (b .bucket-at .ensures)
+    sym (bucket-broken rows (rowOf (a .t .now) (a .second) (a .m) (a .i) x) x (le-leb _ _ (i .if1 .left)) (r .rows-of .result) (r .rows-of .ensures) (c .if2 .left))
+    ∙ ap (λ (y : Bucket). bucketTest rows (rowOf (a .t .now) (a .second) (a .m) (a .i) y) y) (b .bucket-at .ensures)
 
 pub bucket-sound-spec : {M : Type 1} → statement M
 bucket-sound-spec =

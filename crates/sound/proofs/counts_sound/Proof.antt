@@ -5,32 +5,32 @@ use native.Mathlib.Omega.{arith}
 use lib.Dec.{eqb}
 use lib.ListN.{getD}
 use borrow.Author.Tests.{le-leb, lt-leb}
+use Rattle.concrete.specs.Calls.{rows, solutions}
 use Rattle.sound.proofs.Shape.{shape}
 use Rattle.sound.proofs.Held.{holding, failing}
-use borrow.Author.Needs.{needs}
 use Rattle.sound.proofs.counts_sound.Statement.{statement}
 use Rattle.sound.proofs.counts_sound.Tie as tie
 
 shared-slice-read-count : tie.Need-shared-slice-read-count
-shared-slice-read-count c = let z = c .before .before in let s = shape 64 8 (z .args .t .now) (z .pre) in omega arith
+shared-slice-read-count c = let z = c .before .before in let s = shape rows solutions (z .args .t .now) (z .pre) in omega arith
 
 returns : tie.Need-returns
 returns c = sym (failing _ (lt-leb _ _ (c .if1 .taken)))
 
 shared-slice-read-result : tie.Need-shared-slice-read-result
-shared-slice-read-result c = let z = c .before .before .before .before in let s = shape 64 8 (z .args .t .now) (z .pre) in omega arith
+shared-slice-read-result c = let z = c .before .before .before .before in let s = shape rows solutions (z .args .t .now) (z .pre) in omega arith
 
 shared-slice-read-live-count : tie.Need-shared-slice-read-live-count
-shared-slice-read-live-count c = let z = c .before .before .before .before .before in let s = shape 64 8 (z .args .t .now) (z .pre) in omega arith
+shared-slice-read-live-count c = let z = c .before .before .before .before .before in let s = shape rows solutions (z .args .t .now) (z .pre) in omega arith
 
 shared-slice-read-live-count-2 : tie.Need-shared-slice-read-live-count-2
-shared-slice-read-live-count-2 c = let z = c .before .before .before .before .before .before in let s = shape 64 8 (z .args .t .now) (z .pre) in omega arith
+shared-slice-read-live-count-2 c = let z = c .before .before .before .before .before .before in let s = shape rows solutions (z .args .t .now) (z .pre) in omega arith
 
 add-live-count : tie.Need-add-live-count
-add-live-count c = let z = c .before .before .before .before .before .before in let s = shape 64 8 (z .args .t .now) (z .pre) in omega arith
+add-live-count c = let z = c .before .before .before .before .before .before in let s = shape rows solutions (z .args .t .now) (z .pre) in omega arith
 
 live-count-requires : tie.Need-live-count-requires
-live-count-requires c κs = let z = c .before .before .before .before .before .before in let s = shape 64 8 (z .args .t .now) (z .pre) in (omega arith, omega arith)
+live-count-requires c κs = let z = c .before .before .before .before .before .before in let s = shape rows solutions (z .args .t .now) (z .pre) in (omega arith, omega arith)
 
 returns-2 : tie.Need-returns-2
 returns-2 c =

@@ -1,20 +1,21 @@
-use Prim.Native.Nat.{_+_, _-_, _*_, _≤_, _<_}
-use native.Mathlib.Omega.{arith}
+-- `sound::level_sound` meets its contract: the buckets from number i on are sound exactly when all are.
+-- Assumes nothing.
 use mathlib.Core.Path.{_≡_, refl, sym, _∙_}
+use Prim.Native.Nat.{_+_, _-_, _*_, _≤_}
+use native.Mathlib.Omega.{arith}
 use lib.ListN.{length, drop}
+use borrow.Author.Needs.{needs}
+use Rattle.bucket.specs.Words.{bucketWords}
 use Rattle.concrete.specs.Layout.{levelFrom}
 use Rattle.concrete.specs.Test.{levelTest}
+use Rattle.concrete.specs.Calls.{rows, solutions}
 use Rattle.sound.specs.Held.{rowOf}
 use Rattle.sound.proofs.Loops.{go-on, stop, test-next, test-end}
-use borrow.Author.Needs.{needs}
 use Rattle.sound.proofs.level_sound.Statement.{statement}
 use Rattle.sound.proofs.level_sound.Tie as tie
-use Rattle.sound.proofs.level_sound.Reads as reads
-use Rattle.sound.proofs.level_sound.Lts as lts
-use Rattle.sound.proofs.bucket_sound.Reads as bucket-sound-reads
 
 abbrev Inv-loop : tie.InvT-loop
-Inv-loop t second m place i₀ at₀ i at = (i ≤ m) × (at + (m - i) * 74 ≤ length t) × (levelTest 64 (rowOf t second m) i (levelFrom 64 8 (m - i) (drop at t)) ≡ levelTest 64 (rowOf t second m) 0 (levelFrom 64 8 m (drop place t)))
+Inv-loop t second m place i₀ at₀ i at = (i ≤ m) × (at + (m - i) * bucketWords rows solutions ≤ length t) × (levelTest rows (rowOf t second m) i (levelFrom rows solutions (m - i) (drop at t)) ≡ levelTest rows (rowOf t second m) 0 (levelFrom rows solutions m (drop place t)))
 
 abbrev μ-loop : tie.MeasureT-loop
 μ-loop t second m place i₀ at₀ i at = m - i
@@ -41,21 +42,21 @@ loop-again : tie.Need-loop-again Inv-loop μ-loop
 loop-again c =
     let b = c .before .before .before in
     let a = b .before .before .args in
-    let e = test-next 64 8 (a .t .now) (rowOf (a .t .now) (a .second) (a .m)) (b .loop .at) (a .m) (b .loop .i) (c .before .before .loop-test .taken) in
+    let e = test-next rows solutions (a .t .now) (rowOf (a .t .now) (a .second) (a .m)) (b .loop .at) (a .m) (b .loop .i) (c .before .before .loop-test .taken) in
     (omega arith, omega arith, go-on e (sym (c .before .bucket-sound .ensures) ∙ c .if1 .taken) (b .loop .inv .2))
 
 returns : tie.Need-returns Inv-loop μ-loop
 returns c =
     let b = c .before .before .before in
     let a = b .before .before .args in
-    let e = test-next 64 8 (a .t .now) (rowOf (a .t .now) (a .second) (a .m)) (b .loop .at) (a .m) (b .loop .i) (c .before .before .loop-test .taken) in
+    let e = test-next rows solutions (a .t .now) (rowOf (a .t .now) (a .second) (a .m)) (b .loop .at) (a .m) (b .loop .i) (c .before .before .loop-test .taken) in
     stop _ e (sym (c .before .bucket-sound .ensures) ∙ c .if1 .left) (b .loop .inv .2)
 
 returns-2 : tie.Need-returns-2 Inv-loop μ-loop
 returns-2 c =
     let b = c .before in
     let a = b .before .before .args in
-    sym (test-end 64 8 (a .t .now) (rowOf (a .t .now) (a .second) (a .m)) (b .loop .at) (a .m) (b .loop .i) (c .loop-test .left)) ∙ b .loop .inv .2
+    sym (test-end rows solutions (a .t .now) (rowOf (a .t .now) (a .second) (a .m)) (b .loop .at) (a .m) (b .loop .i) (c .loop-test .left)) ∙ b .loop .inv .2
 
 pub level-sound-spec : {M : Type 1} → statement M
 level-sound-spec =

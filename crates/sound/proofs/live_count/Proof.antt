@@ -1,19 +1,22 @@
-use lib.Count.{ones-le}
-use Rattle.sound.proofs.Loops.{occupied-next, occupied-end}
-use Prim.Native.Nat.{ℕ, _+_, _-_, _*_, _^_, _≤_, _<_}
+-- `sound::live_count` meets its contract.
+-- Assumes nothing.
+use mathlib.Core.Path.{_≡_}
+use Prim.Native.Nat.{_+_, _-_, _*_, _≤_}
 use native.Mathlib.Omega.{arith}
-use mathlib.Core.Path.{_≡_, refl, sym, ap, _∙_}
+use lib.Count.{ones-le}
 use lib.ListN.{length, drop}
+use borrow.Author.Needs.{needs}
+use Rattle.bucket.specs.Words.{bucketWords}
+use Rattle.model.specs.Model.{baseLimit}
 use Rattle.concrete.specs.Layout.{levelFrom}
 use Rattle.concrete.specs.Content.{occupied}
-use borrow.Author.Needs.{needs}
+use Rattle.concrete.specs.Calls.{rows, solutions}
+use Rattle.sound.proofs.Loops.{occupied-next, occupied-end}
 use Rattle.sound.proofs.live_count.Statement.{statement}
 use Rattle.sound.proofs.live_count.Tie as tie
-use Rattle.sound.proofs.live_count.Reads as reads
-use Rattle.sound.proofs.live_count.Lts as lts
 
 abbrev Inv-loop : tie.InvT-loop
-Inv-loop t m place base sum₀ i₀ at₀ sum i at = (i ≤ m) × (at + (m - i) * 74 ≤ length t) × (sum ≤ 64 * i + 64) × (sum + occupied (levelFrom 64 8 (m - i) (drop at t)) ≡ occupied (levelFrom 64 8 m (drop place t)) + base)
+Inv-loop t m place base sum₀ i₀ at₀ sum i at = (i ≤ m) × (at + (m - i) * bucketWords rows solutions ≤ length t) × (sum ≤ rows * i + baseLimit) × (sum + occupied (levelFrom rows solutions (m - i) (drop at t)) ≡ occupied (levelFrom rows solutions m (drop place t)) + base)
 
 abbrev μ-loop : tie.MeasureT-loop
 μ-loop t m place base sum₀ i₀ at₀ sum i at = m - i
@@ -34,11 +37,11 @@ shared-slice-read-sum : tie.Need-shared-slice-read-sum Inv-loop μ-loop
 shared-slice-read-sum c = search needs
 
 cast-sum : tie.Need-cast-sum Inv-loop μ-loop
-cast-sum c = let h = ones-le 64 _ (c .shared-slice-known .given (c .before .before .loop .at + 64) .fits) in omega arith
+cast-sum c = let h = ones-le rows _ (c .shared-slice-known .given (c .before .before .loop .at + rows) .fits) in omega arith
 
 add-sum-2 : tie.Need-add-sum-2 Inv-loop μ-loop
 add-sum-2 c =
-    let h = ones-le 64 _ (c .shared-slice-known .given (c .before .before .loop .at + 64) .fits) in
+    let h = ones-le rows _ (c .shared-slice-known .given (c .before .before .loop .at + rows) .fits) in
     omega arith
 
 add-i : tie.Need-add-i Inv-loop μ-loop
@@ -52,15 +55,15 @@ loop-less c = search needs
 
 loop-again : tie.Need-loop-again Inv-loop μ-loop
 loop-again c =
-    let h = ones-le 64 _ (c .shared-slice-known .given (c .before .before .loop .at + 64) .fits) in
+    let h = ones-le rows _ (c .shared-slice-known .given (c .before .before .loop .at + rows) .fits) in
     let b = c .before .before in
-    let e = occupied-next 64 8 (b .before .args .t .now) (b .loop .at) (b .before .args .m) (b .loop .i) (c .before .loop-test .taken) in
+    let e = occupied-next rows solutions (b .before .args .t .now) (b .loop .at) (b .before .args .m) (b .loop .i) (c .before .loop-test .taken) in
     (omega arith, omega arith, omega arith, omega arith)
 
 returns : tie.Need-returns Inv-loop μ-loop
 returns c =
     let b = c .before in
-    omega (arith, occupied-end 64 8 (b .before .args .t .now) (b .loop .at) (b .before .args .m) (b .loop .i) (c .loop-test .left))
+    omega (arith, occupied-end rows solutions (b .before .args .t .now) (b .loop .at) (b .before .args .m) (b .loop .i) (c .loop-test .left))
 
 pub live-count-spec : {M : Type 1} → statement M
 live-count-spec =

@@ -1,43 +1,35 @@
+-- `sound::pair_held` meets its contract.
+-- Assumes nothing.
+use mathlib.Core.Path.{sym}
 use Prim.Native.Nat.{_^_, _<_}
 use native.Mathlib.Omega.{arith}
-use mathlib.Core.Path.{sym}
 use borrow.Author.Tests.{lt-ltb, le-ltb}
 use borrow.Author.Needs.{needs}
+use Rattle.concrete.specs.Calls.{solutions}
 use Rattle.sound.proofs.pair_held.Statement.{statement}
 use Rattle.sound.proofs.pair_held.Tie as tie
-use Rattle.sound.proofs.pair_held.Reads as reads
-use Rattle.sound.proofs.pair_held.Lts as lts
-use Rattle.identifier.proofs.first.Reads as first-reads
-use Rattle.sound.proofs.holds_first.Reads as holds-first-reads
-use Rattle.sound.proofs.holds_second.Reads as holds-second-reads
 
--- src/lib.rt:261:9
 returns : tie.Need-returns
 returns c = simp (le-ltb _ _ (c .if1 .taken))
 
--- src/lib.rt:263:8
 holds-second-requires : tie.Need-holds-second-requires
 holds-second-requires c κs = search needs
 
--- src/lib.rt:264:9
 returns-2 : tie.Need-returns-2
 returns-2 c =
-    let h : c .before .before .before .before .args .plan < 2 ^ 8 = omega arith in
+    let h : c .before .before .before .before .args .plan < 2 ^ solutions = omega arith in
     simp (lt-ltb _ _ h, sym (c .before .holds-second .ensures), c .if2 .taken)
 
--- src/lib.rt:266:21
 first-requires : tie.Need-first-requires
 first-requires c κs = search needs
 
--- src/lib.rt:266:6
 holds-first-requires : tie.Need-holds-first-requires
 holds-first-requires c κs = search needs
 
--- src/lib.rt:256:1
 returns-3 : tie.Need-returns-3
 returns-3 c =
     let b = c .before .before .before in
-    let h : b .before .before .before .args .plan < 2 ^ 8 = omega arith in
+    let h : b .before .before .before .args .plan < 2 ^ solutions = omega arith in
     simp (lt-ltb _ _ h, sym (b .holds-second .ensures), c .before .before .if2 .left, c .holds-first .ensures, c .before .first .ensures)
 
 pub pair-held-spec : {M : Type 1} → statement M

@@ -1,16 +1,16 @@
-use borrow.Author.Tests.{lt-ltb, le-ltb}
-use Rattle.sound.proofs.Loops.{go-on, stop, ascends-next, ascends-end}
-use Prim.Native.Nat.{ℕ, _+_, _-_, _*_, _^_, _≤_, _<_}
+-- `sound::pairs_ascend` meets its contract: the pairs from `at` on ascend exactly when all do.
+-- Assumes nothing.
+use mathlib.Core.Path.{_≡_, sym, _∙_}
+use Prim.Native.Nat.{_+_, _-_, _*_, _≤_}
 use native.Mathlib.Omega.{arith}
-use mathlib.Core.Path.{_≡_, refl, sym, ap, _∙_}
 use lib.ListN.{length, drop}
+use borrow.Author.Tests.{lt-ltb, le-ltb}
+use borrow.Author.Needs.{needs}
 use Rattle.concrete.specs.Layout.{pairsFrom}
 use Rattle.concrete.specs.Test.{ascends}
-use borrow.Author.Needs.{needs}
+use Rattle.sound.proofs.Loops.{go-on, stop, ascends-next, ascends-end}
 use Rattle.sound.proofs.pairs_ascend.Statement.{statement}
 use Rattle.sound.proofs.pairs_ascend.Tie as tie
-use Rattle.sound.proofs.pairs_ascend.Reads as reads
-use Rattle.sound.proofs.pairs_ascend.Lts as lts
 
 abbrev Inv-loop : tie.InvT-loop
 Inv-loop t count place left₀ at₀ left at = (at + 2 * left ≤ length t) × (ascends (pairsFrom left (drop at t)) ≡ ascends (pairsFrom count (drop place t)))

@@ -1,17 +1,16 @@
-use Rattle.sound.proofs.Loops.{go-on, stop, pairs-next}
-use Prim.Native.Nat.{ℕ, _+_, _-_, _*_, _^_, _≤_, _<_}
+-- `sound::pairs_held` meets its contract.
+-- Assumes nothing.
+use mathlib.Core.Path.{_≡_, sym, ap, _∙_}
+use Prim.Native.Nat.{_+_, _-_, _*_, _≤_}
 use native.Mathlib.Omega.{arith}
-use mathlib.Core.Path.{_≡_, refl, sym, ap, _∙_}
 use lib.ListN.{length, drop}
+use borrow.Author.Needs.{needs}
 use Rattle.concrete.specs.Layout.{pairsFrom}
 use Rattle.concrete.specs.Test.{allOf}
+use Rattle.sound.proofs.Loops.{go-on, stop, pairs-next}
 use Rattle.sound.specs.Held.{pairTest}
-use borrow.Author.Needs.{needs}
 use Rattle.sound.proofs.pairs_held.Statement.{statement}
 use Rattle.sound.proofs.pairs_held.Tie as tie
-use Rattle.sound.proofs.pairs_held.Reads as reads
-use Rattle.sound.proofs.pairs_held.Lts as lts
-use Rattle.sound.proofs.pair_held.Reads as pair-held-reads
 
 abbrev Inv-loop : tie.InvT-loop
 Inv-loop t count place left₀ at₀ left at = (at + 2 * left ≤ length t) × (allOf (pairTest t) (pairsFrom left (drop at t)) ≡ allOf (pairTest t) (pairsFrom count (drop place t)))

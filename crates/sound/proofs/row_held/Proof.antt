@@ -1,58 +1,46 @@
-use Prim.Native.Nat.{ℕ}
+-- `sound::row_held` meets its contract.
+-- Assumes nothing.
 use mathlib.Core.Bool.{Bool, not}
+use mathlib.Core.Path.{sym, ap, _∙_}
+use Prim.Native.Nat.{ℕ}
 use lib.Dec.{eqb, ltb}
-use Rattle.hash.specs.Mix.{mixOf}
-use Rattle.concrete.specs.Table.{holds}
-use Rattle.concrete.specs.Calls.{tableOf}
-use Rattle.sound.specs.Held.{passes}
-use Rattle.sound.proofs.Held.{row-passes}
-use mathlib.Core.Path.{_≡_, sym, ap, _∙_}
 use borrow.Author.Tests.{eq-eqb, ne-eqb, lt-ltb, le-ltb}
 use borrow.Author.Needs.{needs}
+use Rattle.hash.specs.Mix.{mixOf}
+use Rattle.concrete.specs.Table.{holds}
+use Rattle.concrete.specs.Calls.{rows, solutions, tableOf}
+use Rattle.sound.specs.Held.{passes}
+use Rattle.sound.proofs.Held.{row-passes}
 use Rattle.sound.proofs.row_held.Statement.{statement}
 use Rattle.sound.proofs.row_held.Tie as tie
-use Rattle.sound.proofs.row_held.Reads as reads
-use Rattle.sound.proofs.row_held.Lts as lts
-use Rattle.identifier.proofs.bucket.Reads as bucket-reads
-use Rattle.identifier.proofs.first.Reads as first-reads
-use Rattle.identifier.proofs.threshold.Reads as threshold-reads
-use Rattle.sound.proofs.holds_first.Reads as holds-first-reads
 
--- src/lib.rt:166:8
 bucket-requires : tie.Need-bucket-requires
 bucket-requires c κs = search needs
 
--- src/lib.rt:167:9
 returns : tie.Need-returns
 returns c = simp (sym (c .before .bucket .ensures), ne-eqb _ _ (c .if1 .taken))
 
--- src/lib.rt:169:17
 threshold-requires : tie.Need-threshold-requires
 threshold-requires c κs = search needs
 
--- src/lib.rt:170:9
 returns-2 : tie.Need-returns-2
 returns-2 c = let b = c .before .before in simp (sym (b .before .bucket .ensures), eq-eqb _ _ (b .if1 .left), sym (c .before .threshold .ensures), le-ltb _ _ (c .if2 .taken))
 
--- src/lib.rt:173:32
 first-requires : tie.Need-first-requires
 first-requires c κs = search needs
 
--- src/lib.rt:173:17
 holds-first-requires : tie.Need-holds-first-requires
 holds-first-requires c κs = search needs
 
--- src/lib.rt:173:9
 returns-3 : tie.Need-returns-3
 returns-3 c =
     let b = c .before .before .before .before .before in
     let a = b .before .before .before .args in
     let p = sym (ap (λ (x : ℕ). eqb x (a .i)) (b .before .bucket .ensures)) ∙ eq-eqb _ _ (b .if1 .left) in
     let q = sym (ap (λ (x : ℕ). ltb x (a .bound)) (c .before .before .before .before .threshold .ensures)) ∙ lt-ltb _ _ (c .before .before .before .if2 .left) in
-    ap not (c .holds-first .ensures ∙ ap (holds 64 8 mixOf (tableOf (a .t .now) .level1)) (c .before .first .ensures))
+    ap not (c .holds-first .ensures ∙ ap (holds rows solutions mixOf (tableOf (a .t .now) .level1)) (c .before .first .ensures))
     ∙ sym (row-passes (a .t .now) (a .second) (a .m) (a .i) (a .bound) (a .v) p q ∙ ap (λ (s : Bool). passes (a .t .now) s (a .v)) (c .before .before .if3 .taken))
 
--- src/lib.rt:162:1
 returns-4 : tie.Need-returns-4
 returns-4 c = let b = c .before .before .before in simp (sym (b .before .bucket .ensures), eq-eqb _ _ (b .if1 .left), sym (c .before .before .threshold .ensures), lt-ltb _ _ (c .before .if2 .left), c .if3 .left)
 

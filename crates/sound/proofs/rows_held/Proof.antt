@@ -1,25 +1,21 @@
-use lib.Bits.{xor-lt}
-use lib.Count.{trailingZeros}
-use lib.ListN.{length}
-use lib.Pow.{pow-lt}
-use Rattle.gf2.proofs.Loops.{without-lt, low-off}
-use Rattle.sound.proofs.Loops.{go-on, stop, row-one, row-none}
-use Rattle.gf2.proofs.Lowest.{tz-lt, tz-bit}
-use Prim.Native.Nat.{ℕ, _+_, _-_, _*_, _^_, _≤_, _<_}
+-- `sound::rows_held` meets its contract. The loop takes the bits of the mark one by one, lowest first.
+-- Assumes nothing.
+use mathlib.Core.Path.{_≡_, sym, _∙_}
+use Prim.Native.Nat.{_-_, _^_, _<_}
+use native.Mathlib.Nat.{lt-trans}
 use native.Mathlib.Omega.{arith}
-use mathlib.Core.Path.{_≡_, refl, sym, ap, _∙_}
+use borrow.Author.Needs.{needs}
+use Rattle.gf2.proofs.Lowest.{tz-lt}
 use Rattle.gf2.specs.Select.{chosen}
 use Rattle.concrete.specs.Test.{allOf}
+use Rattle.concrete.specs.Calls.{rows}
+use Rattle.sound.proofs.Loops.{go-on, stop, low-lt, row-low, row-none}
 use Rattle.sound.specs.Held.{rowTest}
-use borrow.Author.Needs.{needs}
 use Rattle.sound.proofs.rows_held.Statement.{statement}
 use Rattle.sound.proofs.rows_held.Tie as tie
-use Rattle.sound.proofs.rows_held.Reads as reads
-use Rattle.sound.proofs.rows_held.Lts as lts
-use Rattle.sound.proofs.row_held.Reads as row-held-reads
 
 abbrev Inv-loop : tie.InvT-loop
-Inv-loop t second m i bound mark vectors left₀ left = (left < 2 ^ 64) × (allOf (rowTest t second m i bound) (chosen left vectors) ≡ allOf (rowTest t second m i bound) (chosen mark vectors))
+Inv-loop t second m i bound mark vectors left₀ left = (left < 2 ^ rows) × (allOf (rowTest t second m i bound) (chosen left vectors) ≡ allOf (rowTest t second m i bound) (chosen mark vectors))
 
 abbrev μ-loop : tie.MeasureT-loop
 μ-loop t second m i bound mark vectors left₀ left = left
@@ -28,13 +24,13 @@ loop-holds : tie.Need-loop-holds Inv-loop μ-loop
 loop-holds c = search needs
 
 cast-a : tie.Need-cast-a Inv-loop μ-loop
-cast-a c = let l = tz-lt 64 (c .before .loop .left) (c .before .loop .inv .0) (c .loop-test .taken) in omega arith
+cast-a c = let l = tz-lt rows (c .before .loop .left) (c .before .loop .inv .0) (c .loop-test .taken) in omega arith
 
 mul-row-held : tie.Need-mul-row-held Inv-loop μ-loop
-mul-row-held c = let l = tz-lt 64 (c .before .loop .left) (c .before .loop .inv .0) (c .loop-test .taken) in omega arith
+mul-row-held c = let l = tz-lt rows (c .before .loop .left) (c .before .loop .inv .0) (c .loop-test .taken) in omega arith
 
 array-read-row-held : tie.Need-array-read-row-held Inv-loop μ-loop
-array-read-row-held c = let l = tz-lt 64 (c .before .loop .left) (c .before .loop .inv .0) (c .loop-test .taken) in l
+array-read-row-held c = let l = tz-lt rows (c .before .loop .left) (c .before .loop .inv .0) (c .loop-test .taken) in l
 
 row-held-requires : tie.Need-row-held-requires Inv-loop μ-loop
 row-held-requires c κs = search needs
@@ -43,33 +39,21 @@ sub-left : tie.Need-sub-left Inv-loop μ-loop
 sub-left c = search needs
 
 loop-less : tie.Need-loop-less Inv-loop μ-loop
-loop-less c =
-    let b = c .before .before .before in
-    let ne = c .before .before .loop-test .taken in
-    let d = b .loop .left in
-    let l : trailingZeros 64 d < 64 = tz-lt 64 d (b .loop .inv .0) ne in
-    rw (low-off 64 d (b .loop .inv .0) ne) (without-lt d (trailingZeros 64 d) (tz-bit 64 d l))
+loop-less c = let l = c .before .before .before .loop in low-lt rows (l .left) (l .inv .0) (c .before .before .loop-test .taken)
 
 loop-again : tie.Need-loop-again Inv-loop μ-loop
 loop-again c =
     let b = c .before .before .before in
     let a = b .before .before .args in
     let ne = c .before .before .loop-test .taken in
-    let d = b .loop .left in
-    let l : trailingZeros 64 d < 64 = tz-lt 64 d (b .loop .inv .0) ne in
-    let h : length (a .t7) ≡ 64 = search needs in
-    let e = row-one (rowTest (a .t .now) (a .second) (a .m) (a .i) (a .bound)) (a .t7) (trailingZeros 64 d) d (omega arith) (tz-bit 64 d l) in
-    rw (low-off 64 d (b .loop .inv .0) ne) (xor-lt 64 d _ (b .loop .inv .0) (pow-lt l), go-on e (sym (c .before .row-held .ensures) ∙ c .if1 .taken) (b .loop .inv .1))
+    let e = row-low (rowTest (a .t .now) (a .second) (a .m) (a .i) (a .bound)) rows (b .loop .left) (a .t7) (search needs) (b .loop .inv .0) ne in
+    (lt-trans (low-lt rows (b .loop .left) (b .loop .inv .0) ne) (b .loop .inv .0), go-on e (sym (c .before .row-held .ensures) ∙ c .if1 .taken) (b .loop .inv .1))
 
 returns : tie.Need-returns Inv-loop μ-loop
 returns c =
     let b = c .before .before .before in
     let a = b .before .before .args in
-    let ne = c .before .before .loop-test .taken in
-    let d = b .loop .left in
-    let l : trailingZeros 64 d < 64 = tz-lt 64 d (b .loop .inv .0) ne in
-    let h : length (a .t7) ≡ 64 = search needs in
-    let e = row-one (rowTest (a .t .now) (a .second) (a .m) (a .i) (a .bound)) (a .t7) (trailingZeros 64 d) d (omega arith) (tz-bit 64 d l) in
+    let e = row-low (rowTest (a .t .now) (a .second) (a .m) (a .i) (a .bound)) rows (b .loop .left) (a .t7) (search needs) (b .loop .inv .0) (c .before .before .loop-test .taken) in
     stop _ e (sym (c .before .row-held .ensures) ∙ c .if1 .left) (b .loop .inv .1)
 
 returns-2 : tie.Need-returns-2 Inv-loop μ-loop

@@ -3,6 +3,7 @@
 use native.Mathlib.Omega.{arith}
 use borrow.Author.Needs.{needs}
 use Rattle.hash.specs.Mix.{mixOf}
+use Rattle.concrete.specs.Calls.{rows, solutions}
 use Rattle.sound.proofs.Shape.{shape, second-lt}
 use Rattle.sound.proofs.second_place.Statement.{statement}
 use Rattle.sound.proofs.second_place.Tie as tie
@@ -13,8 +14,8 @@ second-index-requires c κs = search needs
 bucket-place-requires : tie.Need-bucket-place-requires
 bucket-place-requires c κs =
     let a = c .before .before .args in
-    let s = shape 64 8 (a .t .now) (c .before .before .pre) in
-    let l = second-lt 64 8 (a .t .now) s mixOf (a .v) in
+    let s = shape rows solutions (a .t .now) (c .before .before .pre) in
+    let l = second-lt rows solutions (a .t .now) s mixOf (a .v) in
     omega arith
 
 returns : tie.Need-returns

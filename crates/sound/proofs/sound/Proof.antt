@@ -4,10 +4,11 @@ use mathlib.Core.Path.{refl, sym, ap, _∙_}
 use mathlib.Core.Bool.{true}
 use native.Mathlib.Omega.{arith}
 use lib.ListN.{getD}
+use borrow.Author.Needs.{needs}
+use Rattle.concrete.specs.Calls.{rows, solutions}
 use Rattle.sound.specs.Held.{levelSound}
 use Rattle.sound.proofs.Shape.{shape}
 use Rattle.sound.proofs.Held.{holding, failing, base-fits, whole}
-use borrow.Author.Needs.{needs}
 use Rattle.sound.proofs.sound.Statement.{statement}
 use Rattle.sound.proofs.sound.Tie as tie
 
@@ -18,22 +19,22 @@ base-sound-requires : tie.Need-base-sound-requires
 base-sound-requires c κs = let z = c .before .before .before in (z .pre, base-fits (z .args .t .now) (sym (c .before .counts-sound .ensures) ∙ c .if1 .taken))
 
 shared-slice-read-level-sound : tie.Need-shared-slice-read-level-sound
-shared-slice-read-level-sound c = let z = c .before .before .before .before .before .before in let s = shape 64 8 (z .args .t .now) (z .pre) in omega arith
+shared-slice-read-level-sound c = let z = c .before .before .before .before .before .before in let s = shape rows solutions (z .args .t .now) (z .pre) in omega arith
 
 level-sound-requires : tie.Need-level-sound-requires
-level-sound-requires c κs = let z = c .before .before .before .before .before .before in let s = shape 64 8 (z .args .t .now) (z .pre) in (z .pre, omega arith)
+level-sound-requires c κs = let z = c .before .before .before .before .before .before in let s = shape rows solutions (z .args .t .now) (z .pre) in (z .pre, omega arith)
 
 shared-slice-read-level-sound-2 : tie.Need-shared-slice-read-level-sound-2
-shared-slice-read-level-sound-2 c = let z = c .before .before .before .before .before .before .before .before .before in let s = shape 64 8 (z .args .t .now) (z .pre) in omega arith
+shared-slice-read-level-sound-2 c = let z = c .before .before .before .before .before .before .before .before .before in let s = shape rows solutions (z .args .t .now) (z .pre) in omega arith
 
 shared-slice-read-bucket-place : tie.Need-shared-slice-read-bucket-place
-shared-slice-read-bucket-place c = let z = c .before .before .before .before .before .before .before .before .before .before in let s = shape 64 8 (z .args .t .now) (z .pre) in omega arith
+shared-slice-read-bucket-place c = let z = c .before .before .before .before .before .before .before .before .before .before in let s = shape rows solutions (z .args .t .now) (z .pre) in omega arith
 
 bucket-place-requires : tie.Need-bucket-place-requires
-bucket-place-requires c κs = let z = c .before .before .before .before .before .before .before .before .before .before in let s = shape 64 8 (z .args .t .now) (z .pre) in omega arith
+bucket-place-requires c κs = let z = c .before .before .before .before .before .before .before .before .before .before in let s = shape rows solutions (z .args .t .now) (z .pre) in omega arith
 
 level-sound-requires-2 : tie.Need-level-sound-requires-2
-level-sound-requires-2 c κs = let z = c .before .before .before .before .before .before .before .before .before .before .before in let s = shape 64 8 (z .args .t .now) (z .pre) in (z .pre, omega arith)
+level-sound-requires-2 c κs = let z = c .before .before .before .before .before .before .before .before .before .before .before in let s = shape rows solutions (z .args .t .now) (z .pre) in (z .pre, omega arith)
 
 returns : tie.Need-returns
 returns c =

@@ -1,16 +1,16 @@
-use borrow.Author.Tests.{eq-eqb, ne-eqb}
-use Rattle.sound.proofs.Loops.{go-on, stop, zero-next, zero-end}
-use Prim.Native.Nat.{ℕ, _+_, _-_, _*_, _^_, _≤_, _<_}
+-- `sound::zero_from` meets its contract.
+-- Assumes nothing.
+use mathlib.Core.Path.{_≡_, sym, _∙_}
+use Prim.Native.Nat.{_-_, _≤_}
 use native.Mathlib.Omega.{arith}
-use mathlib.Core.Path.{_≡_, refl, sym, ap, _∙_}
 use lib.Dec.{eqb}
 use lib.ListN.{length, drop}
-use Rattle.concrete.specs.Test.{allOf}
+use borrow.Author.Tests.{eq-eqb, ne-eqb}
 use borrow.Author.Needs.{needs}
+use Rattle.concrete.specs.Test.{allOf}
+use Rattle.sound.proofs.Loops.{go-on, stop, zero-next, zero-end}
 use Rattle.sound.proofs.zero_from.Statement.{statement}
 use Rattle.sound.proofs.zero_from.Tie as tie
-use Rattle.sound.proofs.zero_from.Reads as reads
-use Rattle.sound.proofs.zero_from.Lts as lts
 
 abbrev Inv-loop : tie.InvT-loop
 Inv-loop t place at₀ at = (at ≤ length t) × (allOf (λ x. eqb x 0) (drop at t) ≡ allOf (λ x. eqb x 0) (drop place t))
