@@ -21,7 +21,7 @@ use Rattle.concrete.specs.Layout.{header, baseNumbers, levelNumbers, pai
 
 -- ---- pairs
 
-pub back-pairs : (es : List Entry) (rest : List ℕ) → pairsFrom (length es) (pairNumbers es ++ rest) ≡ es
+back-pairs : (es : List Entry) (rest : List ℕ) → pairsFrom (length es) (pairNumbers es ++ rest) ≡ es
 back-pairs [] rest = refl
 back-pairs (e ∷ es) rest = ap {B = List Entry} (λ l. e ∷ l) (back-pairs es rest)
 
@@ -62,7 +62,7 @@ zeros : (xs : List ℕ) → ((i : ℕ) → getD xs i 0 ≡ 0) → replicate (len
 zeros [] h = refl
 zeros (x ∷ xs) h = ap₂ {C = List ℕ} _∷_ (sym (h 0)) (zeros xs (λ i. h (suc i)))
 
-pub zero-at : (k i : ℕ) → _≡_ {A = ℕ} (getD (replicate k 0) i 0) 0
+zero-at : (k i : ℕ) → _≡_ {A = ℕ} (getD (replicate k 0) i 0) 0
 zero-at zero i = refl
 zero-at (suc k) zero = refl
 zero-at (suc k) (suc i) = zero-at k i

@@ -136,10 +136,10 @@ module _ (n r : ℕ) (S : ℕ → ℕ) (keeps : (x : ℕ) → x < 2 ^ n → S x 
   -- ---- states whose live words are in order
 
   module _ (s : State) (v : Valid (firstLevel S) (secondLevel S) s) (small : Small n r (s .live)) where
-    pub small-passes : Small n r (passes S s)
+    small-passes : Small n r (passes S s)
     small-passes e m = small e (keep-out _ (s .live) e m .0)
 
-    pub distinct-later : Distinct (later S s)
+    distinct-later : Distinct (later S s)
     distinct-later =
         distinct-renamed (second S) (2 ^ n) inj (passes S s) (λ e m. small-passes e m .0) (keep-distinct _ (s .live) (ascending-distinct (s .live) (v .ascending)))
 
