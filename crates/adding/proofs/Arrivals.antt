@@ -20,8 +20,8 @@ use Rattle.settle.specs.Settle.{SoundBucket}
 use Rattle.settle.proofs.Sound.{settle-sound}
 use Rattle.model.specs.Model.{baseLimit}
 use Rattle.concrete.specs.Table.{Table, Placed, thr, index, onSecond, put, nth, bucketOf, arriveAt, arriveAll, addedTo}
-use Rattle.adding.specs.Arrivals.{entriesFrom, entriesOf, withSecond, withBase, toSecond, allToSecond, takeOver, Ready}
-use Rattle.adding.proofs.Tables.{second-ready, base-ready}
+use Rattle.adding.specs.Arrivals.{entriesFrom, entriesOf, withSecond, withBase, toSecond, allToSecond, takeOver, Kept}
+use Rattle.adding.proofs.Tables.{second-kept, base-kept}
 
 -- ---- the words that leave a bucket, as the code keeps them
 
@@ -87,9 +87,9 @@ module _ (n r : ℕ) (S : ℕ → ℕ) where
 
   -- ---- each bucket stays sound
 
-  pub to-second-ready : (T : Table) (e : Entry) → Ready n r T → e .word < 2 ^ n → SoundBucket n r (bucketOf n r S (T .level2) (e .word)) → length (toSecond n r S T e .base) ≤ baseLimit → Ready n r (toSecond n r S T e)
-  to-second-ready T e h small s l =
-      base-ready n r _ (second-ready n r T h (index S (length (T .level2)) (e .word)) _ (settle-sound n r (thr S) e small (bucketOf n r S (T .level2) (e .word)) s)) _ l
+  pub to-second-kept : (T : Table) (e : Entry) → Kept n r T → e .word < 2 ^ n → SoundBucket n r (bucketOf n r S (T .level2) (e .word)) → length (toSecond n r S T e .base) ≤ baseLimit → Kept n r (toSecond n r S T e)
+  to-second-kept T e h small s l =
+      base-kept n r _ (second-kept n r T h (index S (length (T .level2)) (e .word)) _ (settle-sound n r (thr S) e small (bucketOf n r S (T .level2) (e .word)) s)) _ l
 
   -- ---- the buckets that are taken over
 
@@ -121,10 +121,13 @@ module _ (n r : ℕ) (S : ℕ → ℕ) where
       ap (λ (i : ℕ). nth n r (set (T .level2) i b) j) (at (T .level2) q ∙ e) ∙ getD-set-same (T .level2) j b (emptyBucket n r) (subst⁻¹ (λ (k : ℕ). j < k) q l) ∙ ap (nth n r (D .level2)) (at (D .level2) p ∙ e))
       (λ f. getD-set-other (T .level2) _ j b (emptyBucket n r) (λ z. eqb-false j (index S m v) f (z ∙ at (T .level2) q)) ∙ h j l (eqb-false j (index S m v) f, u)))
 
+  pub second-length : (T : Table) (es : List Entry) → length (allToSecond n r S T es .level2) ≡ length (T .level2)
+  second-length T es = ap (λ (U : Table). length (U .level2)) (all-law T es) ∙ arrive-length (T .level2) es
+
   -- the buckets of the words that arrived are all that changed
   pub taken-all : (T : Table) (es : List Entry) → takeOver n r S (allToSecond n r S T es) (words es) T ≡ withSecond T (allToSecond n r S T es .level2)
   taken-all T es =
       let D : Table = allToSecond n r S T es in
       let e : D .level2 ≡ arriveAll n r S (T .level2) es .buckets = ap (λ (U : Table). U .level2) (all-law T es) in
-      taken (length (T .level2)) D (words es) T (ap (λ (l : List Bucket). length l) e ∙ arrive-length (T .level2) es) refl
+      taken (length (T .level2)) D (words es) T (second-length T es) refl
       (λ j l u. sym (ap (λ (bs : List Bucket). nth n r bs j) e ∙ arrive-other (length (T .level2)) j (T .level2) es refl u))

@@ -3,3 +3,4 @@ pub mod Base
 pub mod Tables
 pub mod Arrivals
 pub mod Settled
+pub mod Passing

@@ -2,7 +2,7 @@
 -- Assumes nothing.
 use Prim.Native.Nat.{ℕ, suc, _+_, _^_, _≤_, _<_}
 use native.Mathlib.Omega.{arith}
-use mathlib.Core.Path.{_≡_, refl, sym, ap, ap₂, _∙_, subst, subst⁻¹}
+use mathlib.Core.Path.{_≡_, sym, ap, ap₂, _∙_, subst⁻¹}
 use mathlib.Core.Bool.{true, false}
 use mathlib.Core.List.{List}
 use lib.ListN.{length, getD, drop}
@@ -10,16 +10,16 @@ use borrow.Author.Tests.{le-leb, lt-leb}
 use Rattle.lists.specs.Entries.{Entry, insertAll}
 use Rattle.lists.proofs.Tests.{cond-true, cond-false}
 use Rattle.bucket.specs.declared.Bucket.{Bucket}
-use Rattle.bucket.specs.Words.{bucketWords, bucketFrom}
+use Rattle.bucket.specs.Words.{bucketFrom}
 use Rattle.settle.specs.declared.Settled.{Settled}
-use Rattle.settle.specs.Settle.{SoundBucket, Settlement, settle}
+use Rattle.settle.specs.Settle.{SoundBucket, settle}
 use Rattle.settle.specs.Outgoing.{outgoing, settledOf}
 use Rattle.settle.proofs.Sound.{settle-sound, settle-few}
 use Rattle.model.specs.Model.{baseLimit}
 use Rattle.concrete.specs.Table.{Table, thr, index, put, bucketOf, arriveAt}
 use Rattle.concrete.specs.Layout.{numbersOf, bucketPlace, tableFrom}
-use Rattle.adding.specs.Arrivals.{entriesOf, settledAt, storedAt, withSecond, withBase, toSecond, fits, Passed, Ready, FlatReady}
-use Rattle.adding.proofs.Tables.{count0, bucket2, room2, sound2, stored2, ready-back, ready-flat, second-ready}
+use Rattle.adding.specs.Arrivals.{entriesOf, settledAt, storedAt, withSecond, withBase, toSecond, fits, Passed, Kept, FlatKept}
+use Rattle.adding.proofs.Tables.{count0, second-here, second-sound, second-stored, second-kept, numbers-table, numbers-kept}
 use Rattle.adding.proofs.Arrivals.{entries-back, insert-all-length}
 
 module _ (n r : ℕ) (S : ℕ → ℕ) (m : ℕ) (bs : List Bucket) (e : Entry) (at : ℕ) (t : List ℕ) (s : Settled)
@@ -49,61 +49,58 @@ module _ (n r : ℕ) (S : ℕ → ℕ) (m : ℕ) (bs : List Bucket) (e : Entry) 
 
 -- ---- a word at level 2
 
-module _ (n r : ℕ) (S : ℕ → ℕ) (t : List ℕ) (h : FlatReady n r t) (e : Entry) (at : ℕ) (p : at ≡ bucketPlace n r (getD t 0 0 + index S (getD t 1 0) (e .word))) where
+module _ (n r : ℕ) (S : ℕ → ℕ) (t : List ℕ) (h : FlatKept n r t) (e : Entry) (at : ℕ) (p : at ≡ bucketPlace n r (getD t 0 0 + index S (getD t 1 0) (e .word)))
+    (m : ℕ) (s : Settled) (q : s ≡ settledOf m (settledAt n r (thr S) at e t)) where
   abbrev T : Table
   T = tableFrom n r t
 
   abbrev U : Table
   U = toSecond n r S T e
 
-  at-place : bucketFrom n r (drop at t) ≡ bucketOf n r S (T .level2) (e .word)
-  at-place = ap (λ (k : ℕ). bucketFrom n r (drop k t)) p ∙ bucket2 n r t h S (e .word)
+  here : bucketFrom n r (drop at t) ≡ bucketOf n r S (T .level2) (e .word)
+  here = second-here n r t h S (e .word) at p
 
-  pub second-room : at + bucketWords n r ≤ length t
-  second-room = subst⁻¹ (λ (k : ℕ). k + bucketWords n r ≤ length t) p (room2 n r t h S (e .word))
+  sound : SoundBucket n r (bucketOf n r S (T .level2) (e .word))
+  sound = second-sound n r t h S (e .word) at p
 
-  pub second-sound : SoundBucket n r (bucketFrom n r (drop at t))
-  second-sound = subst⁻¹ (SoundBucket n r) at-place (sound2 n r t h S (e .word))
+  base-length : length (U .base) ≡ getD t 2 0 + s .out .count
+  base-length = omega (arith, insert-all-length (arriveAt n r S (T .level2) e .out) (T .base), out-count n r S m (T .level2) e at t s here q, count0 n r t h)
 
-  module _ (m : ℕ) (s : Settled) (q : s ≡ settledOf m (settledAt n r (thr S) at e t)) where
-    base-length : length (U .base) ≡ getD t 2 0 + s .out .count
-    base-length = omega (arith, insert-all-length (arriveAt n r S (T .level2) e .out) (T .base), out-count n r S m (T .level2) e at t s at-place q, count0 n r t h)
+  pub arrive-few : e .word < 2 ^ n → s .out .count ≤ suc n
+  arrive-few small = out-few n r S m (T .level2) e at t s here q small sound
 
-    pub second-few : e .word < 2 ^ n → s .out .count ≤ suc n
-    second-few small = out-few n r S m (T .level2) e at t s at-place q small (sound2 n r t h S (e .word))
+  pub arrive-full : baseLimit < getD t 2 0 + s .out .count → Passed t U false t
+  arrive-full l =
+      let f : fits U ≡ false = lt-leb (length (U .base)) baseLimit (omega (arith, base-length)) in
+      record { says = sym f; table = sym (cond-false (numbersOf U) t f) }
 
-    pub second-full : baseLimit < getD t 2 0 + s .out .count → Passed t U false t
-    second-full l =
-        let f : fits U ≡ false = lt-leb (length (U .base)) baseLimit (omega (arith, base-length)) in
-        record { says = sym f; table = sym (cond-false (numbersOf U) t f) }
+  module _ (small : e .word < 2 ^ n) (t1 : List ℕ) (q1 : t1 ≡ storedAt n r at (s .bucket) t) where
+    abbrev T1 : Table
+    T1 = withSecond T (put S (T .level2) (e .word) (s .bucket))
 
-    module _ (small : e .word < 2 ^ n) (t1 : List ℕ) (q1 : t1 ≡ storedAt n r at (s .bucket) t) where
-      abbrev T1 : Table
-      T1 = withSecond T (put S (T .level2) (e .word) (s .bucket))
+    stored : t1 ≡ numbersOf T1
+    stored = q1 ∙ second-stored n r t h S (e .word) at p (s .bucket)
 
-      stored-is : t1 ≡ numbersOf T1
-      stored-is = q1 ∙ ap (λ (k : ℕ). storedAt n r k (s .bucket) t) p ∙ stored2 n r t h S (e .word) (s .bucket)
+    kept1 : Kept n r T1
+    kept1 = second-kept n r T (h .table) _ (s .bucket) (bucket-sound n r S m (T .level2) e at t s here q small sound)
 
-      ready1 : Ready n r T1
-      ready1 = second-ready n r T (h .table) _ (s .bucket) (bucket-sound n r S m (T .level2) e at t s at-place q small (sound2 n r t h S (e .word)))
+    table1 : tableFrom n r t1 ≡ T1
+    table1 = numbers-table n r T1 kept1 t1 stored
 
-      pub second-stored : FlatReady n r t1
-      second-stored = subst⁻¹ (FlatReady n r) stored-is (ready-flat n r T1 ready1)
+    pub arrive-stored : FlatKept n r t1
+    arrive-stored = numbers-kept n r T1 kept1 t1 stored
 
-      table1 : tableFrom n r t1 ≡ T1
-      table1 = ap (tableFrom n r) stored-is ∙ ready-back n r T1 ready1
+    pub arrive-count : getD t1 2 0 ≡ getD t 2 0
+    arrive-count = sym (count0 n r t1 arrive-stored) ∙ ap (λ (X : Table). length (X .base)) table1 ∙ count0 n r t h
 
-      pub second-count : getD t1 2 0 ≡ getD t 2 0
-      second-count = sym (count0 n r t1 second-stored) ∙ ap (λ (X : Table). length (X .base)) table1 ∙ count0 n r t h
-
-      pub second-done : (t2 : List ℕ) → t2 ≡ numbersOf (withBase (tableFrom n r t1) (insertAll (entriesOf (s .out)) (tableFrom n r t1 .base)))
-          → getD t 2 0 + s .out .count ≤ baseLimit → Passed t U true t2
-      second-done t2 q2 l =
-          let f : fits U ≡ true = le-leb (length (U .base)) baseLimit (omega (arith, base-length)) in
-          record {
-            says = sym f;
-            table = q2
-                ∙ ap₂ (λ (X : Table) (es : List Entry). numbersOf (withBase X (insertAll es (X .base)))) table1 (out-is n r S m (T .level2) e at t s at-place q)
-                ∙ ap (λ (bs : List Bucket). numbersOf (withBase (withSecond T bs) (insertAll (arriveAt n r S (T .level2) e .out) (T .base)))) (bucket-is n r S m (T .level2) e at t s at-place q)
-                ∙ sym (cond-true (numbersOf U) t f);
-          }
+    pub arrive-done : (t2 : List ℕ) → t2 ≡ numbersOf (withBase (tableFrom n r t1) (insertAll (entriesOf (s .out)) (tableFrom n r t1 .base)))
+        → getD t 2 0 + s .out .count ≤ baseLimit → Passed t U true t2
+    arrive-done t2 q2 l =
+        let f : fits U ≡ true = le-leb (length (U .base)) baseLimit (omega (arith, base-length)) in
+        record {
+          says = sym f;
+          table = q2
+              ∙ ap₂ (λ (X : Table) (es : List Entry). numbersOf (withBase X (insertAll es (X .base)))) table1 (out-is n r S m (T .level2) e at t s here q)
+              ∙ ap (λ (bs : List Bucket). numbersOf (withBase (withSecond T bs) (insertAll (arriveAt n r S (T .level2) e .out) (T .base)))) (bucket-is n r S m (T .level2) e at t s here q)
+              ∙ sym (cond-true (numbersOf U) t f);
+        }

@@ -74,27 +74,28 @@ pub record Passed (t : List ℕ) (U : Table) (done : Bool) (after : List ℕ) : 
   pub says : done ≡ fits U
   pub table : after ≡ cond (fits U) (numbersOf U) t
 
--- the same where only the answer counts if the base list is too long
-pub record Carried (U : Table) (done : Bool) (after : List ℕ) : Type 0 where
-  pub says : done ≡ fits U
-  pub table : done ≡ true → after ≡ numbersOf U
-
 module _ (n r : ℕ) where
   -- what each step keeps: bucket numbers in range, every bucket sound, the base list not too long
-  pub record Ready (T : Table) : Type 0 where
+  pub record Kept (T : Table) : Type 0 where
     pub range : inRange (length (T .level1)) (length (T .level2)) ≡ true
     pub first : (i : ℕ) → i < length (T .level1) → SoundBucket n r (nth n r (T .level1) i)
     pub second : (i : ℕ) → i < length (T .level2) → SoundBucket n r (nth n r (T .level2) i)
-    pub fits : length (T .base) ≤ baseLimit
+    pub short : length (T .base) ≤ baseLimit
 
   -- numbers that hold such a table
-  pub record FlatReady (t : List ℕ) : Type 0 where
-    pub table : Ready (tableFrom n r t)
+  pub record FlatKept (t : List ℕ) : Type 0 where
+    pub table : Kept (tableFrom n r t)
     pub numbers : numbersOf (tableFrom n r t) ≡ t
+
+  -- the words went on in a draft: it holds U, unless the base list is too long
+  pub record Carried (U : Table) (done : Bool) (after : List ℕ) : Type 0 where
+    pub says : done ≡ fits U
+    pub kept : done ≡ true → Kept U
+    pub table : done ≡ true → after ≡ numbersOf U
 
   -- two such lists of numbers, with equal bucket numbers
   pub record Alike (t u : List ℕ) : Type 0 where
-    pub one : FlatReady t
-    pub other : FlatReady u
+    pub one : FlatKept t
+    pub other : FlatKept u
     pub buckets1 : getD t 0 0 ≡ getD u 0 0
     pub buckets2 : getD t 1 0 ≡ getD u 1 0

@@ -18,7 +18,7 @@ ghost use Rattle.model.specs.Model.{baseLimit};
 ghost use Rattle.concrete.specs.Layout.{pairsFrom, basePairs, numbersOf};
 ghost use Rattle.concrete.specs.Calls.{rows, solutions, tableOf};
 ghost use Rattle.base.specs.Base.{Pairs};
-ghost use Rattle.adding.specs.Arrivals.{entriesOf, seconds, settledAt, storedAt, withBase, toSecond, allToSecond, takeOver, Passed, Carried, FlatReady, Alike};
+ghost use Rattle.adding.specs.Arrivals.{entriesOf, seconds, settledAt, storedAt, withBase, toSecond, allToSecond, takeOver, Passed, Carried, FlatKept, Alike};
 
 // v with its plan settles in the bucket at a place. Nothing is written.
 pub(crate) fn settled_at(t: &[u64], at: usize, v: u64, plan: u64) -> Settled
@@ -54,19 +54,19 @@ pub(crate) fn insert_all(pairs: &mut [u64], count: usize, out: Outgoing)
 
 // The words into the base list of a table, and its count.
 pub(crate) fn enter_base(t: &mut [u64], out: Outgoing)
-    requires { ⌜ FlatReady rows solutions (now t) × (getD (now t) 2 0 + out .count ≤ baseLimit) ⌝ }
+    requires { ⌜ FlatKept rows solutions (now t) × (getD (now t) 2 0 + out .count ≤ baseLimit) ⌝ }
     ensures { λ _. ⌜ now (t .exit) ≡ numbersOf (withBase (tableOf (now (t .entry))) (insertAll (entriesOf out) (tableOf (now (t .entry)) .base))) ⌝ }
 {
-    let start = t.len() - Table::BASE_NUMBERS;
+    let a = sound::base_place(t);
     let count = t[2] as usize;
     let more = out.count;
-    insert_all(&mut t[start..], count, out);
+    insert_all(&mut t[a..], count, out);
     t[2] = (count + more) as u64;
 }
 
 // The word v arrives at level 2, and what leaves that at the base list. False if that has no room: then nothing is written.
 pub(crate) fn arrive_second(t: &mut [u64], v: u64, plan: u64) -> bool
-    requires { ⌜ FlatReady rows solutions (now t) ⌝ }
+    requires { ⌜ FlatKept rows solutions (now t) ⌝ }
     ensures { λ r. ⌜ Passed (now (t .entry)) (toSecond rows solutions mixOf (tableOf (now (t .entry))) (record { word = v; plan = plan })) r (now (t .exit)) ⌝ }
 {
     let at = sound::second_place(t, v);
@@ -84,8 +84,8 @@ pub(crate) fn arrive_second(t: &mut [u64], v: u64, plan: u64) -> bool
 
 // The words that leave level 1 arrive at level 2 one after the other. False as soon as the base list has no room.
 pub(crate) fn carry(t: &mut [u64], out: Outgoing) -> bool
-    requires { do ⌜ FlatReady rows solutions (now t) × (out .count ≤ (← ⟦Outgoing::MOST⟧)) ⌝ }
-    ensures { λ r. ⌜ Carried (allToSecond rows solutions mixOf (tableOf (now (t .entry))) (seconds mixOf out)) r (now (t .exit)) ⌝ }
+    requires { do ⌜ FlatKept rows solutions (now t) × (out .count ≤ (← ⟦Outgoing::MOST⟧)) ⌝ }
+    ensures { λ r. ⌜ Carried rows solutions (allToSecond rows solutions mixOf (tableOf (now (t .entry))) (seconds mixOf out)) r (now (t .exit)) ⌝ }
 {
     let vectors = out.vectors;
     let plans = out.plans;
@@ -99,18 +99,6 @@ pub(crate) fn carry(t: &mut [u64], out: Outgoing) -> bool
         }
     }
     true
-}
-
-// The numbers of `from` into `to`.
-pub(crate) fn copy(to: &mut [u64], from: &[u64])
-    requires { ⌜ length (now to) ≡ length (now from) ⌝ }
-    ensures { λ _. ⌜ now (to .exit) ≡ now (from .entry) ⌝ }
-{
-    let mut i: usize = 0;
-    while i < from.len() {
-        to[i] = from[i];
-        i += 1;
-    }
 }
 
 // The level 2 buckets of these words become those of another table.
@@ -133,17 +121,17 @@ pub(crate) fn take_base(t: &mut [u64], from: &[u64])
     requires { ⌜ Alike rows solutions (now t) (now from) ⌝ }
     ensures { λ _. ⌜ now (t .exit) ≡ numbersOf (withBase (tableOf (now (t .entry))) (tableOf (now (from .entry)) .base)) ⌝ }
 {
-    let start = t.len() - Table::BASE_NUMBERS;
-    copy(&mut t[start..], &from[start..]);
+    let a = sound::base_place(t);
+    bucket::put(&mut t[a..], &from[a..]);
     t[2] = from[2];
 }
 
 // The words that leave level 1 go on, each tried on a draft first; then what they changed is written.
 pub(crate) fn pass_drafted(t: &mut [u64], draft: &mut [u64], out: Outgoing) -> bool
-    requires { do ⌜ FlatReady rows solutions (now t) × ((length (now draft) ≡ length (now t)) × (out .count ≤ (← ⟦Outgoing::MOST⟧))) ⌝ }
+    requires { do ⌜ FlatKept rows solutions (now t) × ((length (now draft) ≡ length (now t)) × (out .count ≤ (← ⟦Outgoing::MOST⟧))) ⌝ }
     ensures { λ r. ⌜ Passed (now (t .entry)) (allToSecond rows solutions mixOf (tableOf (now (t .entry))) (seconds mixOf out)) r (now (t .exit)) ⌝ }
 {
-    copy(draft, t);
+    bucket::put(draft, t);
     if carry(draft, out) {
         take_buckets(t, draft, out);
         take_base(t, draft);
@@ -154,7 +142,7 @@ pub(crate) fn pass_drafted(t: &mut [u64], draft: &mut [u64], out: Outgoing) -> b
 
 // The words that leave level 1 go on, or nothing is written. One word alone needs no draft.
 pub(crate) fn pass_on(t: &mut [u64], out: Outgoing) -> bool
-    requires { do ⌜ FlatReady rows solutions (now t) × (out .count ≤ (← ⟦Outgoing::MOST⟧)) ⌝ }
+    requires { do ⌜ FlatKept rows solutions (now t) × (out .count ≤ (← ⟦Outgoing::MOST⟧)) ⌝ }
     ensures { λ r. ⌜ Passed (now (t .entry)) (allToSecond rows solutions mixOf (tableOf (now (t .entry))) (seconds mixOf out)) r (now (t .exit)) ⌝ }
 {
     let count = out.count;

@@ -13,8 +13,8 @@ use borrow.Author.Tests.{eqb-true, leb-true}
 use Rattle.lists.proofs.Tests.{and-one, and-two}
 use Rattle.bucket.specs.Words.{bucketWords, bucketFrom}
 use Rattle.concrete.specs.Table.{nth, index, bucketOf}
-use Rattle.concrete.specs.Layout.{header, baseNumbers, bucketPlace, lengthOf, tableFrom}
-use Rattle.concrete.specs.Test.{mostBuckets1, mostBuckets2, inRange, shapeTest}
+use Rattle.concrete.specs.Layout.{header, baseNumbers, mostBuckets1, mostBuckets2, inRange, bucketPlace, lengthOf, tableFrom}
+use Rattle.concrete.specs.Test.{shapeTest}
 use Rattle.concrete.proofs.Numbers.{length-levelFrom, read-first, read-second}
 
 -- bucket numbers in range

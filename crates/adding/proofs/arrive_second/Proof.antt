@@ -1,10 +1,12 @@
 -- `adding::arrive_second` meets its contract.
 -- Assumes nothing.
 use native.Mathlib.Omega.{arith}
+use mathlib.Core.Path.{subst⁻¹}
 use Rattle.lists.specs.Entries.{Entry}
 use Rattle.hash.specs.Mix.{mixOf}
-use Rattle.adding.proofs.Tables.{count0, shape, long}
-use Rattle.adding.proofs.Settled.{second-room, second-sound, second-few, second-full, second-stored, second-count, second-done}
+use Rattle.settle.specs.Settle.{SoundBucket}
+use Rattle.adding.proofs.Tables.{count0, shape, long, second-room, second-here, second-sound}
+use Rattle.adding.proofs.Settled.{arrive-few, arrive-full, arrive-stored, arrive-count, arrive-done}
 use borrow.Author.Needs.{needs}
 use Rattle.adding.proofs.arrive_second.Statement.{statement}
 use Rattle.adding.proofs.arrive_second.Tie as tie
@@ -25,7 +27,7 @@ settled-at-requires : tie.Need-settled-at-requires
 settled-at-requires c κs =
     let s = c .before .before .before .before in
     let p = c .before .second-place .ensures in
-    (second-room 64 8 mixOf _ (s .pre) (word s) _ p, second-sound 64 8 mixOf _ (s .pre) (word s) _ p)
+    (second-room 64 8 _ (s .pre) mixOf (s .args .v) _ p, subst⁻¹ (SoundBucket 64 8) (second-here 64 8 _ (s .pre) mixOf (s .args .v) _ p) (second-sound 64 8 _ (s .pre) mixOf (s .args .v) _ p))
 
 slice-read-if1 : tie.Need-slice-read-if1
 slice-read-if1 c = let h = long 64 8 _ (c .before .before .before .before .before .before .before .pre) in omega arith
@@ -33,8 +35,8 @@ slice-read-if1 c = let h = long 64 8 _ (c .before .before .before .before .befor
 add-if1 : tie.Need-add-if1
 add-if1 c =
     let s = c .before .before .before .before .before .before .before in
-    let k = second-few 64 8 mixOf _ (s .pre) (word s) _ (c .before .before .before .before .second-place .ensures) 65 _ (c .before .before .settled-at .ensures) (s .fits .v .fits) in
-    omega (arith, count0 64 8 _ (s .pre), s .pre .table .fits)
+    let k = arrive-few 64 8 mixOf _ (s .pre) (word s) _ (c .before .before .before .before .second-place .ensures) 65 _ (c .before .before .settled-at .ensures) (s .fits .v .fits) in
+    omega (arith, count0 64 8 _ (s .pre), s .pre .table .short)
 
 same-length : tie.Need-same-length
 same-length c = search needs
@@ -43,12 +45,12 @@ returns : tie.Need-returns
 returns c =
     let s = c .before .before .before .before .before .before .before .before in
     let b = c .before .before .before in
-    second-full 64 8 mixOf _ (s .pre) (word s) _ (b .before .before .second-place .ensures) 65 _ (b .settled-at .ensures) (c .if1 .taken)
+    arrive-full 64 8 mixOf _ (s .pre) (word s) _ (b .before .before .second-place .ensures) 65 _ (b .settled-at .ensures) (c .if1 .taken)
 
 store-at-requires : tie.Need-store-at-requires
 store-at-requires c κs =
     let s = c .before .before .before .before .before .before .before .before .before .before in
-    second-room 64 8 mixOf _ (s .pre) (word s) _ (c .before .before .before .before .before .before .before .second-place .ensures)
+    second-room 64 8 _ (s .pre) mixOf (s .args .v) _ (c .before .before .before .before .before .before .before .second-place .ensures)
 
 enter-base-requires : tie.Need-enter-base-requires
 enter-base-requires c κs =
@@ -57,8 +59,8 @@ enter-base-requires c κs =
     let p = d .before .before .second-place .ensures in
     let q = d .settled-at .ensures in
     let q1 = c .before .before .before .store-at .ensures in
-    let k = second-count 64 8 mixOf _ (s .pre) (word s) _ p 65 _ q (s .fits .v .fits) _ q1 in
-    (second-stored 64 8 mixOf _ (s .pre) (word s) _ p 65 _ q (s .fits .v .fits) _ q1, omega arith)
+    let k = arrive-count 64 8 mixOf _ (s .pre) (word s) _ p 65 _ q (s .fits .v .fits) _ q1 in
+    (arrive-stored 64 8 mixOf _ (s .pre) (word s) _ p 65 _ q (s .fits .v .fits) _ q1, omega arith)
 
 same-length-2 : tie.Need-same-length-2
 same-length-2 c = search needs
@@ -67,7 +69,7 @@ returns-2 : tie.Need-returns-2
 returns-2 c =
     let d = c .before .before .before .before .before .before .before .before .before .before .before .before in
     let s = d .before .before .before .before .before in
-    second-done 64 8 mixOf _ (s .pre) (word s) _ (d .before .before .second-place .ensures) 65 _ (d .settled-at .ensures) (s .fits .v .fits) _ (c .before .before .before .before .before .before .store-at .ensures) _
+    arrive-done 64 8 mixOf _ (s .pre) (word s) _ (d .before .before .second-place .ensures) 65 _ (d .settled-at .ensures) (s .fits .v .fits) _ (c .before .before .before .before .before .before .store-at .ensures) _
     (c .before .before .enter-base .ensures) (c .before .before .before .before .before .before .before .before .before .if1 .left)
 
 pub arrive-second-spec : {M : Type 1} → statement M

@@ -1,3 +1,14 @@
+-- `adding::carry` meets its contract.
+-- Assumes nothing.
+use Prim.Native.Nat.{ℕ, _-_, _^_, _≤_, _<_}
+use native.Mathlib.Omega.{arith}
+use mathlib.Core.Path.{_≡_, refl, subst⁻¹}
+use lib.ListN.{length}
+use Rattle.hash.specs.Mix.{mixOf}
+use Rattle.hash.proofs.Inverse.{mix-lt}
+use Rattle.concrete.specs.Calls.{tableOf}
+use Rattle.adding.specs.Arrivals.{seconds}
+use Rattle.adding.proofs.Passing.{Carrying, seconds-next, seconds-length, carrying-next, carrying-stops, carrying-ends}
 use borrow.Author.Needs.{needs}
 use Rattle.adding.proofs.carry.Statement.{statement}
 use Rattle.adding.proofs.carry.Tie as tie
@@ -7,66 +18,71 @@ use Rattle.adding.proofs.arrive_second.Reads as arrive-second-reads
 use Rattle.identifier.proofs.second.Reads as second-reads
 
 abbrev Inv-loop : tie.InvT-loop
-Inv-loop t₀ vectors plans count i₀ t i = ?
+Inv-loop t₀ vectors plans count i₀ t i =
+    (i ≤ count) × ((length t ≡ length t₀) × Carrying 64 8 mixOf (tableOf t₀) (seconds mixOf (record { count = count; vectors = vectors; plans = plans })) t i)
 
 abbrev μ-loop : tie.MeasureT-loop
-μ-loop t₀ vectors plans count i₀ t i = ?
+μ-loop t₀ vectors plans count i₀ t i = count - i
 
--- src/lib.rt:94:5
 loop-holds : tie.Need-loop-holds Inv-loop μ-loop
-loop-holds c = search needs
+loop-holds c = (search needs, (refl, record { kept = c .before .before .before .pre .0; same = refl }))
 
--- src/lib.rt:95:48
 mul-second : tie.Need-mul-second Inv-loop μ-loop
 mul-second c = search needs
 
--- src/lib.rt:95:48
 array-read-second : tie.Need-array-read-second Inv-loop μ-loop
 array-read-second c = search needs
 
--- src/lib.rt:95:29
 second-requires : tie.Need-second-requires Inv-loop μ-loop
 second-requires c κs = search needs
 
--- src/lib.rt:95:61
 mul-arrive-second : tie.Need-mul-arrive-second Inv-loop μ-loop
 mul-arrive-second c = search needs
 
--- src/lib.rt:95:61
 array-read-arrive-second : tie.Need-array-read-arrive-second Inv-loop μ-loop
 array-read-arrive-second c = search needs
 
--- src/lib.rt:95:12
 arrive-second-requires : tie.Need-arrive-second-requires Inv-loop μ-loop
-arrive-second-requires c κs = search needs
+arrive-second-requires c κs = c .before .before .before .loop .inv .1 .1 .kept
 
--- src/lib.rt:96:13
 add-i : tie.Need-add-i Inv-loop μ-loop
 add-i c = search needs
 
--- src/lib.rt:94:5
 loop-less : tie.Need-loop-less Inv-loop μ-loop
 loop-less c = search needs
 
--- src/lib.rt:94:5
 loop-again : tie.Need-loop-again Inv-loop μ-loop
-loop-again c = search needs
+loop-again c =
+    let a = c .before .before .before in
+    let l = a .before .before .before .before .loop in
+    let o = a .before .before .before .before .before .before .before .before .args .out in
+    let e = a .before .second .ensures in (
+      search needs,
+      (
+        search needs,
+        carrying-next 64 8 mixOf _ _ _ _ (l .inv .1 .1) _ (seconds-next mixOf o (l .i) (a .before .before .before .loop-test .taken) _ e) _ _ (a .arrive-second .ensures) (c .if1 .taken)
+            (subst⁻¹ (λ (x : ℕ). x < 2 ^ 64) e (mix-lt _)),
+      ),
+    )
 
--- src/lib.rt:98:13
 same-length : tie.Need-same-length Inv-loop μ-loop
 same-length c = search needs
 
--- src/lib.rt:98:13
 returns : tie.Need-returns Inv-loop μ-loop
-returns c = search needs
+returns c =
+    let a = c .before .before .before in
+    let l = a .before .before .before .before .loop in
+    let o = a .before .before .before .before .before .before .before .before .args .out in
+    carrying-stops 64 8 mixOf _ _ _ _ (l .inv .1 .1) _ (seconds-next mixOf o (l .i) (a .before .before .before .loop-test .taken) _ (a .before .second .ensures)) _ _ (a .arrive-second .ensures) (c .if1 .left)
 
--- src/lib.rt:86:1
 same-length-2 : tie.Need-same-length-2 Inv-loop μ-loop
-same-length-2 c = search needs
+same-length-2 c = c .before .loop .inv .1 .0
 
--- src/lib.rt:86:1
 returns-2 : tie.Need-returns-2 Inv-loop μ-loop
-returns-2 c = search needs
+returns-2 c =
+    let o = c .before .before .before .before .before .args .out in
+    let h = c .loop-test .left in
+    carrying-ends 64 8 mixOf _ _ _ _ (c .before .loop .inv .1 .1) (omega (arith, seconds-length mixOf o))
 
 pub carry-spec : {M : Type 1} → statement M
 carry-spec =
