@@ -44,6 +44,9 @@ module _ (S : ℕ → ℕ) (o : Outgoing) where
   pub seconds-length : length (seconds S o) ≡ o .count
   seconds-length = length-map (entriesOf o) (onSecond S) ∙ entries-length (o .count) (o .vectors) (o .plans)
 
+  pub words-length : length (words (seconds S o)) ≡ o .count
+  words-length = length-map (seconds S o) (λ e. e .word) ∙ seconds-length
+
 -- their words, whatever the plans
 pub words-plans : (S : ℕ → ℕ) (k : ℕ) (vs ps qs : List ℕ) → words (map (onSecond S) (entriesFrom k vs ps)) ≡ words (map (onSecond S) (entriesFrom k vs qs))
 words-plans S zero vs ps qs = refl

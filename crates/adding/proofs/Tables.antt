@@ -22,7 +22,7 @@ use Rattle.model.specs.Model.{baseLimit}
 use Rattle.concrete.specs.Table.{Table, index, put, nth, bucketOf}
 use Rattle.concrete.specs.Layout.{header, baseNumbers, inRange, levelNumbers, pairsFrom, basePairs, numbersOf, bucketPlace, tableFrom, lengthOf}
 use Rattle.concrete.specs.Test.{shapeTest}
-use Rattle.concrete.proofs.Numbers.{ShapedTable, length-level, header-read, back, laid, write-first, write-second, write-base}
+use Rattle.concrete.proofs.Numbers.{ShapedTable, length-base, length-level, header-read, back, laid, write-first, write-second, write-base}
 use Rattle.sound.proofs.Shape.{Shape, range, first-lt, second-lt, first-bucket, second-bucket, first-in, second-in}
 use Rattle.base.specs.Base.{Pairs}
 use Rattle.adding.specs.Arrivals.{storedAt, withFirst, withSecond, withBase, Kept, FlatKept}
@@ -135,6 +135,9 @@ module _ (n r : ℕ) where
       pub last-is : last ≡ basePairs (T .base)
       last-is =
           take-all (length t - p) (drop p t) (omega (arith, length-drop p t)) ∙ ap₂ (λ (k : ℕ) (l : List ℕ). drop k l) place-is (sym (h .numbers)) ∙ base-part T (h .table)
+
+      pub last-length : length last ≡ baseNumbers
+      last-length = ap (λ (l : List ℕ). length l) last-is ∙ length-base (T .base) (h .table .short)
 
       pub last-pairs : Pairs (getD t 2 0) last
       last-pairs = subst⁻¹ (Pairs (getD t 2 0)) last-is (pairs-of (getD t 2 0) (T .base) count0 (subst (λ (k : ℕ). k ≤ baseLimit) count0 (h .table .short)))
