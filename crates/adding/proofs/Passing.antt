@@ -3,7 +3,7 @@
 use Prim.Native.Nat.{ℕ, zero, suc, _+_, _^_, _≤_, _<_}
 use native.Mathlib.Numerals.{add-one}
 use native.Mathlib.Omega.{arith}
-use mathlib.Core.Path.{_≡_, refl, sym, ap, ap₂, _∙_, subst, subst⁻¹}
+use mathlib.Core.Path.{_≡_, refl, sym, ap, ap₂, _∙_, subst, subst⁻¹, subst₂}
 use mathlib.Core.Bool.{Bool, true, false, true≢false}
 use mathlib.Core.List.{List, [], _∷_, map}
 use lib.ListN.{length, getD, drop, drop-of-length-le, length-map, length-set}
@@ -205,5 +205,28 @@ module _ (n r : ℕ) (S : ℕ → ℕ) (t : List ℕ) (h : FlatKept n r t) (es :
       table = w ∙ ap₂ (λ (X Y : Table). numbersOf (withBase X (Y .base))) table1 table-d ∙ ap numbersOf U-is ∙ sym (cond-true (numbersOf U) t (sym (c .says)));
     }
 
+-- the draft starts as the table
+pub from-draft : (n r : ℕ) (S : ℕ → ℕ) (es : List Entry) (t d₀ d : List ℕ) (done b : Bool) → d₀ ≡ t → done ≡ b
+    → Carried n r (allToSecond n r S (tableFrom n r d₀) es) done d → Carried n r (allToSecond n r S (tableFrom n r t) es) b d
+from-draft n r S es t d₀ d done b q y c = subst₂ (λ (l : List ℕ) (x : Bool). Carried n r (allToSecond n r S (tableFrom n r l) es) x d) q y c
+
 pub not-drafted : (n r : ℕ) (t : List ℕ) (U : Table) (d : List ℕ) → Carried n r U false d → Passed t U false t
 not-drafted n r t U d c = record { says = c .says; table = sym (cond-false (numbersOf U) t (sym (c .says))) }
+
+-- ---- no word, or one
+
+module _ (n r : ℕ) (S : ℕ → ℕ) (t : List ℕ) (h : FlatKept n r t) (o : Outgoing) where
+  abbrev all : List Entry → Table
+  all = allToSecond n r S (tableFrom n r t)
+
+  pub pass-none : o .count ≡ 0 → Passed t (all (seconds S o)) true t
+  pass-none e =
+      let q : tableFrom n r t ≡ all (seconds S o) = ap (λ (k : ℕ). all (map (onSecond S) (entriesFrom k (o .vectors) (o .plans)))) (sym e) in
+      let f : fits (all (seconds S o)) ≡ true = ap fits (sym q) ∙ le-leb _ baseLimit (h .table .short) in
+      record { says = sym f; table = sym (h .numbers) ∙ ap numbersOf q ∙ sym (cond-true _ t f) }
+
+  pub pass-one : (v : ℕ) (done : Bool) (u : List ℕ) → o .count ≡ 1 → v ≡ S (S (getD (o .vectors) 0 0))
+      → Passed t (toSecond n r S (tableFrom n r t) (record { word = v; plan = getD (o .plans) 0 0 })) done u → Passed t (all (seconds S o)) done u
+  pass-one v done u e q p =
+      subst (λ (es : List Entry). Passed t (all es) done u)
+      (ap {B = List Entry} (λ w. record { word = w; plan = getD (o .plans) 0 0 } ∷ []) q ∙ ap (λ (k : ℕ). map (onSecond S) (entriesFrom k (o .vectors) (o .plans))) (sym e)) p

@@ -1,8 +1,8 @@
 -- Tables whose buckets are sound, and their numbers: what one bucket or the base list changes. At every number n of rows and r of solution
 -- words, and for every mix S.
 -- Assumes nothing.
-use Prim.Native.Nat.{ℕ, _+_, _-_, _≤_, _<_}
-use native.Mathlib.Nat.{add-mul}
+use Prim.Native.Nat.{ℕ, _+_, _-_, _*_, _≤_, _<_}
+use native.Mathlib.Nat.{add-mul, mul-le-mul-right}
 use native.Mathlib.Omega.{arith}
 use mathlib.Core.Path.{_≡_, sym, ap, ap₂, _∙_, subst, subst⁻¹}
 use mathlib.Core.Bool.{true}
@@ -20,7 +20,7 @@ use Rattle.bucket.specs.Words.{bucketWords, bucketFrom}
 use Rattle.settle.specs.Settle.{SoundBucket}
 use Rattle.model.specs.Model.{baseLimit}
 use Rattle.concrete.specs.Table.{Table, index, put, nth, bucketOf}
-use Rattle.concrete.specs.Layout.{header, baseNumbers, inRange, levelNumbers, pairsFrom, basePairs, numbersOf, bucketPlace, tableFrom, lengthOf}
+use Rattle.concrete.specs.Layout.{header, baseNumbers, mostBuckets1, mostBuckets2, inRange, levelNumbers, pairsFrom, basePairs, numbersOf, bucketPlace, tableFrom, lengthOf}
 use Rattle.concrete.specs.Test.{shapeTest}
 use Rattle.concrete.proofs.Numbers.{ShapedTable, length-base, length-level, header-read, back, laid, write-first, write-second, write-base}
 use Rattle.sound.proofs.Shape.{Shape, range, first-lt, second-lt, first-bucket, second-bucket, first-in, second-in}
@@ -120,6 +120,12 @@ module _ (n r : ℕ) where
 
     pub long : header ≤ length t
     long = omega (arith, shape-of .size)
+
+    pub not-longer : length t ≤ lengthOf n r mostBuckets1 mostBuckets2
+    not-longer =
+        let k = shape-of .range in
+        let l : (getD t 0 0 + getD t 1 0) * bucketWords n r ≤ (mostBuckets1 + mostBuckets2) * bucketWords n r = mul-le-mul-right (bucketWords n r) (omega arith) in
+        omega (arith, shape-of .size)
 
     -- the base list, from its place on
     module _ (p : ℕ) (e : p ≡ bucketPlace n r (getD t 0 0 + getD t 1 0)) where

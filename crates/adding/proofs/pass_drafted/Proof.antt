@@ -1,3 +1,13 @@
+-- `adding::pass_drafted` meets its contract.
+-- Assumes nothing.
+use mathlib.Core.Path.{subst⁻¹}
+use mathlib.Core.Bool.{true}
+use mathlib.Core.List.{List}
+use Rattle.lists.specs.Entries.{Entry}
+use Rattle.hash.specs.Mix.{mixOf}
+use Rattle.concrete.specs.Calls.{tableOf}
+use Rattle.adding.specs.Arrivals.{seconds, allToSecond, FlatKept, Carried}
+use Rattle.adding.proofs.Passing.{draft-alike, drafted-alike, drafted, from-draft, not-drafted}
 use borrow.Author.Needs.{needs}
 use Rattle.adding.proofs.pass_drafted.Statement.{statement}
 use Rattle.adding.proofs.pass_drafted.Tie as tie
@@ -8,45 +18,49 @@ use Rattle.adding.proofs.take_base.Reads as take-base-reads
 use Rattle.adding.proofs.take_buckets.Reads as take-buckets-reads
 use Rattle.bucket.proofs.put.Reads as put-reads
 
--- src/lib.rt:134:5
 put-requires : tie.Need-put-requires
 put-requires c κs = search needs
 
--- src/lib.rt:135:8
 carry-requires : tie.Need-carry-requires
-carry-requires c κs = ?
+carry-requires c κs = let s = c .before .before .before .before .before .before .before .before in (subst⁻¹ (FlatKept 64 8) (c .before .before .before .put .ensures) (s .pre .0), s .pre .1 .1)
 
--- src/lib.rt:136:9
+abbrev moved : tie.Start → List Entry
+moved s = seconds mixOf (s .args .out)
+
+-- the words go on, as the draft shows
+on : (c : tie.Then1) → let s = c .before .before .before .before .before .before .before .before .before .before .before .before in
+    Carried 64 8 (allToSecond 64 8 mixOf (tableOf (s .args .t .now)) (moved s)) true (c .before .before .before .carry .last .0)
+on c = from-draft 64 8 mixOf (moved (c .before .before .before .before .before .before .before .before .before .before .before .before)) _ _ _ _ _ (c .before .before .before .before .before .before .before .put .ensures) (c .if1 .taken) (c .before .before .before .carry .ensures)
+
 take-buckets-requires : tie.Need-take-buckets-requires
-take-buckets-requires c κs = ?
+take-buckets-requires c κs = let s = c .before .before .before .before .before .before .before .before .before .before .before .before .before .before in (draft-alike 64 8 mixOf _ (s .pre .0) (moved s) _ (on (c .before .before)), s .pre .1 .1)
 
--- src/lib.rt:137:9
 take-base-requires : tie.Need-take-base-requires
-take-base-requires c κs = ?
+take-base-requires c κs =
+    let b = c .before .before .before .before .before .before .before in
+    let s = b .before .before .before .before .before .before .before .before .before .before .before .before in
+    drafted-alike 64 8 mixOf _ (s .pre .0) (moved s) _ (on b) _ (c .before .before .before .before .take-buckets .ensures)
 
--- src/lib.rt:138:9
 same-length : tie.Need-same-length
 same-length c = search needs
 
--- src/lib.rt:138:9
 same-length-2 : tie.Need-same-length-2
 same-length-2 c = search needs
 
--- src/lib.rt:138:9
 returns : tie.Need-returns
-returns c = ?
+returns c =
+    let b = c .before .before .before .before .before .before .before .before .before .before in
+    let s = b .before .before .before .before .before .before .before .before .before .before .before .before in
+    drafted 64 8 mixOf _ (s .pre .0) (moved s) _ (on b) _ (c .before .before .before .before .before .before .before .take-buckets .ensures) _ (c .before .before .take-base .ensures)
 
--- src/lib.rt:130:1
 same-length-3 : tie.Need-same-length-3
 same-length-3 c = search needs
 
--- src/lib.rt:130:1
 same-length-4 : tie.Need-same-length-4
 same-length-4 c = search needs
 
--- src/lib.rt:130:1
 returns-2 : tie.Need-returns-2
-returns-2 c = ?
+returns-2 c = not-drafted 64 8 _ _ _ (from-draft 64 8 mixOf (moved (c .before .before .before .before .before .before .before .before .before .before .before .before)) _ _ _ _ _ (c .before .before .before .before .before .before .before .put .ensures) (c .if1 .left) (c .before .before .before .carry .ensures))
 
 pub pass-drafted-spec : {M : Type 1} → statement M
 pass-drafted-spec =

@@ -1,3 +1,12 @@
+-- `adding::pass_on` meets its contract.
+-- Assumes nothing.
+use Prim.Native.Nat.{ℕ, _≤_}
+use mathlib.Core.Path.{_≡_, sym, subst⁻¹}
+use lib.ListN.{length, take, replicate, length-replicate}
+use lib.Seq.{length-take-le}
+use Rattle.hash.specs.Mix.{mixOf}
+use Rattle.adding.proofs.Tables.{not-longer}
+use Rattle.adding.proofs.Passing.{pass-none, pass-one}
 use borrow.Author.Needs.{needs}
 use Rattle.adding.proofs.pass_on.Statement.{statement}
 use Rattle.adding.proofs.pass_on.Tie as tie
@@ -7,51 +16,42 @@ use Rattle.adding.proofs.arrive_second.Reads as arrive-second-reads
 use Rattle.adding.proofs.pass_drafted.Reads as pass-drafted-reads
 use Rattle.identifier.proofs.second.Reads as second-reads
 
--- src/lib.rt:150:9
 returns : tie.Need-returns
-returns c = ?
+returns c = pass-none 64 8 mixOf _ (c .before .before .pre .0) _ (c .if1 .taken)
 
--- src/lib.rt:155:52
 array-read-second : tie.Need-array-read-second
 array-read-second c = search needs
 
--- src/lib.rt:155:33
 second-requires : tie.Need-second-requires
 second-requires c κs = search needs
 
--- src/lib.rt:155:65
 array-read-arrive-second : tie.Need-array-read-arrive-second
 array-read-arrive-second c = search needs
 
--- src/lib.rt:155:9
 arrive-second-requires : tie.Need-arrive-second-requires
 arrive-second-requires c κs = search needs
 
--- src/lib.rt:155:9
 same-length : tie.Need-same-length
 same-length c = search needs
 
--- src/lib.rt:155:9
 returns-2 : tie.Need-returns-2
-returns-2 c = ?
+returns-2 c = pass-one 64 8 mixOf _ (c .before .before .before .before .before .before .before .before .before .before .pre .0) _ _ _ _ (c .before .before .before .before .before .before .before .if2 .taken) (c .before .before .before .second .ensures) (c .before .before .arrive-second .ensures)
 
--- src/lib.rt:159:21
+shortened : (s : tie.Start) → length {A = ℕ} (take (length (s .args .t .now)) (replicate 6052 0)) ≡ length (s .args .t .now)
+shortened s = length-take-le (length (s .args .t .now)) (replicate 6052 0) (subst⁻¹ (λ (k : ℕ). length (s .args .t .now) ≤ k) (length-replicate {A = ℕ} 6052 0) (not-longer 64 8 _ (s .pre .0)))
+
 array-borrow-prefix-draft : tie.Need-array-borrow-prefix-draft
-array-borrow-prefix-draft c = ?
+array-borrow-prefix-draft c = not-longer 64 8 _ (c .before .before .before .before .pre .0)
 
--- src/lib.rt:159:21
 slice-aggregate-pass-drafted : tie.Need-slice-aggregate-pass-drafted
-slice-aggregate-pass-drafted c = ?
+slice-aggregate-pass-drafted c = sym (shortened (c .before .before .before .before .before))
 
--- src/lib.rt:159:5
 pass-drafted-requires : tie.Need-pass-drafted-requires
-pass-drafted-requires c κs = ?
+pass-drafted-requires c κs = let s = c .before .before .before .before .before in (s .pre .0, (shortened s, s .pre .1))
 
--- src/lib.rt:144:1
 same-length-2 : tie.Need-same-length-2
 same-length-2 c = search needs
 
--- src/lib.rt:144:1
 returns-3 : tie.Need-returns-3
 returns-3 c = search needs
 
