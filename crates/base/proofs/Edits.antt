@@ -2,10 +2,9 @@
 -- Assumes nothing.
 use Prim.Native.Nat.{ℕ, suc, _+_, _-_, _*_, _≤_, _<_, zero-le}
 use native.Mathlib.Nat.{not-suc-le-zero, le-of-suc-le-suc}
-use native.Mathlib.Numerals.{add-one}
 use native.Mathlib.Omega.{arith}
 use mathlib.Core.Path.{_≡_, refl, sym, ap, ap₂, _∙_, subst}
-use mathlib.Core.Bool.{Bool, true, false, cond}
+use mathlib.Core.Bool.{Bool, true, false}
 use mathlib.Core.Option.{none, some}
 use mathlib.Core.List.{List, [], _∷_, _++_, append-assoc}
 use lib.Dec.{eqb, ltb}
@@ -18,7 +17,7 @@ use Rattle.lists.proofs.Entries.{insert-length, update-length, remove-length}
 use Rattle.model.specs.Model.{baseLimit}
 use Rattle.concrete.specs.Layout.{baseNumbers, pairNumbers, pairsFrom, basePairs}
 use Rattle.concrete.proofs.Numbers.{length-pairsFrom, read-pair, length-base}
-use Rattle.base.specs.Base.{Pairs, before, putAt, foundOf}
+use Rattle.base.specs.Base.{Pairs, before, putAt}
 use Rattle.base.proofs.Shift.{put-append, put-same, length-put, length-pairs, base-put, length-of, room}
 
 -- ---- the search passes the pairs one by one

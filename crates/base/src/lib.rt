@@ -69,15 +69,15 @@ pub(crate) fn take_out(words: &mut [u64], at: usize) -> u64
     requires { ⌜ at ≤ length (now words) ⌝ }
     ensures { λ r. ⌜ putAt at r (now (words .exit)) ≡ now (words .entry) ++ 0 ∷ [] ⌝ }
 {
-    let mut carried: u64 = 0;
+    let mut later: u64 = 0;
     let mut i = words.len();
     while at < i {
         i -= 1;
         let next = words[i];
-        words[i] = carried;
-        carried = next;
+        words[i] = later;
+        later = next;
     }
-    carried
+    later
 }
 
 // The plan of v.

@@ -1,6 +1,7 @@
 // Entries for other languages over hash, codec and identifier: a program made without this code is compared with them.
 // Definition: specs/Probe.antt.
 // Cites answer, codec, hash and identifier. Nothing cites it.
+use bucket::Bucket;
 use identifier::Identifier;
 use identifier::Read;
 ghost use mathlib.Core.Path.{_≡_};
@@ -10,6 +11,8 @@ ghost use Rattle.codec.specs.Parts.{partAt, written};
 ghost use Rattle.hash.specs.Mix.{mixOf, unmixOf};
 ghost use Rattle.hash.specs.Fnv.{fnvOf};
 ghost use Rattle.identifier.specs.Identifier.{readOf};
+ghost use Rattle.bucket.specs.Bucket.{add, withdraw};
+ghost use Rattle.probe.specs.Steps.{probed, probedRow, probedMatrix};
 ghost use Rattle.probe.specs.Probe.{wordAnswer};
 
 // The number of the answer to the bytes of an identifier, 0 if they are accepted. What is returned with it goes into value:
@@ -69,4 +72,72 @@ pub extern "C" fn probe_put(d: &mut [u8], at: usize, x: u64)
     ensures { λ _. ⌜ now (d .exit) ≡ written at (toBytes 8 x) (now (d .entry)) ⌝ }
 {
     codec::put_u64(d, at, x);
+}
+
+// An add to the bucket of these words: 1 if it is done, 0 if the vector depends, 2 if they are not as many as a bucket has.
+#[no_mangle]
+pub extern "C" fn probe_add(part: &mut [u64], k: u64, plan: u64) -> u64
+    ensures { λ r. ⌜ (r ≡ probed (add 64 k plan) (now (part .entry)) .number) × (now (part .exit) ≡ probed (add 64 k plan) (now (part .entry)) .words) ⌝ }
+{
+    if part.len() != Bucket::WORDS {
+        return 2;
+    }
+    let b = bucket::load(part);
+    let t = b.add(k, plan);
+    if t.done {
+        let next = t.bucket;
+        bucket::store(part, next);
+        return 1;
+    }
+    0
+}
+
+// A withdrawal from the bucket of these words: 1 if it is done, 0 if the vector is not live, 2 as above.
+#[no_mangle]
+pub extern "C" fn probe_withdraw(part: &mut [u64], k: u64) -> u64
+    ensures { λ r. ⌜ (r ≡ probed (withdraw 64 k) (now (part .entry)) .number) × (now (part .exit) ≡ probed (withdraw 64 k) (now (part .entry)) .words) ⌝ }
+{
+    if part.len() != Bucket::WORDS {
+        return 2;
+    }
+    let b = bucket::load(part);
+    let t = b.withdraw(k);
+    if t.done {
+        let next = t.bucket;
+        bucket::store(part, next);
+        return 1;
+    }
+    0
+}
+
+// The row of a vector in the bucket of these words: 64 if it is not live, 65 if they are not as many as a bucket has.
+#[no_mangle]
+pub extern "C" fn probe_row(part: &[u64], k: u64) -> u64
+    ensures { λ r. ⌜ r ≡ probedRow k (now (part .entry)) ⌝ }
+{
+    if part.len() != Bucket::WORDS {
+        return 65;
+    }
+    let b = bucket::load(part);
+    b.row_of(k) as u64
+}
+
+// Row i of the matrix K of the bucket of these words, or 0 where there is none.
+#[no_mangle]
+pub extern "C" fn probe_matrix(part: &[u64], i: usize) -> u64
+    ensures { λ r. ⌜ r ≡ probedMatrix i (now (part .entry)) ⌝ }
+{
+    if part.len() != Bucket::WORDS {
+        return 0;
+    }
+    let b = bucket::load(part);
+    let cols = b.cols;
+    let found = eliminate::rows_of(cols, b.mark);
+    let rows = found.rows;
+    if found.ok {
+        if i < Bucket::ROWS {
+            return rows[i];
+        }
+    }
+    0
 }

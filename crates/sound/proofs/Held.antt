@@ -25,9 +25,8 @@ use Rattle.concrete.specs.Layout.{header, levelFrom, pairsFrom, bucketPlace, ta
 use Rattle.concrete.specs.Content.{occupied}
 use Rattle.concrete.specs.Test.{allOf, ascends, bucketTest, levelTest, row1, row2, row0, soundTest}
 use Rattle.concrete.specs.Calls.{rows, solutions, tableOf, sound}
-use Rattle.concrete.proofs.Numbers.{length-pairsFrom}
+use Rattle.concrete.proofs.Numbers.{header-read}
 use Rattle.sound.specs.Held.{passes, rowTest, levelSound, countsSound, baseSound}
-use Rattle.sound.proofs.Shape.{length-first, length-second}
 
 -- a test that holds, then the others; a test that does not
 pub holding : {a b c : Bool} → a ≡ true → b ≡ c → (a && b) ≡ c
@@ -112,17 +111,17 @@ module _ (t : List ℕ) where
 
   first-level : levelTest rows (row1 rows solutions mixOf unmixOf (tableOf t)) 0 (tableOf t .level1) ≡ levelSound t false b1 header
   unfolding tableFrom
-  first-level = λ j. levelTest rows (λ i b v. eqb (index mixOf (length-first rows solutions t j) v) i && sym (and-true (ltb (thr mixOf v) (b .bound))) j) 0 (tableOf t .level1)
+  first-level = λ j. levelTest rows (λ i b v. eqb (index mixOf (header-read rows solutions t .0 j) v) i && sym (and-true (ltb (thr mixOf v) (b .bound))) j) 0 (tableOf t .level1)
 
   second-level : levelTest rows (row2 rows solutions mixOf unmixOf (tableOf t)) 0 (tableOf t .level2) ≡ levelSound t true b2 (bucketPlace rows solutions b1)
   unfolding tableFrom
-  second-level = λ j. levelTest rows (λ i b v. eqb (index mixOf (length-second rows solutions t j) v) i && (ltb (thr mixOf v) (b .bound) && passes t true v)) 0 (tableOf t .level2)
+  second-level = λ j. levelTest rows (λ i b v. eqb (index mixOf (header-read rows solutions t .1 j) v) i && (ltb (thr mixOf v) (b .bound) && passes t true v)) 0 (tableOf t .level2)
 
   all-rows : occupied (tableOf t .level1) + (occupied (tableOf t .level2) + length (tableOf t .base)) ≡ occupied (levelFrom rows solutions (b1 + b2) (drop header t)) + getD t 2 0
   unfolding tableFrom
   all-rows =
       let e = rw (drop-drop (b1 * bucketWords rows solutions) header t) at (occupied-both rows solutions b1 b2 (drop header t)) in
-      omega (arith, length-pairsFrom (getD t 2 0) (drop (bucketPlace rows solutions (b1 + b2)) t))
+      omega (arith, header-read rows solutions t .2)
 
   pub whole : sound t ≡ (countsSound t && (baseSound t && (levelSound t false b1 header && levelSound t true b2 (bucketPlace rows solutions b1))))
   unfolding soundTest tableFrom
@@ -137,5 +136,5 @@ module _ (t : List ℕ) where
       (ascends (T .base))
       (allOf (λ x. eqb x 0) (unusedIn rows solutions t))
       ∙ ap₂ (λ (x y : Bool). x && (baseSound t && y))
-      (ap₂ (λ (c o : ℕ). leb c baseLimit && eqb (getD t 3 0) o) (length-pairsFrom (getD t 2 0) _) all-rows)
+      (ap₂ (λ (c o : ℕ). leb c baseLimit && eqb (getD t 3 0) o) (header-read rows solutions t .2) all-rows)
       (ap₂ (λ (x y : Bool). x && y) first-level second-level)

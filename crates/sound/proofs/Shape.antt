@@ -13,9 +13,9 @@ use borrow.Author.Tests.{eqb-true, leb-true}
 use Rattle.lists.proofs.Tests.{and-one, and-two}
 use Rattle.bucket.specs.Words.{bucketWords, bucketFrom}
 use Rattle.concrete.specs.Table.{nth, index, bucketOf}
-use Rattle.concrete.specs.Layout.{header, baseNumbers, mostBuckets1, mostBuckets2, inRange, bucketPlace, lengthOf, tableFrom}
+use Rattle.concrete.specs.Layout.{mostBuckets1, mostBuckets2, inRange, header, baseNumbers, bucketPlace, lengthOf, tableFrom}
 use Rattle.concrete.specs.Test.{shapeTest}
-use Rattle.concrete.proofs.Numbers.{length-levelFrom, read-first, read-second}
+use Rattle.concrete.proofs.Numbers.{header-read, read-first, read-second}
 
 -- bucket numbers in range
 pub record Range (b1 b2 : ℕ) : Type 0 where
@@ -58,14 +58,6 @@ module _ (n r : ℕ) (xs : List ℕ) where
   unfolding bucketFrom
   bound-is p = getD-drop p xs (n + 1 + r) 0
 
-  pub length-first : length (tableFrom n r xs .level1) ≡ b1
-  unfolding tableFrom
-  length-first = length-levelFrom n r b1 _
-
-  pub length-second : length (tableFrom n r xs .level2) ≡ b2
-  unfolding tableFrom
-  length-second = length-levelFrom n r b2 _
-
   module _ (s : Shape) where
     -- the base list is the rest
     pub base-in : bucketPlace n r (b1 + b2) + baseNumbers ≡ length xs
@@ -88,10 +80,10 @@ module _ (n r : ℕ) (xs : List ℕ) where
 
       -- v's bucket is the one at its place
       pub first-bucket : bucketOf n r S (tableFrom n r xs .level1) v ≡ bucketFrom n r (drop (bucketPlace n r (index S b1 v)) xs)
-      first-bucket = ap (λ (m : ℕ). nth n r (tableFrom n r xs .level1) (index S m v)) length-first ∙ read-first n r xs (index S b1 v) first-lt
+      first-bucket = ap (λ (m : ℕ). nth n r (tableFrom n r xs .level1) (index S m v)) (header-read n r xs .0) ∙ read-first n r xs (index S b1 v) first-lt
 
       pub second-bucket : bucketOf n r S (tableFrom n r xs .level2) v ≡ bucketFrom n r (drop (bucketPlace n r (b1 + index S b2 v)) xs)
-      second-bucket = ap (λ (m : ℕ). nth n r (tableFrom n r xs .level2) (index S m v)) length-second ∙ read-second n r xs (index S b2 v) second-lt
+      second-bucket = ap (λ (m : ℕ). nth n r (tableFrom n r xs .level2) (index S m v)) (header-read n r xs .1) ∙ read-second n r xs (index S b2 v) second-lt
 
       -- whose words are in the table
       pub first-in : bucketPlace n r (index S b1 v) + bucketWords n r ≤ length xs

@@ -1,7 +1,7 @@
 // Document 01's causes 4 and 5: the test of a table that is handed in, for any length and any contents; and what a table of the right
 // shape has where: the places of buckets, their bounds, which level holds a vector. Each function is an equation with a definition of
-// concrete (specs/Layout.antt, Table.antt, Test.antt). Cites concrete, bucket, eliminate (the rows of K), identifier and hash; table
-// and plane build on it.
+// concrete (specs/Layout.antt, Table.antt, Test.antt, Calls.antt); specs/Held.antt is for the crate's own functions. proofs/Shape.antt
+// has the laws of the places. Cites concrete, bucket, eliminate (the rows of K), identifier and hash; table and plane build on it.
 use bucket::Bucket;
 ghost use mathlib.Core.Path.{_≡_};
 ghost use mathlib.Core.Bool.{true};
@@ -12,7 +12,7 @@ ghost use Rattle.gf2.specs.Select.{chosen};
 ghost use Rattle.hash.specs.Mix.{mixOf};
 ghost use Rattle.bucket.specs.Words.{bucketFrom};
 ghost use Rattle.concrete.specs.Table.{index, holds};
-ghost use Rattle.concrete.specs.Layout.{bucketPlace, inRange, lengthOf, levelFrom, pairsFrom};
+ghost use Rattle.concrete.specs.Layout.{inRange, bucketPlace, lengthOf, levelFrom, pairsFrom};
 ghost use Rattle.concrete.specs.Content.{occupied};
 ghost use Rattle.concrete.specs.Test.{allOf, ascends};
 ghost use Rattle.concrete.specs.Calls.{rows, solutions, tableOf, shaped, sound};
@@ -22,8 +22,16 @@ ghost use Rattle.sound.specs.Held.{rowTest, bucketSound, levelSound, pai
 pub struct Table {}
 
 impl Table {
-    // The numbers before the buckets: buckets of level 1, of level 2, base count, live count.
+    // The numbers before the buckets, and what stands where among them.
     pub const HEADER: usize = 4;
+
+    pub const BUCKETS_1_AT: usize = 0;
+
+    pub const BUCKETS_2_AT: usize = 1;
+
+    pub const BASE_COUNT_AT: usize = 2;
+
+    pub const LIVE_COUNT_AT: usize = 3;
 
     // Level 1 has 1 to this many buckets.
     pub const MOST_BUCKETS_1: u64 = 48;
@@ -33,14 +41,13 @@ impl Table {
 
     pub const MOST_BUCKETS: usize = (Self::MOST_BUCKETS_1 + Self::MOST_BUCKETS_2) as usize;
 
-    // Entries of the base list, used or not.
+    // Entries of the base list, and a pair of numbers for each, used or not.
     pub const BASE_ENTRIES: u64 = 64;
+
+    pub const BASE_NUMBERS: usize = 2 * (Self::BASE_ENTRIES as usize);
 
     // A plan is at most this.
     pub const MOST_PLAN: u64 = (1 << Bucket::SOLUTIONS) - 1;
-
-    // A pair for each entry.
-    pub const BASE_NUMBERS: usize = 2 * (Self::BASE_ENTRIES as usize);
 
     // The longest table.
     pub const LONGEST: usize = Self::HEADER
@@ -87,8 +94,8 @@ pub fn shaped(t: &[u64]) -> bool
     if t.len() < Table::HEADER {
         return false;
     }
-    if in_range(t[0], t[1]) {
-        return t.len() == length_of(t[0], t[1]);
+    if in_range(t[Table::BUCKETS_1_AT], t[Table::BUCKETS_2_AT]) {
+        return t.len() == length_of(t[Table::BUCKETS_1_AT], t[Table::BUCKETS_2_AT]);
     }
     false
 }
@@ -106,7 +113,7 @@ pub fn first_index(t: &[u64], v: u64) -> usize
     requires { ⌜ shaped (now t) ≡ true ⌝ }
     ensures { λ r. ⌜ r ≡ index mixOf (getD (now (t .entry)) 0 0) v ⌝ }
 {
-    identifier::bucket(v, t[0]) as usize
+    identifier::bucket(v, t[Table::BUCKETS_1_AT]) as usize
 }
 
 // The number of the bucket of v at level 2, after those of level 1.
@@ -114,7 +121,7 @@ pub fn second_index(t: &[u64], v: u64) -> usize
     requires { ⌜ shaped (now t) ≡ true ⌝ }
     ensures { λ r. ⌜ r ≡ getD (now (t .entry)) 0 0 + index mixOf (getD (now (t .entry)) 1 0) v ⌝ }
 {
-    (t[0] + identifier::bucket(v, t[1])) as usize
+    (t[Table::BUCKETS_1_AT] + identifier::bucket(v, t[Table::BUCKETS_2_AT])) as usize
 }
 
 // The place of v's bucket at level 1.
@@ -154,7 +161,7 @@ pub fn base_place(t: &[u64]) -> usize
     requires { ⌜ shaped (now t) ≡ true ⌝ }
     ensures { λ r. ⌜ r ≡ bucketPlace rows solutions (getD (now (t .entry)) 0 0 + getD (now (t .entry)) 1 0) ⌝ }
 {
-    bucket_place((t[0] + t[1]) as usize)
+    bucket_place((t[Table::BUCKETS_1_AT] + t[Table::BUCKETS_2_AT]) as usize)
 }
 
 // The bucket whose words start at a place.
@@ -316,12 +323,12 @@ pub(crate) fn zero_from(t: &[u64], place: usize) -> bool
     requires { ⌜ place ≤ length (now t) ⌝ }
     ensures { λ r. ⌜ r ≡ allOf (λ x. eqb x 0) (drop place (now (t .entry))) ⌝ }
 {
-    let mut at = place;
-    while at < t.len() {
-        if t[at] != 0 {
+    let mut i = place;
+    while i < t.len() {
+        if t[i] != 0 {
             return false;
         }
-        at += 1;
+        i += 1;
     }
     true
 }
@@ -331,11 +338,12 @@ pub(crate) fn counts_sound(t: &[u64]) -> bool
     requires { ⌜ shaped (now t) ≡ true ⌝ }
     ensures { λ r. ⌜ r ≡ countsSound (now (t .entry)) ⌝ }
 {
-    let count = t[2];
+    let count = t[Table::BASE_COUNT_AT];
     if Table::BASE_ENTRIES < count {
         return false;
     }
-    t[3] == live_count(t, t[0] + t[1], Table::HEADER, count)
+    let buckets = t[Table::BUCKETS_1_AT] + t[Table::BUCKETS_2_AT];
+    t[Table::LIVE_COUNT_AT] == live_count(t, buckets, Table::HEADER, count)
 }
 
 // The base list is sound.
@@ -343,7 +351,7 @@ pub(crate) fn base_sound(t: &[u64]) -> bool
     requires { do ⌜ (shaped (now t) ≡ true) × (getD (now t) 2 0 ≤ (← ⟦Table::BASE_ENTRIES⟧)) ⌝ }
     ensures { λ r. ⌜ r ≡ baseSound (now (t .entry)) ⌝ }
 {
-    let count = t[2];
+    let count = t[Table::BASE_COUNT_AT];
     let place = base_place(t);
     if pairs_ascend(t, count, place) {
         if zero_from(t, place + 2 * (count as usize)) {
@@ -358,10 +366,12 @@ pub fn sound(t: &[u64]) -> bool
     requires { ⌜ shaped (now t) ≡ true ⌝ }
     ensures { λ r. ⌜ r ≡ sound (now (t .entry)) ⌝ }
 {
+    let first = t[Table::BUCKETS_1_AT];
+    let second = t[Table::BUCKETS_2_AT];
     if counts_sound(t) {
         if base_sound(t) {
-            if level_sound(t, false, t[0], Table::HEADER) {
-                return level_sound(t, true, t[1], bucket_place(t[0] as usize));
+            if level_sound(t, false, first, Table::HEADER) {
+                return level_sound(t, true, second, bucket_place(first as usize));
             }
         }
     }

@@ -1,4 +1,4 @@
--- `base::take_out` meets its contract: the element that the loop carries stood at i.
+-- `base::take_out` meets its contract: later is the element that stood at i.
 -- Assumes nothing.
 use mathlib.Core.Path.{_≡_, refl, ap, _∙_}
 use mathlib.Core.List.{[], _∷_, _++_}
@@ -13,10 +13,10 @@ use Rattle.base.proofs.take_out.Statement.{statement}
 use Rattle.base.proofs.take_out.Tie as tie
 
 abbrev Inv-loop : tie.InvT-loop
-Inv-loop words₀ at carried₀ i₀ words carried i = (length words ≡ length words₀) × (at ≤ i) × (i ≤ length words₀) × (putAt i carried words ≡ words₀ ++ 0 ∷ [])
+Inv-loop words₀ at later₀ i₀ words later i = (length words ≡ length words₀) × (at ≤ i) × (i ≤ length words₀) × (putAt i later words ≡ words₀ ++ 0 ∷ [])
 
 abbrev μ-loop : tie.MeasureT-loop
-μ-loop words₀ at carried₀ i₀ words carried i = i
+μ-loop words₀ at later₀ i₀ words later i = i
 
 loop-holds : tie.Need-loop-holds Inv-loop μ-loop
 loop-holds c =
@@ -46,7 +46,7 @@ loop-again c =
     let l = c .before .before .loop in
     let h : l .i - 1 < length (l .words) = omega arith in
     let e : suc (l .i - 1) ≡ l .i = omega arith in
-    (simp length-set (l .inv .0), search needs, search needs, carry-down (l .words) (l .i - 1) (l .carried) h ∙ ap (λ (j : ℕ). putAt j (l .carried) (l .words)) e ∙ l .inv .3)
+    (simp length-set (l .inv .0), search needs, search needs, carry-down (l .words) (l .i - 1) (l .later) h ∙ ap (λ (j : ℕ). putAt j (l .later) (l .words)) e ∙ l .inv .3)
 
 same-length : tie.Need-same-length Inv-loop μ-loop
 same-length c = search needs
@@ -55,7 +55,7 @@ returns : tie.Need-returns Inv-loop μ-loop
 returns c =
     let l = c .before .loop in
     let e : c .before .before .args .at ≡ l .i = omega arith in
-    ap (λ (j : ℕ). putAt j (l .carried) (l .words)) e ∙ l .inv .3
+    ap (λ (j : ℕ). putAt j (l .later) (l .words)) e ∙ l .inv .3
 
 pub take-out-spec : {M : Type 1} → statement M
 take-out-spec =

@@ -17,25 +17,24 @@ shared-slice-read-count c = let z = c .before .before in let s = shape rows solu
 returns : tie.Need-returns
 returns c = sym (failing _ (lt-leb _ _ (c .if1 .taken)))
 
+shared-slice-read-buckets : tie.Need-shared-slice-read-buckets
+shared-slice-read-buckets c = let z = c .before .before .before .before in let s = shape rows solutions (z .args .t .now) (z .pre) in omega arith
+
+shared-slice-read-buckets-2 : tie.Need-shared-slice-read-buckets-2
+shared-slice-read-buckets-2 c = let z = c .before .before .before .before .before in let s = shape rows solutions (z .args .t .now) (z .pre) in omega arith
+
+add-buckets : tie.Need-add-buckets
+add-buckets c = let z = c .before .before .before .before .before in let s = shape rows solutions (z .args .t .now) (z .pre) in omega arith
+
 shared-slice-read-result : tie.Need-shared-slice-read-result
-shared-slice-read-result c = let z = c .before .before .before .before in let s = shape rows solutions (z .args .t .now) (z .pre) in omega arith
-
-shared-slice-read-live-count : tie.Need-shared-slice-read-live-count
-shared-slice-read-live-count c = let z = c .before .before .before .before .before in let s = shape rows solutions (z .args .t .now) (z .pre) in omega arith
-
-shared-slice-read-live-count-2 : tie.Need-shared-slice-read-live-count-2
-shared-slice-read-live-count-2 c = let z = c .before .before .before .before .before .before in let s = shape rows solutions (z .args .t .now) (z .pre) in omega arith
-
-add-live-count : tie.Need-add-live-count
-add-live-count c = let z = c .before .before .before .before .before .before in let s = shape rows solutions (z .args .t .now) (z .pre) in omega arith
+shared-slice-read-result c = let z = c .before .before .before .before .before .before in let s = shape rows solutions (z .args .t .now) (z .pre) in omega arith
 
 live-count-requires : tie.Need-live-count-requires
 live-count-requires c κs = let z = c .before .before .before .before .before .before in let s = shape rows solutions (z .args .t .now) (z .pre) in (omega arith, omega arith)
 
 returns-2 : tie.Need-returns-2
 returns-2 c =
-    let t = c .before .before .before .before .before .before .before .args .t .now in
-    ap (eqb (getD t 3 0)) (c .live-count .ensures) ∙ sym (holding (le-leb _ _ (c .before .before .before .before .if1 .left)) refl)
+    ap (eqb (getD (c .before .before .before .before .before .before .before .args .t .now) 3 0)) (c .live-count .ensures) ∙ sym (holding (le-leb _ _ (c .before .before .before .before .if1 .left)) refl)
 
 pub counts-sound-spec : {M : Type 1} → statement M
 counts-sound-spec =
@@ -43,9 +42,9 @@ counts-sound-spec =
     (tie.spec
     shared-slice-read-count
     returns
+    shared-slice-read-buckets
+    shared-slice-read-buckets-2
+    add-buckets
     shared-slice-read-result
-    shared-slice-read-live-count
-    shared-slice-read-live-count-2
-    add-live-count
     live-count-requires
     returns-2)

@@ -12,43 +12,40 @@ use Rattle.sound.proofs.Held.{holding, failing, base-fits, whole}
 use Rattle.sound.proofs.sound.Statement.{statement}
 use Rattle.sound.proofs.sound.Tie as tie
 
+shared-slice-read-first : tie.Need-shared-slice-read-first
+shared-slice-read-first c = let z = c .before .before in let s = shape rows solutions (z .args .t .now) (z .pre) in omega arith
+
+shared-slice-read-second : tie.Need-shared-slice-read-second
+shared-slice-read-second c = let z = c .before .before .before in let s = shape rows solutions (z .args .t .now) (z .pre) in omega arith
+
 counts-sound-requires : tie.Need-counts-sound-requires
 counts-sound-requires c κs = search needs
 
 base-sound-requires : tie.Need-base-sound-requires
-base-sound-requires c κs = let z = c .before .before .before in (z .pre, base-fits (z .args .t .now) (sym (c .before .counts-sound .ensures) ∙ c .if1 .taken))
-
-shared-slice-read-level-sound : tie.Need-shared-slice-read-level-sound
-shared-slice-read-level-sound c = let z = c .before .before .before .before .before .before in let s = shape rows solutions (z .args .t .now) (z .pre) in omega arith
+base-sound-requires c κs = let z = c .before .before .before .before .before in (z .pre, base-fits (z .args .t .now) (sym (c .before .counts-sound .ensures) ∙ c .if1 .taken))
 
 level-sound-requires : tie.Need-level-sound-requires
-level-sound-requires c κs = let z = c .before .before .before .before .before .before in let s = shape rows solutions (z .args .t .now) (z .pre) in (z .pre, omega arith)
-
-shared-slice-read-level-sound-2 : tie.Need-shared-slice-read-level-sound-2
-shared-slice-read-level-sound-2 c = let z = c .before .before .before .before .before .before .before .before .before in let s = shape rows solutions (z .args .t .now) (z .pre) in omega arith
-
-shared-slice-read-bucket-place : tie.Need-shared-slice-read-bucket-place
-shared-slice-read-bucket-place c = let z = c .before .before .before .before .before .before .before .before .before .before in let s = shape rows solutions (z .args .t .now) (z .pre) in omega arith
+level-sound-requires c κs = let z = c .before .before .before .before .before .before .before in let s = shape rows solutions (z .args .t .now) (z .pre) in (z .pre, omega arith)
 
 bucket-place-requires : tie.Need-bucket-place-requires
-bucket-place-requires c κs = let z = c .before .before .before .before .before .before .before .before .before .before in let s = shape rows solutions (z .args .t .now) (z .pre) in omega arith
+bucket-place-requires c κs = let z = c .before .before .before .before .before .before .before .before .before in let s = shape rows solutions (z .args .t .now) (z .pre) in omega arith
 
 level-sound-requires-2 : tie.Need-level-sound-requires-2
-level-sound-requires-2 c κs = let z = c .before .before .before .before .before .before .before .before .before .before .before in let s = shape rows solutions (z .args .t .now) (z .pre) in (z .pre, omega arith)
+level-sound-requires-2 c κs = let z = c .before .before .before .before .before .before .before .before .before .before in let s = shape rows solutions (z .args .t .now) (z .pre) in (z .pre, omega arith)
 
 returns : tie.Need-returns
 returns c =
-    let t = c .before .before .before .before .before .before .before .before .before .before .before .before .args .t .now in
-    let l = c .before .before .before .before .before in
-    let b = l .before .before .before in
+    let t = c .before .before .before .before .before .before .before .before .before .before .before .args .t .now in
+    let l = c .before .before .before in
+    let b = l .before .before in
     c .level-sound2 .ensures ∙ ap (levelSound t true (getD t 1 0)) (c .before .bucket-place .ensures)
-    ∙ sym (whole t ∙ holding (sym (b .before .before .counts-sound .ensures) ∙ b .before .if1 .taken) (holding (sym (b .base-sound .ensures) ∙ l .before .before .if2 .taken) (holding (sym (l .level-sound .ensures) ∙ c .before .before .before .before .if3 .taken) refl)))
+    ∙ sym (whole t ∙ holding (sym (b .before .before .counts-sound .ensures) ∙ b .before .if1 .taken) (holding (sym (b .base-sound .ensures) ∙ l .before .if2 .taken) (holding (sym (l .level-sound .ensures) ∙ c .before .before .if3 .taken) refl)))
 
 returns-2 : tie.Need-returns-2
 returns-2 c =
     let l = c .before in
-    let b = l .before .before .before in
-    sym (whole _ ∙ holding (sym (b .before .before .counts-sound .ensures) ∙ b .before .if1 .taken) (holding (sym (b .base-sound .ensures) ∙ l .before .before .if2 .taken) (failing _ (sym (l .level-sound .ensures) ∙ c .if3 .left))))
+    let b = l .before .before in
+    sym (whole _ ∙ holding (sym (b .before .before .counts-sound .ensures) ∙ b .before .if1 .taken) (holding (sym (b .base-sound .ensures) ∙ l .before .if2 .taken) (failing _ (sym (l .level-sound .ensures) ∙ c .if3 .left))))
 
 returns-3 : tie.Need-returns-3
 returns-3 c =
@@ -62,12 +59,11 @@ pub sound-spec : {M : Type 1} → statement M
 sound-spec =
     tie.close
     (tie.spec
+    shared-slice-read-first
+    shared-slice-read-second
     counts-sound-requires
     base-sound-requires
-    shared-slice-read-level-sound
     level-sound-requires
-    shared-slice-read-level-sound-2
-    shared-slice-read-bucket-place
     bucket-place-requires
     level-sound-requires-2
     returns

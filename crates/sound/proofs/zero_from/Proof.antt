@@ -13,10 +13,10 @@ use Rattle.sound.proofs.zero_from.Statement.{statement}
 use Rattle.sound.proofs.zero_from.Tie as tie
 
 abbrev Inv-loop : tie.InvT-loop
-Inv-loop t place at₀ at = (at ≤ length t) × (allOf (λ x. eqb x 0) (drop at t) ≡ allOf (λ x. eqb x 0) (drop place t))
+Inv-loop t place i₀ i = (i ≤ length t) × (allOf (λ x. eqb x 0) (drop i t) ≡ allOf (λ x. eqb x 0) (drop place t))
 
 abbrev μ-loop : tie.MeasureT-loop
-μ-loop t place at₀ at = length t - at
+μ-loop t place i₀ i = length t - i
 
 loop-holds : tie.Need-loop-holds Inv-loop μ-loop
 loop-holds c = search needs
@@ -30,10 +30,10 @@ shared-slice-read-if1 c = search needs
 returns : tie.Need-returns Inv-loop μ-loop
 returns c =
     let b = c .before .before .before in
-    stop _ (zero-next (b .before .args .t .now) (b .loop .at) (c .before .before .loop-test .taken)) (ne-eqb _ _ (c .if1 .taken)) (b .loop .inv .1)
+    stop _ (zero-next (b .before .args .t .now) (b .loop .i) (c .before .before .loop-test .taken)) (ne-eqb _ _ (c .if1 .taken)) (b .loop .inv .1)
 
-add-at : tie.Need-add-at Inv-loop μ-loop
-add-at c = search needs
+add-i : tie.Need-add-i Inv-loop μ-loop
+add-i c = search needs
 
 loop-less : tie.Need-loop-less Inv-loop μ-loop
 loop-less c = omega arith
@@ -41,12 +41,12 @@ loop-less c = omega arith
 loop-again : tie.Need-loop-again Inv-loop μ-loop
 loop-again c =
     let b = c .before .before .before in
-    (omega arith, go-on (zero-next (b .before .args .t .now) (b .loop .at) (c .before .before .loop-test .taken)) (eq-eqb _ _ (c .if1 .left)) (b .loop .inv .1))
+    (omega arith, go-on (zero-next (b .before .args .t .now) (b .loop .i) (c .before .before .loop-test .taken)) (eq-eqb _ _ (c .if1 .left)) (b .loop .inv .1))
 
 returns-2 : tie.Need-returns-2 Inv-loop μ-loop
 returns-2 c =
     let b = c .before in
-    sym (zero-end (b .before .args .t .now) (b .loop .at) (c .loop-test .left)) ∙ b .loop .inv .1
+    sym (zero-end (b .before .args .t .now) (b .loop .i) (c .loop-test .left)) ∙ b .loop .inv .1
 
 pub zero-from-spec : {M : Type 1} → statement M
 zero-from-spec =
@@ -58,7 +58,7 @@ zero-from-spec =
     mul-if1
     shared-slice-read-if1
     returns
-    add-at
+    add-i
     loop-less
     loop-again
     returns-2)

@@ -1,10 +1,10 @@
--- `eliminate::flip_if` meets its contract.
+-- `bits::flip_if` meets its contract.
 -- Assumes nothing.
 use mathlib.Core.Path.{sym}
 use Rattle.gf2.proofs.Loops.{flip-set}
 use borrow.Author.Needs.{needs}
-use Rattle.eliminate.proofs.flip_if.Statement.{statement}
-use Rattle.eliminate.proofs.flip_if.Tie as tie
+use Rattle.bits.proofs.flip_if.Statement.{statement}
+use Rattle.bits.proofs.flip_if.Tie as tie
 
 returns : tie.Need-returns
 returns c = search needs

@@ -1,10 +1,10 @@
--- `eliminate::power` meets its contract: a shift of 1 below the width loses no bit.
+-- `bits::power` meets its contract: a shift of 1 below the width loses no bit.
 -- Assumes nothing.
 use native.Mathlib.Nat.{one-mul, mod-eq-of-lt}
 use lib.Pow.{pow-lt}
 use borrow.Author.Needs.{needs}
-use Rattle.eliminate.proofs.power.Statement.{statement}
-use Rattle.eliminate.proofs.power.Tie as tie
+use Rattle.bits.proofs.power.Statement.{statement}
+use Rattle.bits.proofs.power.Tie as tie
 
 shl-result : tie.Need-shl-result
 shl-result c = search needs
