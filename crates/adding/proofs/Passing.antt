@@ -1,15 +1,15 @@
 -- The words that leave level 1 go on: the loops over them. At every number n of rows and r of solution words, and for every mix S.
 -- Assumes nothing.
-use Prim.Native.Nat.{ℕ, zero, suc, _+_, _^_, _≤_, _<_}
+use Prim.Native.Nat.{ℕ, zero, suc, _+_, _≤_, _<_}
 use native.Mathlib.Numerals.{add-one}
 use native.Mathlib.Omega.{arith}
 use mathlib.Core.Path.{_≡_, refl, sym, ap, ap₂, _∙_, subst, subst⁻¹, subst₂}
 use mathlib.Core.Bool.{Bool, true, false, true≢false}
 use mathlib.Core.List.{List, [], _∷_, map}
 use lib.ListN.{length, getD, drop, drop-of-length-le, length-map, length-set}
-use borrow.Author.Tests.{le-leb, lt-leb, leb-true, leb-false}
+use borrow.Author.Tests.{le-leb, lt-leb, leb-false}
 use Rattle.lists.specs.Entries.{Entry, words}
-use Rattle.lists.proofs.Tests.{cond-true, cond-false}
+use Rattle.lists.proofs.Tests.{cond-true}
 use Rattle.bucket.specs.declared.Bucket.{Bucket}
 use Rattle.bucket.specs.Words.{bucketWords, bucketFrom}
 use Rattle.settle.specs.declared.Outgoing.{Outgoing}
@@ -17,9 +17,9 @@ use Rattle.model.specs.Model.{baseLimit}
 use Rattle.concrete.specs.Table.{Table, index, onSecond, put, bucketOf}
 use Rattle.concrete.specs.Layout.{inRange, numbersOf, bucketPlace, tableFrom}
 use Rattle.concrete.proofs.Numbers.{header-read}
-use Rattle.adding.specs.Arrivals.{entriesFrom, entriesOf, seconds, storedAt, withSecond, withBase, toSecond, allToSecond, takeOver, fits, Passed, Carried, Kept, FlatKept, Alike}
+use Rattle.adding.specs.Arrivals.{entriesFrom, entriesOf, seconds, storedAt, withSecond, withBase, toSecond, allToSecond, takeOver, Passed, Drafted, Kept, FlatKept, Alike}
 use Rattle.adding.proofs.Tables.{second-room, second-here, second-sound, second-stored, second-kept, numbers-table, numbers-kept}
-use Rattle.adding.proofs.Arrivals.{entries-next, entries-length, all-law, base-grows, to-second-kept, second-length, taken-all}
+use Rattle.adding.proofs.Arrivals.{entries-next, entries-length, all-law, base-grows, second-length, taken-all}
 
 drop-map : {A B : Type 0} (f : A → B) (i : ℕ) (xs : List A) → drop i (map f xs) ≡ map f (drop i xs)
 drop-map f zero xs = refl
@@ -66,21 +66,19 @@ module _ (n r : ℕ) (S : ℕ → ℕ) where
     abbrev D : Table
     D = allToSecond n r S T es
 
-    module _ (e : Entry) (d : drop i es ≡ e ∷ drop (suc i) es) (done : Bool) (u : List ℕ) (p : Passed t (toSecond n r S X e) done u) where
+    module _ (e : Entry) (d : drop i es ≡ e ∷ drop (suc i) es) (done : Bool) (u : List ℕ) (p : Passed n r t (toSecond n r S X e) done u) where
       ahead : allToSecond n r S (toSecond n r S X e) (drop (suc i) es) ≡ D
       ahead = ap (allToSecond n r S X) (sym d) ∙ h .same
 
-      pub carrying-next : done ≡ true → e .word < 2 ^ n → Carrying T es u (i + 1)
-      carrying-next y small =
-          let f : fits (toSecond n r S X e) ≡ true = sym (p .says) ∙ y in
-          let k = to-second-kept n r S X e (h .kept .table) small (second-sound n r t (h .kept) S (e .word) _ refl) (leb-true _ baseLimit f) in
-          let q : u ≡ numbersOf (toSecond n r S X e) = p .table ∙ cond-true _ t f in
+      pub carrying-next : done ≡ true → Carrying T es u (i + 1)
+      carrying-next y =
+          let q : u ≡ numbersOf (toSecond n r S X e) = p .table ∙ cond-true _ t y in
           record {
-            kept = numbers-kept n r _ k u q;
-            same = ap₂ (λ (U : Table) (j : ℕ). allToSecond n r S U (drop j es)) (numbers-table n r _ k u q) (add-one i) ∙ ahead;
+            kept = numbers-kept n r _ (p .kept y) u q;
+            same = ap₂ (λ (U : Table) (j : ℕ). allToSecond n r S U (drop j es)) (numbers-table n r _ (p .kept y) u q) (add-one i) ∙ ahead;
           }
 
-      pub carrying-stops : done ≡ false → Carried n r D false u
+      pub carrying-stops : done ≡ false → Drafted n r D false u
       carrying-stops y =
           let l = leb-false (length (toSecond n r S X e .base)) baseLimit (sym (p .says) ∙ y) in
           let g = base-grows n r S (toSecond n r S X e) (drop (suc i) es) in
@@ -90,7 +88,7 @@ module _ (n r : ℕ) (S : ℕ → ℕ) where
             table = λ z. absurd (true≢false (sym z));
           }
 
-    pub carrying-ends : length es ≤ i → Carried n r D true t
+    pub carrying-ends : length es ≤ i → Drafted n r D true t
     carrying-ends l =
         let e : X ≡ D = ap (allToSecond n r S X) (sym (drop-of-length-le es l)) ∙ h .same in
         let k : Kept n r D = subst (Kept n r) e (h .kept .table) in
@@ -148,7 +146,7 @@ module _ (n r : ℕ) (S : ℕ → ℕ) where
 
 -- ---- then the table is as the draft
 
-module _ (n r : ℕ) (S : ℕ → ℕ) (t : List ℕ) (h : FlatKept n r t) (es : List Entry) (d : List ℕ) (c : Carried n r (allToSecond n r S (tableFrom n r t) es) true d) where
+module _ (n r : ℕ) (S : ℕ → ℕ) (t : List ℕ) (h : FlatKept n r t) (es : List Entry) (d : List ℕ) (c : Drafted n r (allToSecond n r S (tableFrom n r t) es) true d) where
   abbrev T₀ : Table
   T₀ = tableFrom n r t
 
@@ -199,19 +197,20 @@ module _ (n r : ℕ) (S : ℕ → ℕ) (t : List ℕ) (h : FlatKept n r t) (es :
       buckets2 = sym (header-read n r t1 .1) ∙ ap (λ (X : Table). length (X .level2)) table1 ∙ ap (λ (X : Table). length (X .level2)) (sym table-d) ∙ header-read n r d .1;
     }
 
-    pub drafted : (t2 : List ℕ) → t2 ≡ numbersOf (withBase (tableFrom n r t1) (tableFrom n r d .base)) → Passed t U true t2
+    pub drafted : (t2 : List ℕ) → t2 ≡ numbersOf (withBase (tableFrom n r t1) (tableFrom n r d .base)) → Passed n r t U true t2
     drafted t2 w = record {
       says = c .says;
-      table = w ∙ ap₂ (λ (X Y : Table). numbersOf (withBase X (Y .base))) table1 table-d ∙ ap numbersOf U-is ∙ sym (cond-true (numbersOf U) t (sym (c .says)));
+      kept = c .kept;
+      table = w ∙ ap₂ (λ (X Y : Table). numbersOf (withBase X (Y .base))) table1 table-d ∙ ap numbersOf U-is;
     }
 
 -- the draft starts as the table
 pub from-draft : (n r : ℕ) (S : ℕ → ℕ) (es : List Entry) (t d₀ d : List ℕ) (done b : Bool) → d₀ ≡ t → done ≡ b
-    → Carried n r (allToSecond n r S (tableFrom n r d₀) es) done d → Carried n r (allToSecond n r S (tableFrom n r t) es) b d
-from-draft n r S es t d₀ d done b q y c = subst₂ (λ (l : List ℕ) (x : Bool). Carried n r (allToSecond n r S (tableFrom n r l) es) x d) q y c
+    → Drafted n r (allToSecond n r S (tableFrom n r d₀) es) done d → Drafted n r (allToSecond n r S (tableFrom n r t) es) b d
+from-draft n r S es t d₀ d done b q y c = subst₂ (λ (l : List ℕ) (x : Bool). Drafted n r (allToSecond n r S (tableFrom n r l) es) x d) q y c
 
-pub not-drafted : (n r : ℕ) (t : List ℕ) (U : Table) (d : List ℕ) → Carried n r U false d → Passed t U false t
-not-drafted n r t U d c = record { says = c .says; table = sym (cond-false (numbersOf U) t (sym (c .says))) }
+pub not-drafted : (n r : ℕ) (t : List ℕ) (U : Table) (d : List ℕ) → Drafted n r U false d → Passed n r t U false t
+not-drafted n r t U d c = record { says = c .says; kept = c .kept; table = refl }
 
 -- ---- no word, or one
 
@@ -219,14 +218,14 @@ module _ (n r : ℕ) (S : ℕ → ℕ) (t : List ℕ) (h : FlatKept n r t) (o : 
   abbrev all : List Entry → Table
   all = allToSecond n r S (tableFrom n r t)
 
-  pub pass-none : o .count ≡ 0 → Passed t (all (seconds S o)) true t
+  pub pass-none : o .count ≡ 0 → Passed n r t (all (seconds S o)) true t
   pass-none e =
       let q : tableFrom n r t ≡ all (seconds S o) = ap (λ (k : ℕ). all (map (onSecond S) (entriesFrom k (o .vectors) (o .plans)))) (sym e) in
-      let f : fits (all (seconds S o)) ≡ true = ap fits (sym q) ∙ le-leb _ baseLimit (h .table .short) in
-      record { says = sym f; table = sym (h .numbers) ∙ ap numbersOf q ∙ sym (cond-true _ t f) }
+      let k : Kept n r (all (seconds S o)) = subst (Kept n r) q (h .table) in
+      record { says = sym (le-leb _ baseLimit (k .short)); kept = λ _. k; table = sym (h .numbers) ∙ ap numbersOf q }
 
   pub pass-one : (v : ℕ) (done : Bool) (u : List ℕ) → o .count ≡ 1 → v ≡ S (S (getD (o .vectors) 0 0))
-      → Passed t (toSecond n r S (tableFrom n r t) (record { word = v; plan = getD (o .plans) 0 0 })) done u → Passed t (all (seconds S o)) done u
+      → Passed n r t (toSecond n r S (tableFrom n r t) (record { word = v; plan = getD (o .plans) 0 0 })) done u → Passed n r t (all (seconds S o)) done u
   pass-one v done u e q p =
-      subst (λ (es : List Entry). Passed t (all es) done u)
+      subst (λ (es : List Entry). Passed n r t (all es) done u)
       (ap {B = List Entry} (λ w. record { word = w; plan = getD (o .plans) 0 0 } ∷ []) q ∙ ap (λ (k : ℕ). map (onSecond S) (entriesFrom k (o .vectors) (o .plans))) (sym e)) p

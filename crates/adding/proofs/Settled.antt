@@ -2,13 +2,12 @@
 -- Assumes nothing.
 use Prim.Native.Nat.{ℕ, suc, _+_, _^_, _≤_, _<_}
 use native.Mathlib.Omega.{arith}
-use mathlib.Core.Path.{_≡_, sym, ap, ap₂, _∙_, subst⁻¹}
-use mathlib.Core.Bool.{true, false}
+use mathlib.Core.Path.{_≡_, refl, sym, ap, ap₂, _∙_, subst⁻¹}
+use mathlib.Core.Bool.{true, false, true≢false}
 use mathlib.Core.List.{List}
 use lib.ListN.{length, getD, drop}
 use borrow.Author.Tests.{le-leb, lt-leb}
 use Rattle.lists.specs.Entries.{Entry, insertAll}
-use Rattle.lists.proofs.Tests.{cond-true, cond-false}
 use Rattle.bucket.specs.declared.Bucket.{Bucket}
 use Rattle.bucket.specs.Words.{bucketFrom}
 use Rattle.settle.specs.declared.Settled.{Settled}
@@ -18,9 +17,9 @@ use Rattle.settle.proofs.Sound.{settle-sound, settle-few}
 use Rattle.model.specs.Model.{baseLimit}
 use Rattle.concrete.specs.Table.{Table, thr, index, put, bucketOf, arriveAt}
 use Rattle.concrete.specs.Layout.{numbersOf, bucketPlace, tableFrom}
-use Rattle.adding.specs.Arrivals.{entriesOf, settledAt, storedAt, withSecond, withBase, toSecond, fits, Passed, Kept, FlatKept}
+use Rattle.adding.specs.Arrivals.{entriesOf, settledAt, storedAt, withSecond, withBase, toSecond, Passed, Kept, FlatKept}
 use Rattle.adding.proofs.Tables.{count0, second-here, second-sound, second-stored, second-kept, numbers-table, numbers-kept}
-use Rattle.adding.proofs.Arrivals.{entries-back, insert-all-length}
+use Rattle.adding.proofs.Arrivals.{entries-back, insert-all-length, to-second-kept}
 
 module _ (n r : ℕ) (S : ℕ → ℕ) (m : ℕ) (bs : List Bucket) (e : Entry) (at : ℕ) (t : List ℕ) (s : Settled)
     (a : bucketFrom n r (drop at t) ≡ bucketOf n r S bs (e .word)) (q : s ≡ settledOf m (settledAt n r (thr S) at e t)) where
@@ -69,10 +68,8 @@ module _ (n r : ℕ) (S : ℕ → ℕ) (t : List ℕ) (h : FlatKept n r t) (e : 
   pub arrive-few : e .word < 2 ^ n → s .out .count ≤ suc n
   arrive-few small = out-few n r S m (T .level2) e at t s here q small sound
 
-  pub arrive-full : baseLimit < getD t 2 0 + s .out .count → Passed t U false t
-  arrive-full l =
-      let f : fits U ≡ false = lt-leb (length (U .base)) baseLimit (omega (arith, base-length)) in
-      record { says = sym f; table = sym (cond-false (numbersOf U) t f) }
+  pub arrive-full : baseLimit < getD t 2 0 + s .out .count → Passed n r t U false t
+  arrive-full l = record { says = sym (lt-leb (length (U .base)) baseLimit (omega (arith, base-length))); kept = λ z. absurd (true≢false (sym z)); table = refl }
 
   module _ (small : e .word < 2 ^ n) (t1 : List ℕ) (q1 : t1 ≡ storedAt n r at (s .bucket) t) where
     abbrev T1 : Table
@@ -94,13 +91,13 @@ module _ (n r : ℕ) (S : ℕ → ℕ) (t : List ℕ) (h : FlatKept n r t) (e : 
     arrive-count = sym (count0 n r t1 arrive-stored) ∙ ap (λ (X : Table). length (X .base)) table1 ∙ count0 n r t h
 
     pub arrive-done : (t2 : List ℕ) → t2 ≡ numbersOf (withBase (tableFrom n r t1) (insertAll (entriesOf (s .out)) (tableFrom n r t1 .base)))
-        → getD t 2 0 + s .out .count ≤ baseLimit → Passed t U true t2
+        → getD t 2 0 + s .out .count ≤ baseLimit → Passed n r t U true t2
     arrive-done t2 q2 l =
-        let f : fits U ≡ true = le-leb (length (U .base)) baseLimit (omega (arith, base-length)) in
+        let short : length (U .base) ≤ baseLimit = omega (arith, base-length) in
         record {
-          says = sym f;
+          says = sym (le-leb (length (U .base)) baseLimit short);
+          kept = λ _. to-second-kept n r S T e (h .table) small sound short;
           table = q2
               ∙ ap₂ (λ (X : Table) (es : List Entry). numbersOf (withBase X (insertAll es (X .base)))) table1 (out-is n r S m (T .level2) e at t s here q)
-              ∙ ap (λ (bs : List Bucket). numbersOf (withBase (withSecond T bs) (insertAll (arriveAt n r S (T .level2) e .out) (T .base)))) (bucket-is n r S m (T .level2) e at t s here q)
-              ∙ sym (cond-true (numbersOf U) t f);
+              ∙ ap (λ (bs : List Bucket). numbersOf (withBase (withSecond T bs) (insertAll (arriveAt n r S (T .level2) e .out) (T .base)))) (bucket-is n r S m (T .level2) e at t s here q);
         }

@@ -69,11 +69,6 @@ module _ (n r : ℕ) (S : ℕ → ℕ) where
 abbrev pub fits : Table → Bool
 fits T = leb (length (T .base)) baseLimit
 
--- the words go on if the base list of U, the table after that, is not too long; else the numbers t stay as they were
-pub record Passed (t : List ℕ) (U : Table) (done : Bool) (after : List ℕ) : Type 0 where
-  pub says : done ≡ fits U
-  pub table : after ≡ cond (fits U) (numbersOf U) t
-
 module _ (n r : ℕ) where
   -- what each step keeps: bucket numbers in range, every bucket sound, the base list not too long
   pub record Kept (T : Table) : Type 0 where
@@ -87,8 +82,14 @@ module _ (n r : ℕ) where
     pub table : Kept (tableFrom n r t)
     pub numbers : numbersOf (tableFrom n r t) ≡ t
 
-  -- the words went on in a draft: it holds U, unless the base list is too long
-  pub record Carried (U : Table) (done : Bool) (after : List ℕ) : Type 0 where
+  -- words went on to the table U, if its base list is not too long; else the numbers t stay as they were
+  pub record Passed (t : List ℕ) (U : Table) (done : Bool) (after : List ℕ) : Type 0 where
+    pub says : done ≡ fits U
+    pub kept : done ≡ true → Kept U
+    pub table : after ≡ cond done (numbersOf U) t
+
+  -- the same of a draft, which is of no use where the base list is too long
+  pub record Drafted (U : Table) (done : Bool) (after : List ℕ) : Type 0 where
     pub says : done ≡ fits U
     pub kept : done ≡ true → Kept U
     pub table : done ≡ true → after ≡ numbersOf U

@@ -18,7 +18,7 @@ ghost use Rattle.model.specs.Model.{baseLimit};
 ghost use Rattle.concrete.specs.Layout.{pairsFrom, basePairs, numbersOf};
 ghost use Rattle.concrete.specs.Calls.{rows, solutions, tableOf};
 ghost use Rattle.base.specs.Base.{Pairs};
-ghost use Rattle.adding.specs.Arrivals.{entriesOf, seconds, settledAt, storedAt, withBase, toSecond, allToSecond, takeOver, Passed, Carried, FlatKept, Alike};
+ghost use Rattle.adding.specs.Arrivals.{entriesOf, seconds, settledAt, storedAt, withBase, toSecond, allToSecond, takeOver, Passed, Drafted, FlatKept, Alike};
 
 // v with its plan settles in the bucket at a place. Nothing is written.
 pub(crate) fn settled_at(t: &[u64], at: usize, v: u64, plan: u64) -> Settled
@@ -67,7 +67,7 @@ pub(crate) fn enter_base(t: &mut [u64], out: Outgoing)
 // The word v arrives at level 2, and what leaves that at the base list. False if that has no room: then nothing is written.
 pub(crate) fn arrive_second(t: &mut [u64], v: u64, plan: u64) -> bool
     requires { ⌜ FlatKept rows solutions (now t) ⌝ }
-    ensures { λ r. ⌜ Passed (now (t .entry)) (toSecond rows solutions mixOf (tableOf (now (t .entry))) (record { word = v; plan = plan })) r (now (t .exit)) ⌝ }
+    ensures { λ r. ⌜ Passed rows solutions (now (t .entry)) (toSecond rows solutions mixOf (tableOf (now (t .entry))) (record { word = v; plan = plan })) r (now (t .exit)) ⌝ }
 {
     let at = sound::second_place(t, v);
     let s = settled_at(t, at, v, plan);
@@ -85,7 +85,7 @@ pub(crate) fn arrive_second(t: &mut [u64], v: u64, plan: u64) -> bool
 // The words that leave level 1 arrive at level 2 one after the other. False as soon as the base list has no room.
 pub(crate) fn carry(t: &mut [u64], out: Outgoing) -> bool
     requires { do ⌜ FlatKept rows solutions (now t) × (out .count ≤ (← ⟦Outgoing::MOST⟧)) ⌝ }
-    ensures { λ r. ⌜ Carried rows solutions (allToSecond rows solutions mixOf (tableOf (now (t .entry))) (seconds mixOf out)) r (now (t .exit)) ⌝ }
+    ensures { λ r. ⌜ Drafted rows solutions (allToSecond rows solutions mixOf (tableOf (now (t .entry))) (seconds mixOf out)) r (now (t .exit)) ⌝ }
 {
     let vectors = out.vectors;
     let plans = out.plans;
@@ -129,7 +129,7 @@ pub(crate) fn take_base(t: &mut [u64], from: &[u64])
 // The words that leave level 1 go on, each tried on a draft first; then what they changed is written.
 pub(crate) fn pass_drafted(t: &mut [u64], draft: &mut [u64], out: Outgoing) -> bool
     requires { do ⌜ FlatKept rows solutions (now t) × ((length (now draft) ≡ length (now t)) × (out .count ≤ (← ⟦Outgoing::MOST⟧))) ⌝ }
-    ensures { λ r. ⌜ Passed (now (t .entry)) (allToSecond rows solutions mixOf (tableOf (now (t .entry))) (seconds mixOf out)) r (now (t .exit)) ⌝ }
+    ensures { λ r. ⌜ Passed rows solutions (now (t .entry)) (allToSecond rows solutions mixOf (tableOf (now (t .entry))) (seconds mixOf out)) r (now (t .exit)) ⌝ }
 {
     bucket::put(draft, t);
     if carry(draft, out) {
@@ -143,7 +143,7 @@ pub(crate) fn pass_drafted(t: &mut [u64], draft: &mut [u64], out: Outgoing) -> b
 // The words that leave level 1 go on, or nothing is written. One word alone needs no draft.
 pub(crate) fn pass_on(t: &mut [u64], out: Outgoing) -> bool
     requires { do ⌜ FlatKept rows solutions (now t) × (out .count ≤ (← ⟦Outgoing::MOST⟧)) ⌝ }
-    ensures { λ r. ⌜ Passed (now (t .entry)) (allToSecond rows solutions mixOf (tableOf (now (t .entry))) (seconds mixOf out)) r (now (t .exit)) ⌝ }
+    ensures { λ r. ⌜ Passed rows solutions (now (t .entry)) (allToSecond rows solutions mixOf (tableOf (now (t .entry))) (seconds mixOf out)) r (now (t .exit)) ⌝ }
 {
     let count = out.count;
     if count == 0 {

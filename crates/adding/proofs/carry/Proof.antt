@@ -1,11 +1,10 @@
 -- `adding::carry` meets its contract.
 -- Assumes nothing.
-use Prim.Native.Nat.{ℕ, _-_, _^_, _≤_, _<_}
+use Prim.Native.Nat.{_-_, _≤_}
 use native.Mathlib.Omega.{arith}
-use mathlib.Core.Path.{_≡_, refl, subst⁻¹}
+use mathlib.Core.Path.{_≡_, refl}
 use lib.ListN.{length}
 use Rattle.hash.specs.Mix.{mixOf}
-use Rattle.hash.proofs.Inverse.{mix-lt}
 use Rattle.concrete.specs.Calls.{tableOf}
 use Rattle.adding.specs.Arrivals.{seconds}
 use Rattle.adding.proofs.Passing.{Carrying, seconds-next, seconds-length, carrying-next, carrying-stops, carrying-ends}
@@ -60,8 +59,7 @@ loop-again c =
       search needs,
       (
         search needs,
-        carrying-next 64 8 mixOf _ _ _ _ (l .inv .1 .1) _ (seconds-next mixOf o (l .i) (a .before .before .before .loop-test .taken) _ e) _ _ (a .arrive-second .ensures) (c .if1 .taken)
-            (subst⁻¹ (λ (x : ℕ). x < 2 ^ 64) e (mix-lt _)),
+        carrying-next 64 8 mixOf _ _ _ _ (l .inv .1 .1) _ (seconds-next mixOf o (l .i) (a .before .before .before .loop-test .taken) _ e) _ _ (a .arrive-second .ensures) (c .if1 .taken),
       ),
     )
 

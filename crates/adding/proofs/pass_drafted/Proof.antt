@@ -6,7 +6,7 @@ use mathlib.Core.List.{List}
 use Rattle.lists.specs.Entries.{Entry}
 use Rattle.hash.specs.Mix.{mixOf}
 use Rattle.concrete.specs.Calls.{tableOf}
-use Rattle.adding.specs.Arrivals.{seconds, allToSecond, FlatKept, Carried}
+use Rattle.adding.specs.Arrivals.{seconds, allToSecond, FlatKept, Drafted}
 use Rattle.adding.proofs.Passing.{draft-alike, drafted-alike, drafted, from-draft, not-drafted}
 use borrow.Author.Needs.{needs}
 use Rattle.adding.proofs.pass_drafted.Statement.{statement}
@@ -29,7 +29,7 @@ moved s = seconds mixOf (s .args .out)
 
 -- the words go on, as the draft shows
 on : (c : tie.Then1) → let s = c .before .before .before .before .before .before .before .before .before .before .before .before in
-    Carried 64 8 (allToSecond 64 8 mixOf (tableOf (s .args .t .now)) (moved s)) true (c .before .before .before .carry .last .0)
+    Drafted 64 8 (allToSecond 64 8 mixOf (tableOf (s .args .t .now)) (moved s)) true (c .before .before .before .carry .last .0)
 on c = from-draft 64 8 mixOf (moved (c .before .before .before .before .before .before .before .before .before .before .before .before)) _ _ _ _ _ (c .before .before .before .before .before .before .before .put .ensures) (c .if1 .taken) (c .before .before .before .carry .ensures)
 
 take-buckets-requires : tie.Need-take-buckets-requires
