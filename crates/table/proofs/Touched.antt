@@ -17,8 +17,8 @@ use Rattle.bucket.specs.Words.{bucketWords, wordsOf, bucketFrom}
 use Rattle.settle.specs.Settle.{planOf}
 use Rattle.concrete.specs.Table.{Table, second, index, put, bucketOf, holds, planIn, touch}
 use Rattle.concrete.specs.Layout.{basePairs, pairsFrom, numbersOf, tableFrom, bucketPlace}
-use Rattle.concrete.proofs.Numbers.{ShapedTable, Laid, from-part, write-first, write-second, write-base, forth}
-use Rattle.sound.proofs.Shape.{Shape, length-first, length-second, first-lt, second-lt, first-bucket, second-bucket}
+use Rattle.concrete.proofs.Numbers.{ShapedTable, Laid, header-read, from-part, write-first, write-second, write-base, forth}
+use Rattle.sound.proofs.Shape.{Shape, first-lt, second-lt, first-bucket, second-bucket}
 use Rattle.base.specs.Base.{Pairs}
 use Rattle.table.proofs.Stretch.{stretch}
 
@@ -96,7 +96,7 @@ module _ (n r : ℕ) (S : ℕ → ℕ) (xs : List ℕ) (s : Shape n r xs) where
 
     -- the base list is the last of the numbers
     base-at : bucketPlace n r (length (T .level1) + length (T .level2)) ≡ bucketPlace n r (b1 + b2)
-    base-at = ap₂ (λ (i j : ℕ). bucketPlace n r (i + j)) (length-first n r xs) (length-second n r xs)
+    base-at = ap₂ (λ (i j : ℕ). bucketPlace n r (i + j)) (header-read n r xs .0) (header-read n r xs .1)
 
     based : (es : List Entry) → numbersOf (record { level1 = T .level1; level2 = T .level2; base = es; count = T .count }) ≡ set (take (bucketPlace n r (b1 + b2)) xs ++ basePairs es) 2 (length es)
     based es =
@@ -148,7 +148,7 @@ module _ (n r : ℕ) (S : ℕ → ℕ) (xs : List ℕ) (s : Shape n r xs) where
           → (ys : List ℕ) → ys ≡ wordsOf (f w (bucketFrom n r (take (p + W - p) (drop p xs)))) → putMid p (p + W - p) xs ys ≡ numbersOf touched
       touched-first on p e ys q =
           let b : Bucket = f w (bucketOf n r S (T .level1) w) in
-          let len = length-first n r xs in
+          let len = header-read n r xs .0 in
           written touched b (index S (length (T .level1)) w) p ys (e ∙ ap (λ (m : ℕ). bucketPlace n r (index S m w)) (sym len))
           (q ∙ ap (λ (c : Bucket). wordsOf (f w c)) (bucket-here p (index S b1 w) e ∙ sym (first-bucket n r xs s S w)))
           (ap numbersOf (cond-true _ _ on) ∙ write-first n r T h (index S (length (T .level1)) w) b (subst⁻¹ (λ (m : ℕ). index S m w < m) len (first-lt n r xs s S w)))
@@ -161,8 +161,8 @@ module _ (n r : ℕ) (S : ℕ → ℕ) (xs : List ℕ) (s : Shape n r xs) where
             → (ys : List ℕ) → ys ≡ wordsOf (f v (bucketFrom n r (take (p + W - p) (drop p xs)))) → putMid p (p + W - p) xs ys ≡ numbersOf touched
         touched-second on p e ys q =
             let b : Bucket = f v (bucketOf n r S (T .level2) v) in
-            let len1 = length-first n r xs in
-            let len = length-second n r xs in
+            let len1 = header-read n r xs .0 in
+            let len = header-read n r xs .1 in
             written touched b (length (T .level1) + index S (length (T .level2)) v) p ys
             (e ∙ ap₂ (λ (i m : ℕ). bucketPlace n r (i + index S m v)) (sym len1) (sym len))
             (q ∙ ap (λ (c : Bucket). wordsOf (f v c)) (bucket-here p (b1 + index S b2 v) e ∙ sym (second-bucket n r xs s S v)))
