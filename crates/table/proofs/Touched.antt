@@ -17,24 +17,30 @@ use Rattle.bucket.specs.Words.{bucketWords, wordsOf, bucketFrom}
 use Rattle.settle.specs.Settle.{planOf}
 use Rattle.concrete.specs.Table.{Table, second, index, put, bucketOf, holds, planIn, touch}
 use Rattle.concrete.specs.Layout.{basePairs, pairsFrom, numbersOf, tableFrom, bucketPlace}
-use Rattle.concrete.proofs.Numbers.{ShapedTable, Laid, header-read, from-part, write-first, write-second, write-base, forth}
+use Rattle.concrete.proofs.Numbers.{ShapedTable, Laid, write-count, header-read, from-part, write-first, write-second, write-base, forth}
 use Rattle.sound.proofs.Shape.{Shape, first-lt, second-lt, first-bucket, second-bucket}
 use Rattle.base.specs.Base.{Pairs}
 use Rattle.table.proofs.Stretch.{stretch}
 
--- the live count is another
-pub touch-count : (n r : ℕ) (S : ℕ → ℕ) (T : Table) (w : ℕ) (f : ℕ → Bucket → Bucket) (g : ℕ → List Entry → List Entry) (c : ℕ)
-    → numbersOf (touch n r S T w f g c) ≡ set (numbersOf (touch n r S T w f g (T .count))) 3 c
-unfolding numbersOf
-touch-count n r S T w f g c =
-    cases (holds n r S (T .level1) w) (λ t. rw t refl)
-    (λ t. rw t (cases (holds n r S (T .level2) (second S w)) (λ u. rw u refl) (λ u. rw u refl)))
+-- ---- the live count
 
-pub count-kept : (n r : ℕ) (S : ℕ → ℕ) (T : Table) (w : ℕ) (f : ℕ → Bucket → Bucket) (g : ℕ → List Entry → List Entry) (c : ℕ) → getD (numbersOf (touch n r S T w f g c)) 3 0 ≡ c
-unfolding numbersOf
-count-kept n r S T w f g c =
-    cases (holds n r S (T .level1) w) (λ t. rw t refl)
-    (λ t. rw t (cases (holds n r S (T .level2) (second S w)) (λ u. rw u refl) (λ u. rw u refl)))
+module _ (n r : ℕ) (S : ℕ → ℕ) (T : Table) (w : ℕ) (f : ℕ → Bucket → Bucket) (g : ℕ → List Entry → List Entry) (c : ℕ) where
+  abbrev kept : Table
+  kept = touch n r S T w f g (T .count)
+
+  touch-at : touch n r S T w f g c ≡ record { level1 = kept .level1; level2 = kept .level2; base = kept .base; count = c }
+  touch-at =
+      cases (holds n r S (T .level1) w) (λ t. rw t refl)
+      (λ t. rw t (cases (holds n r S (T .level2) (second S w)) (λ u. rw u refl) (λ u. rw u refl)))
+
+  pub touch-count : numbersOf (touch n r S T w f g c) ≡ set (numbersOf kept) 3 c
+  touch-count = ap numbersOf touch-at ∙ write-count n r kept c
+
+  pub count-kept : getD (numbersOf (touch n r S T w f g c)) 3 0 ≡ c
+  unfolding numbersOf
+  count-kept = ap (λ (U : Table). getD (numbersOf U) 3 0) touch-at
+
+-- ---- the parts of the numbers
 
 module _ (n r : ℕ) (S : ℕ → ℕ) (xs : List ℕ) (s : Shape n r xs) where
   abbrev T : Table

@@ -2,7 +2,7 @@
 // and withdrawal. Each is an equation with a definition of concrete (specs/Calls.antt): the answer, causes in document 01's order, and
 // every number of the table afterwards. specs/Ready.antt has what every call tests first; the functions by word, which ask for a table
 // that passes, are for callers that know it does. proofs/Touched.antt has what one touched bucket or base list does to the numbers.
-// Cites concrete, sound (shape, soundness, places), base, bucket and identifier.
+// Cites concrete, sound (shape, soundness, places), base, bucket and identifier. The C entries and the line program build on it.
 use answer::Answer;
 use base::Found;
 use bucket::Bucket;
@@ -58,10 +58,10 @@ pub(crate) fn put_header(t: &mut [u64], b1: u64, b2: u64)
     requires { do ⌜ (← ⟦Table::HEADER⟧) ≤ length (now t) ⌝ }
     ensures { λ _. ⌜ now (t .exit) ≡ b1 ∷ b2 ∷ 0 ∷ 0 ∷ drop header (now (t .entry)) ⌝ }
 {
-    t[0] = b1;
-    t[1] = b2;
-    t[2] = 0;
-    t[3] = 0;
+    t[Table::BUCKETS_1_AT] = b1;
+    t[Table::BUCKETS_2_AT] = b2;
+    t[Table::BASE_COUNT_AT] = 0;
+    t[Table::LIVE_COUNT_AT] = 0;
 }
 
 // The numbers of an opened table: header, empty buckets, base pairs 0.
@@ -115,7 +115,7 @@ pub fn plan_in(t: &[u64], w: u64) -> Found
         return plan_of(sound::bucket_at(t, sound::second_place(t, v)), v);
     }
     let a = sound::base_place(t);
-    let count = t[2] as usize;
+    let count = t[Table::BASE_COUNT_AT] as usize;
     base::find(&t[a..], count, v)
 }
 
@@ -177,8 +177,8 @@ pub(crate) fn touch(t: &mut [u64], w: u64, edit: Edit)
         return;
     }
     let a = sound::base_place(t);
-    let count = t[2] as usize;
-    t[2] = edit_base(&mut t[a..], count, v, edit) as u64;
+    let count = t[Table::BASE_COUNT_AT] as usize;
+    t[Table::BASE_COUNT_AT] = edit_base(&mut t[a..], count, v, edit) as u64;
 }
 
 // A query for the word w.
@@ -217,7 +217,7 @@ pub fn withdraw_word(t: &mut [u64], w: u64) -> Answer
     match found {
         Found::Plan(p) => {
             touch(t, w, Edit::Withdraw);
-            t[3] = t[3] - 1;
+            t[Table::LIVE_COUNT_AT] = t[Table::LIVE_COUNT_AT] - 1;
             Answer::Accepted(p)
         }
         Found::Nothing => Answer::NotLive,
