@@ -4,3 +4,4 @@ pub mod Tables
 pub mod Arrivals
 pub mod Settled
 pub mod Passing
+pub mod Added

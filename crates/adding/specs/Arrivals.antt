@@ -4,16 +4,19 @@
 use Prim.Native.Nat.{ℕ, zero, suc, _+_, _≤_, _<_}
 use mathlib.Core.Path.{_≡_}
 use mathlib.Core.Bool.{Bool, true, cond}
+use mathlib.Core.Option.{none}
 use mathlib.Core.List.{List, [], _∷_, _++_, map}
 use lib.Dec.{leb}
 use lib.ListN.{length, getD, take, drop}
 use Rattle.lists.specs.Entries.{Entry, insertAll}
+use Rattle.hash.specs.Mix.{mixOf}
 use Rattle.bucket.specs.declared.Bucket.{Bucket}
 use Rattle.bucket.specs.Words.{bucketWords, wordsOf, bucketFrom}
 use Rattle.settle.specs.declared.Outgoing.{Outgoing}
 use Rattle.settle.specs.Settle.{SoundBucket, Settlement, settle}
 use Rattle.model.specs.Model.{baseLimit}
-use Rattle.concrete.specs.Table.{Table, Placed, onSecond, put, nth, bucketOf, arriveAt}
+use Rattle.concrete.specs.Table.{Table, Placed, onSecond, put, nth, bucketOf, arriveAt, addedTo}
+use Rattle.concrete.specs.Calls.{rows, solutions, tableOf, Outcome, joined}
 use Rattle.concrete.specs.Layout.{inRange, numbersOf, tableFrom}
 
 -- k words with their plans, from the front of two lists
@@ -100,3 +103,7 @@ module _ (n r : ℕ) where
     pub other : FlatKept u
     pub buckets1 : getD t 0 0 ≡ getD u 0 0
     pub buckets2 : getD t 1 0 ≡ getD u 1 0
+
+-- what an add of the word e, which is not live, does at 64 rows and 8 solution words
+abbrev pub entering : List ℕ → Entry → Outcome
+entering t e = joined t (addedTo rows solutions mixOf (tableOf t) e) none

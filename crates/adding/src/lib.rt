@@ -2,11 +2,14 @@
 // the base list has room; then only the stretches of the buckets that changed, the base list and the header are.
 // specs/Arrivals.antt has the steps as the code goes about them, proofs/Arrivals.antt that they lead to the table of concrete's `addedTo`.
 // Cites settle (one bucket), base, sound (places, the tests) and table (the query). The library and the line program build on it.
+use answer::Answer;
+use base::Found;
 use bucket::Bucket;
+use identifier::Read;
 use settle::{Outgoing, Settled};
 use sound::Table;
 ghost use mathlib.Core.Path.{_≡_};
-ghost use mathlib.Core.Bool.{true};
+ghost use mathlib.Core.List.{[]};
 ghost use Prim.Native.Nat.{_+_, _≤_};
 ghost use lib.ListN.{length, getD, drop};
 ghost use Rattle.lists.specs.Entries.{words, insertAll};
@@ -14,11 +17,12 @@ ghost use Rattle.hash.specs.Mix.{mixOf};
 ghost use Rattle.bucket.specs.Words.{bucketFrom};
 ghost use Rattle.settle.specs.Settle.{SoundBucket, thresholdOf, settle};
 ghost use Rattle.settle.specs.Outgoing.{settledOf};
-ghost use Rattle.model.specs.Model.{baseLimit};
+ghost use Rattle.model.specs.Model.{baseLimit, add};
 ghost use Rattle.concrete.specs.Layout.{pairsFrom, basePairs, numbersOf};
-ghost use Rattle.concrete.specs.Calls.{rows, solutions, tableOf};
+ghost use Rattle.concrete.specs.Calls.{rows, solutions, tableOf, served, call};
 ghost use Rattle.base.specs.Base.{Pairs};
-ghost use Rattle.adding.specs.Arrivals.{entriesOf, seconds, settledAt, storedAt, withBase, toSecond, allToSecond, takeOver, Passed, Drafted, FlatKept, Alike};
+ghost use Rattle.table.specs.Ready.{Ready};
+ghost use Rattle.adding.specs.Arrivals.{entriesOf, seconds, settledAt, storedAt, withBase, toSecond, allToSecond, takeOver, Passed, Drafted, FlatKept, Alike, entering};
 
 // v with its plan settles in the bucket at a place. Nothing is written.
 pub(crate) fn settled_at(t: &[u64], at: usize, v: u64, plan: u64) -> Settled
@@ -58,10 +62,10 @@ pub(crate) fn enter_base(t: &mut [u64], out: Outgoing)
     ensures { λ _. ⌜ now (t .exit) ≡ numbersOf (withBase (tableOf (now (t .entry))) (insertAll (entriesOf out) (tableOf (now (t .entry)) .base))) ⌝ }
 {
     let a = sound::base_place(t);
-    let count = t[2] as usize;
+    let count = t[Table::BASE_COUNT_AT] as usize;
     let more = out.count;
     insert_all(&mut t[a..], count, out);
-    t[2] = (count + more) as u64;
+    t[Table::BASE_COUNT_AT] = (count + more) as u64;
 }
 
 // The word v arrives at level 2, and what leaves that at the base list. False if that has no room: then nothing is written.
@@ -73,7 +77,7 @@ pub(crate) fn arrive_second(t: &mut [u64], v: u64, plan: u64) -> bool
     let s = settled_at(t, at, v, plan);
     let out = s.out;
     let more = out.count as u64;
-    if Table::BASE_ENTRIES < t[2] + more {
+    if Table::BASE_ENTRIES < t[Table::BASE_COUNT_AT] + more {
         return false;
     }
     let b = s.bucket;
@@ -123,7 +127,7 @@ pub(crate) fn take_base(t: &mut [u64], from: &[u64])
 {
     let a = sound::base_place(t);
     bucket::put(&mut t[a..], &from[a..]);
-    t[2] = from[2];
+    t[Table::BASE_COUNT_AT] = from[Table::BASE_COUNT_AT];
 }
 
 // The words that leave level 1 go on, each tried on a draft first; then what they changed is written.
@@ -157,4 +161,45 @@ pub(crate) fn pass_on(t: &mut [u64], out: Outgoing) -> bool
     let n = t.len();
     let mut draft = [0u64; Table::LONGEST];
     pass_drafted(t, &mut draft[..n], out)
+}
+
+// A word that is not live arrives at level 1, and what leaves that goes on.
+pub(crate) fn enter(t: &mut [u64], w: u64, plan: u64) -> Answer
+    requires { ⌜ Ready (now t) ⌝ }
+    ensures { λ r. ⌜ (r ≡ entering (now (t .entry)) (record { word = w; plan = plan }) .answer) × (now (t .exit) ≡ entering (now (t .entry)) (record { word = w; plan = plan }) .table) ⌝ }
+{
+    let at = sound::first_place(t, w);
+    let s = settled_at(t, at, w, plan);
+    let out = s.out;
+    if pass_on(t, out) {
+        let b = s.bucket;
+        store_at(t, at, b);
+        let count = t[Table::LIVE_COUNT_AT] + 1;
+        t[Table::LIVE_COUNT_AT] = count;
+        return Answer::Accepted(count);
+    }
+    Answer::Full
+}
+
+// An add of the word w.
+pub fn add_word(t: &mut [u64], w: u64, plan: u64) -> Answer
+    requires { ⌜ Ready (now t) ⌝ }
+    ensures { λ r. ⌜ (r ≡ served (now (t .entry)) w (add [] plan) .answer) × (now (t .exit) ≡ served (now (t .entry)) w (add [] plan) .table) ⌝ }
+{
+    let found = table::plan_in(t, w);
+    match found {
+        Found::Plan(p) => Answer::Live(p),
+        Found::Nothing => enter(t, w, plan),
+    }
+}
+
+// Add: accepted, the live count.
+pub fn add(t: &mut [u64], id: &[u8], plan: u8) -> Answer
+    ensures { λ r. ⌜ (r ≡ call (now (t .entry)) (add (now (id .entry)) plan) .answer) × (now (t .exit) ≡ call (now (t .entry)) (add (now (id .entry)) plan) .table) ⌝ }
+{
+    let admitted = table::admit(t, id);
+    match admitted {
+        Read::Word(w) => add_word(t, w, plan as u64),
+        Read::Refused(a) => a,
+    }
 }
