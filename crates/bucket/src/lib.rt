@@ -242,7 +242,7 @@ impl Bucket {
 }
 
 // The words of `from` into `to`.
-pub(crate) fn put(to: &mut [u64], from: &[u64])
+pub fn put(to: &mut [u64], from: &[u64])
     requires { ⌜ length (now to) ≡ length (now from) ⌝ }
     ensures { λ _. ⌜ now (to .exit) ≡ now (from .entry) ⌝ }
 {

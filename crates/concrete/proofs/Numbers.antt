@@ -21,7 +21,7 @@ use Rattle.concrete.specs.Layout.{header, baseNumbers, levelNumbers, pai
 
 -- ---- pairs
 
-back-pairs : (es : List Entry) (rest : List ℕ) → pairsFrom (length es) (pairNumbers es ++ rest) ≡ es
+pub back-pairs : (es : List Entry) (rest : List ℕ) → pairsFrom (length es) (pairNumbers es ++ rest) ≡ es
 back-pairs [] rest = refl
 back-pairs (e ∷ es) rest = ap {B = List Entry} (λ l. e ∷ l) (back-pairs es rest)
 

@@ -42,7 +42,7 @@ found-none none e = refl
 
 module _ (t : List ℕ) (w : ℕ) (i : List ℕ) (f : Found) (e : f ≡ foundOf (planIn t w)) where
   module _ (p : ℕ) (l : f ≡ Plan p) where
-    live : planIn t w ≡ some p
+    pub live : planIn t w ≡ some p
     live = found-some (planIn t w) p (sym e ∙ l)
 
     pub query-live : served t w (query i) ≡ record { answer = Accepted p; table = t }
@@ -69,7 +69,7 @@ module _ (t : List ℕ) (w : ℕ) (i : List ℕ) (f : Found) (e : f ≡ foundOf 
         omega (arith, ap (λ (l : List ℕ). getD l 3 0) y, count-kept rows solutions mixOf (tableOf t) w (onBucket Withdraw) (onBase Withdraw) (tableOf t .count), st .stands .counted)
 
   module _ (l : f ≡ Nothing) where
-    gone : planIn t w ≡ none
+    pub gone : planIn t w ≡ none
     gone = found-none (planIn t w) (sym e ∙ l)
 
     pub query-gone : served t w (query i) ≡ turnedDown NotLive t

@@ -103,7 +103,7 @@ pub(crate) fn plan_of(b: Bucket, v: u64) -> Found
 }
 
 // The plan of w, if it is live: at level 1 if that holds it, else at level 2 if that holds it, else in the base list.
-pub(crate) fn plan_in(t: &[u64], w: u64) -> Found
+pub fn plan_in(t: &[u64], w: u64) -> Found
     requires { ⌜ Ready (now t) ⌝ }
     ensures { λ r. ⌜ r ≡ foundOf (planIn (now (t .entry)) w) ⌝ }
 {
@@ -225,7 +225,7 @@ pub fn withdraw_word(t: &mut [u64], w: u64) -> Answer
 }
 
 // The word that a call is for, or the answer that turns it down: causes 1, 2, 4, 5.
-pub(crate) fn admit(t: &[u64], id: &[u8]) -> Read
+pub fn admit(t: &[u64], id: &[u8]) -> Read
     ensures { λ r. ⌜ r ≡ admitted (now (t .entry)) (readOf (now (id .entry))) ⌝ }
 {
     let read = Identifier::read(id);

@@ -1,0 +1,187 @@
+-- A word that is not live arrives at level 1: what that leaves is document 01's add. At every number n of rows and r of solution words, and for
+-- every mix S; then at 64 and 8.
+-- Assumes nothing.
+use Prim.Native.Nat.{ℕ, suc, _+_, _*_, _^_, _≤_, _<_}
+use native.Mathlib.Numerals.{add-one}
+use native.Mathlib.Omega.{arith}
+use mathlib.Core.Path.{_≡_, refl, sym, ap, ap₂, _∙_, subst}
+use mathlib.Core.Bool.{Bool, true, false, cond}
+use mathlib.Core.List.{List, [], _∷_, map}
+use mathlib.Core.Option.{Option, none, some}
+use lib.Dec.{ltb, leb}
+use lib.ListN.{length, getD, set, drop, length-set}
+use lib.Count.{ones-le}
+use borrow.Author.Tests.{leb-true, leb-false, le-ltb, lt-ltb}
+use Rattle.answer.specs.declared.Answer.the-variants.{Accepted, Live, Full}
+use Rattle.lists.specs.Entries.{Entry}
+use Rattle.lists.proofs.Tests.{cond-true, cond-false, and-one, and-two}
+use Rattle.hash.specs.Mix.{mixOf}
+use Rattle.bucket.specs.declared.Bucket.{Bucket}
+use Rattle.bucket.specs.Words.{bucketWords, bucketFrom}
+use Rattle.settle.specs.declared.Settled.{Settled}
+use Rattle.settle.specs.Settle.{SoundBucket}
+use Rattle.settle.specs.Outgoing.{settledOf}
+use Rattle.model.specs.Model.{baseLimit, add}
+use Rattle.concrete.specs.Table.{Table, thr, index, onSecond, put, nth, bucketOf, arriveAt, addedTo}
+use Rattle.concrete.specs.Layout.{header, inRange, numbersOf, bucketPlace, tableFrom}
+use Rattle.concrete.specs.Calls.{rows, solutions, tableOf, planIn, Outcome, turnedDown, joined, served}
+use Rattle.concrete.specs.Content.{occupied}
+use Rattle.concrete.specs.Test.{shapeTest}
+use Rattle.concrete.proofs.Numbers.{header-read, forth}
+use Rattle.table.specs.Ready.{Ready}
+use Rattle.table.proofs.Places.{shape-of, laid-of}
+use Rattle.adding.specs.Arrivals.{entriesOf, seconds, settledAt, storedAt, withFirst, allToSecond, Passed, Kept, FlatKept, entering}
+use Rattle.adding.proofs.Tables.{first-room, first-here, first-sound, first-stored, first-kept, numbers-table, numbers-kept}
+use Rattle.adding.proofs.Arrivals.{all-law, add-law}
+use Rattle.adding.proofs.Settled.{bucket-is, out-is, out-few, bucket-sound}
+
+pub passed-as : (n r : ℕ) (t : List ℕ) (U : Table) (done b : Bool) (u : List ℕ) → done ≡ b → Passed n r t U done u → Passed n r t U b u
+passed-as n r t U done b u y g = subst (λ (x : Bool). Passed n r t U x u) y g
+
+module _ (n r : ℕ) (S : ℕ → ℕ) (t : List ℕ) (h : FlatKept n r t) (e : Entry) (small : e .word < 2 ^ n) (at : ℕ) (p : at ≡ bucketPlace n r (index S (getD t 0 0) (e .word)))
+    (m : ℕ) (s : Settled) (q : s ≡ settledOf m (settledAt n r (thr S) at e t)) where
+  abbrev T : Table
+  T = tableFrom n r t
+
+  abbrev U : Table
+  U = addedTo n r S T e
+
+  -- the table once the words that left level 1 have gone on
+  abbrev D : Table
+  D = allToSecond n r S T (seconds S (s .out))
+
+  here : bucketFrom n r (drop at t) ≡ bucketOf n r S (T .level1) (e .word)
+  here = first-here n r t h S (e .word) at p
+
+  sound : SoundBucket n r (bucketOf n r S (T .level1) (e .word))
+  sound = first-sound n r t h S (e .word) at p
+
+  pub enter-few : s .out .count ≤ suc n
+  enter-few = out-few n r S m (T .level1) e at t s here q small sound
+
+  U-is : U ≡ record { level1 = arriveAt n r S (T .level1) e .buckets; level2 = D .level2; base = D .base; count = suc (T .count) }
+  U-is =
+      add-law n r S T e
+      ∙ ap (λ (es : List Entry). let X : Table = allToSecond n r S T (map (onSecond S) es) in record { level1 = arriveAt n r S (T .level1) e .buckets; level2 = X .level2; base = X .base; count = suc (T .count) })
+      (sym (out-is n r S m (T .level1) e at t s here q))
+
+  -- the words did not go on
+  pub enter-full : (t1 : List ℕ) → Passed n r t D false t1 → (ltb baseLimit (length (U .base)) ≡ true) × (t1 ≡ t)
+  enter-full t1 g = (lt-ltb baseLimit (length (U .base)) (omega (arith, leb-false (length (D .base)) baseLimit (sym (g .says)), ap (λ (X : Table). length (X .base)) U-is)), g .table)
+
+  -- or they did: then the bucket is stored, and the live count rises
+  module _ (t1 : List ℕ) (g : Passed n r t D true t1) where
+    kept-D : Kept n r D
+    kept-D = g .kept refl
+
+    kept1 : FlatKept n r t1
+    kept1 = numbers-kept n r D kept-D t1 (g .table)
+
+    table1 : tableFrom n r t1 ≡ D
+    table1 = numbers-table n r D kept-D t1 (g .table)
+
+    first-same : D .level1 ≡ T .level1
+    first-same = ap (λ (X : Table). X .level1) (all-law n r S T (seconds S (s .out)))
+
+    count-same : D .count ≡ T .count
+    count-same = ap (λ (X : Table). X .count) (all-law n r S T (seconds S (s .out)))
+
+    place1 : at ≡ bucketPlace n r (index S (getD t1 0 0) (e .word))
+    place1 =
+        p ∙ ap (λ (k : ℕ). bucketPlace n r (index S k (e .word)))
+        (sym (header-read n r t .0) ∙ ap (λ (bs : List Bucket). length bs) (sym first-same) ∙ ap (λ (X : Table). length (X .level1)) (sym table1) ∙ header-read n r t1 .0)
+
+    pub enter-room : at + bucketWords n r ≤ length t1
+    enter-room = first-room n r t1 kept1 S (e .word) at place1
+
+    module _ (t2 : List ℕ) (w : t2 ≡ storedAt n r at (s .bucket) t1) where
+      abbrev E : Table
+      E = withFirst D (arriveAt n r S (T .level1) e .buckets)
+
+      t2-is : t2 ≡ numbersOf E
+      t2-is =
+          w ∙ first-stored n r t1 kept1 S (e .word) at place1 (s .bucket)
+          ∙ ap (λ (X : Table). numbersOf (withFirst X (put S (X .level1) (e .word) (s .bucket)))) table1
+          ∙ ap (λ (bs : List Bucket). numbersOf (withFirst D (put S bs (e .word) (s .bucket)))) first-same
+          ∙ ap (λ (bs : List Bucket). numbersOf (withFirst D bs)) (bucket-is n r S m (T .level1) e at t s here q)
+
+      pub enter-count : getD t2 3 0 ≡ T .count
+      unfolding numbersOf
+      enter-count = ap (λ (l : List ℕ). getD l 3 0) t2-is ∙ count-same
+
+      pub enter-long : 3 < length t2
+      unfolding numbersOf
+      enter-long = omega (arith, ap (λ (l : List ℕ). length l) t2-is)
+
+      pub enter-done : (ltb baseLimit (length (U .base)) ≡ false) × (U .count ≡ getD t2 3 0 + 1) × (numbersOf U ≡ set t2 3 (getD t2 3 0 + 1))
+      unfolding numbersOf
+      enter-done =
+          let c : suc (T .count) ≡ getD t2 3 0 + 1 = omega (arith, enter-count) in (
+            le-ltb baseLimit (length (U .base)) (omega (arith, kept-D .short, ap (λ (X : Table). length (X .base)) U-is)),
+            c,
+            ap numbersOf U-is ∙ sym (ap₂ (λ (l : List ℕ) (k : ℕ). set l 3 k) t2-is (sym c)),
+          )
+
+-- ---- at 64 and 8
+
+occupied-few : (n r : ℕ) (bs : List Bucket) → ((i : ℕ) → i < length bs → SoundBucket n r (nth n r bs i)) → occupied bs ≤ length bs * n
+occupied-few n r [] h = omega arith
+occupied-few n r (b ∷ bs) h =
+    let k = ones-le n (b .mark) (h 0 (omega arith) .sound .mark-lt) in
+    let l = occupied-few n r bs (λ i l. h (suc i) (omega arith)) in
+    omega arith
+
+module _ (t : List ℕ) (h : Ready t) where
+  in-range : inRange (getD t 0 0) (getD t 1 0) ≡ true
+  unfolding shapeTest
+  in-range = and-one (inRange (getD t 0 0) (getD t 1 0)) _ (and-two (leb header (length t)) _ (h .shape))
+
+  pub ready-kept : FlatKept rows solutions t
+  ready-kept = record {
+    table = record {
+      range = ap₂ inRange (header-read rows solutions t .0) (header-read rows solutions t .1) ∙ in-range;
+      first = h .sound .table .level1 .buckets;
+      second = h .sound .table .level2 .buckets;
+      short = h .sound .table .fits;
+    };
+    numbers = forth rows solutions t (laid-of h);
+  }
+
+  -- there is room for one more in the live count
+  pub live-room : tableOf t .count + 1 < 2 ^ 64
+  live-room =
+      let k = h .sound .table in
+      let s = shape-of h .range in
+      omega (
+        arith,
+        k .counts,
+        occupied-few rows solutions (tableOf t .level1) (k .level1 .buckets),
+        occupied-few rows solutions (tableOf t .level2) (k .level2 .buckets),
+        k .fits,
+        header-read rows solutions t .0,
+        header-read rows solutions t .1,
+      )
+
+module _ (t : List ℕ) (w p : ℕ) where
+  abbrev added : Table
+  added = addedTo rows solutions mixOf (tableOf t) (record { word = w; plan = p })
+
+  abbrev outcome : Outcome
+  outcome = entering t (record { word = w; plan = p })
+
+  pub entered-full : (u : List ℕ) → (ltb baseLimit (length (added .base)) ≡ true) × (u ≡ t) → (Full ≡ outcome .answer) × (u ≡ outcome .table)
+  entered-full u g = let e = cond-true (turnedDown Full t) (record { answer = Accepted (added .count); table = numbersOf added }) (g .0) in (ap (λ (o : Outcome). o .answer) (sym e), g .1 ∙ ap (λ (o : Outcome). o .table) (sym e))
+
+  pub entered-done : (c : ℕ) (u : List ℕ) → (ltb baseLimit (length (added .base)) ≡ false) × (added .count ≡ c) × (numbersOf added ≡ u) → (Accepted c ≡ outcome .answer) × (u ≡ outcome .table)
+  entered-done c u g =
+      let e = cond-false (turnedDown Full t) (record { answer = Accepted (added .count); table = numbersOf added }) (g .0) in
+      (ap Accepted (sym (g .1)) ∙ ap (λ (o : Outcome). o .answer) (sym e), sym (g .2) ∙ ap (λ (o : Outcome). o .table) (sym e))
+
+  -- the call, by the plan of w
+  pub added-live : (q : ℕ) → planIn t w ≡ some q → served t w (add [] p) ≡ turnedDown (Live q) t
+  unfolding served
+  added-live q e = ap (joined t added) e
+
+  pub added-gone : planIn t w ≡ none → served t w (add [] p) ≡ outcome
+  unfolding served
+  added-gone e = ap (joined t added) e

@@ -1,0 +1,78 @@
+-- `adding::pass_drafted` meets its contract.
+-- Assumes nothing.
+use mathlib.Core.Path.{subst⁻¹}
+use mathlib.Core.Bool.{true}
+use mathlib.Core.List.{List}
+use Rattle.lists.specs.Entries.{Entry}
+use Rattle.hash.specs.Mix.{mixOf}
+use Rattle.concrete.specs.Calls.{tableOf}
+use Rattle.adding.specs.Arrivals.{seconds, allToSecond, FlatKept, Drafted}
+use Rattle.adding.proofs.Passing.{draft-alike, drafted-alike, drafted, from-draft, not-drafted}
+use borrow.Author.Needs.{needs}
+use Rattle.adding.proofs.pass_drafted.Statement.{statement}
+use Rattle.adding.proofs.pass_drafted.Tie as tie
+use Rattle.adding.proofs.pass_drafted.Reads as reads
+use Rattle.adding.proofs.pass_drafted.Lts as lts
+use Rattle.adding.proofs.carry.Reads as carry-reads
+use Rattle.adding.proofs.take_base.Reads as take-base-reads
+use Rattle.adding.proofs.take_buckets.Reads as take-buckets-reads
+use Rattle.bucket.proofs.put.Reads as put-reads
+
+put-requires : tie.Need-put-requires
+put-requires c κs = search needs
+
+carry-requires : tie.Need-carry-requires
+carry-requires c κs = let s = c .before .before .before .before .before .before .before .before in (subst⁻¹ (FlatKept 64 8) (c .before .before .before .put .ensures) (s .pre .0), s .pre .1 .1)
+
+abbrev moved : tie.Start → List Entry
+moved s = seconds mixOf (s .args .out)
+
+-- the words go on, as the draft shows
+on : (c : tie.Then1) → let s = c .before .before .before .before .before .before .before .before .before .before .before .before in
+    Drafted 64 8 (allToSecond 64 8 mixOf (tableOf (s .args .t .now)) (moved s)) true (c .before .before .before .carry .last .0)
+on c = from-draft 64 8 mixOf (moved (c .before .before .before .before .before .before .before .before .before .before .before .before)) _ _ _ _ _ (c .before .before .before .before .before .before .before .put .ensures) (c .if1 .taken) (c .before .before .before .carry .ensures)
+
+take-buckets-requires : tie.Need-take-buckets-requires
+take-buckets-requires c κs = let s = c .before .before .before .before .before .before .before .before .before .before .before .before .before .before in (draft-alike 64 8 mixOf _ (s .pre .0) (moved s) _ (on (c .before .before)), s .pre .1 .1)
+
+take-base-requires : tie.Need-take-base-requires
+take-base-requires c κs =
+    let b = c .before .before .before .before .before .before .before in
+    let s = b .before .before .before .before .before .before .before .before .before .before .before .before in
+    drafted-alike 64 8 mixOf _ (s .pre .0) (moved s) _ (on b) _ (c .before .before .before .before .take-buckets .ensures)
+
+same-length : tie.Need-same-length
+same-length c = search needs
+
+same-length-2 : tie.Need-same-length-2
+same-length-2 c = search needs
+
+returns : tie.Need-returns
+returns c =
+    let b = c .before .before .before .before .before .before .before .before .before .before in
+    let s = b .before .before .before .before .before .before .before .before .before .before .before .before in
+    drafted 64 8 mixOf _ (s .pre .0) (moved s) _ (on b) _ (c .before .before .before .before .before .before .before .take-buckets .ensures) _ (c .before .before .take-base .ensures)
+
+same-length-3 : tie.Need-same-length-3
+same-length-3 c = search needs
+
+same-length-4 : tie.Need-same-length-4
+same-length-4 c = search needs
+
+returns-2 : tie.Need-returns-2
+returns-2 c = not-drafted 64 8 _ _ _ (from-draft 64 8 mixOf (moved (c .before .before .before .before .before .before .before .before .before .before .before .before)) _ _ _ _ _ (c .before .before .before .before .before .before .before .put .ensures) (c .if1 .left) (c .before .before .before .carry .ensures))
+
+pub pass-drafted-spec : {M : Type 1} → statement M
+pass-drafted-spec =
+    tie.close
+    (tie.spec
+    put-requires
+    carry-requires
+    take-buckets-requires
+    take-base-requires
+    same-length
+    same-length-2
+    returns
+    same-length-3
+    same-length-4
+    returns-2)

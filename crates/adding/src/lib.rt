@@ -1,0 +1,206 @@
+// The call `add`: what leaves level 1 goes to level 2, and what leaves that to the base list. Nothing is written before it is known that
+// the base list has room; then only the stretches of the buckets that changed, the base list and the header are.
+// specs/Arrivals.antt has the steps as the code goes about them, proofs/Arrivals.antt that they lead to the table of concrete's `addedTo`.
+// Cites settle (one bucket), base, sound (places, the tests) and table (the query). The library and the line program build on it.
+use answer::Answer;
+use base::Found;
+use bucket::Bucket;
+use identifier::Read;
+use settle::Outgoing;
+use settle::Settled;
+use sound::Table;
+ghost use mathlib.Core.Path.{_≡_};
+ghost use mathlib.Core.List.{[]};
+ghost use Prim.Native.Nat.{_+_, _≤_};
+ghost use lib.ListN.{length, getD, drop};
+ghost use Rattle.lists.specs.Entries.{words, insertAll};
+ghost use Rattle.hash.specs.Mix.{mixOf};
+ghost use Rattle.bucket.specs.Words.{bucketFrom};
+ghost use Rattle.settle.specs.Settle.{SoundBucket, thresholdOf, settle};
+ghost use Rattle.settle.specs.Outgoing.{settledOf};
+ghost use Rattle.model.specs.Model.{baseLimit, add};
+ghost use Rattle.concrete.specs.Layout.{pairsFrom, basePairs, numbersOf};
+ghost use Rattle.concrete.specs.Calls.{rows, solutions, tableOf, served, call};
+ghost use Rattle.base.specs.Base.{Pairs};
+ghost use Rattle.table.specs.Ready.{Ready};
+ghost use Rattle.adding.specs.Arrivals.{entriesOf, seconds, settledAt, storedAt, withBase, toSecond, allToSecond, takeOver, Passed, Drafted, FlatKept, Alike, entering};
+
+// v with its plan settles in the bucket at a place. Nothing is written.
+pub(crate) fn settled_at(t: &[u64], at: usize, v: u64, plan: u64) -> Settled
+    requires { do ⌜ (at + (← ⟦Bucket::WORDS⟧) ≤ length (now t)) × SoundBucket rows solutions (bucketFrom rows solutions (drop at (now t))) ⌝ }
+    ensures { λ r. do ⌜ r ≡ settledOf (← ⟦Outgoing::MOST⟧ .entry) (settledAt rows solutions thresholdOf at (record { word = v; plan = plan }) (now (t .entry))) ⌝ }
+{
+    settle::settle(sound::bucket_at(t, at), v, plan)
+}
+
+// The bucket into its stretch of the table.
+pub(crate) fn store_at(t: &mut [u64], at: usize, b: Bucket)
+    requires { do ⌜ at + (← ⟦Bucket::WORDS⟧) ≤ length (now t) ⌝ }
+    ensures { λ _. ⌜ now (t .exit) ≡ storedAt rows solutions at b (now (t .entry)) ⌝ }
+{
+    let end = at + Bucket::WORDS;
+    bucket::store(&mut t[at..end], b);
+}
+
+// The words into the base list, one after the other.
+pub(crate) fn insert_all(pairs: &mut [u64], count: usize, out: Outgoing)
+    requires { ⌜ Pairs count (now pairs) × (count + out .count ≤ baseLimit) ⌝ }
+    ensures { λ _. ⌜ now (pairs .exit) ≡ basePairs (insertAll (entriesOf out) (pairsFrom count (now (pairs .entry)))) ⌝ }
+{
+    let vectors = out.vectors;
+    let plans = out.plans;
+    let more = out.count;
+    let mut i: usize = 0;
+    while i < more {
+        base::insert(pairs, count + i, vectors[i], plans[i]);
+        i += 1;
+    }
+}
+
+// The words into the base list of a table, and its count.
+pub(crate) fn enter_base(t: &mut [u64], out: Outgoing)
+    requires { ⌜ FlatKept rows solutions (now t) × (getD (now t) 2 0 + out .count ≤ baseLimit) ⌝ }
+    ensures { λ _. ⌜ now (t .exit) ≡ numbersOf (withBase (tableOf (now (t .entry))) (insertAll (entriesOf out) (tableOf (now (t .entry)) .base))) ⌝ }
+{
+    let a = sound::base_place(t);
+    let count = t[Table::BASE_COUNT_AT] as usize;
+    let more = out.count;
+    insert_all(&mut t[a..], count, out);
+    t[Table::BASE_COUNT_AT] = (count + more) as u64;
+}
+
+// The word v arrives at level 2, and what leaves that at the base list. False if that has no room: then nothing is written.
+pub(crate) fn arrive_second(t: &mut [u64], v: u64, plan: u64) -> bool
+    requires { ⌜ FlatKept rows solutions (now t) ⌝ }
+    ensures { λ r. ⌜ Passed rows solutions (now (t .entry)) (toSecond rows solutions mixOf (tableOf (now (t .entry))) (record { word = v; plan = plan })) r (now (t .exit)) ⌝ }
+{
+    let at = sound::second_place(t, v);
+    let s = settled_at(t, at, v, plan);
+    let out = s.out;
+    let more = out.count as u64;
+    if Table::BASE_ENTRIES < t[Table::BASE_COUNT_AT] + more {
+        return false;
+    }
+    let b = s.bucket;
+    store_at(t, at, b);
+    enter_base(t, out);
+    true
+}
+
+// The words that leave level 1 arrive at level 2 one after the other. False as soon as the base list has no room.
+pub(crate) fn carry(t: &mut [u64], out: Outgoing) -> bool
+    requires { do ⌜ FlatKept rows solutions (now t) × (out .count ≤ (← ⟦Outgoing::MOST⟧)) ⌝ }
+    ensures { λ r. ⌜ Drafted rows solutions (allToSecond rows solutions mixOf (tableOf (now (t .entry))) (seconds mixOf out)) r (now (t .exit)) ⌝ }
+{
+    let vectors = out.vectors;
+    let plans = out.plans;
+    let count = out.count;
+    let mut i: usize = 0;
+    while i < count {
+        if arrive_second(t, identifier::second(vectors[i]), plans[i]) {
+            i += 1;
+        } else {
+            return false;
+        }
+    }
+    true
+}
+
+// The level 2 buckets of these words become those of another table.
+pub(crate) fn take_buckets(t: &mut [u64], from: &[u64], out: Outgoing)
+    requires { do ⌜ Alike rows solutions (now t) (now from) × (out .count ≤ (← ⟦Outgoing::MOST⟧)) ⌝ }
+    ensures { λ _. ⌜ now (t .exit) ≡ numbersOf (takeOver rows solutions mixOf (tableOf (now (from .entry))) (words (seconds mixOf out)) (tableOf (now (t .entry)))) ⌝ }
+{
+    let vectors = out.vectors;
+    let count = out.count;
+    let mut i: usize = 0;
+    while i < count {
+        let at = sound::second_place(from, identifier::second(vectors[i]));
+        store_at(t, at, sound::bucket_at(from, at));
+        i += 1;
+    }
+}
+
+// The base list becomes that of another table.
+pub(crate) fn take_base(t: &mut [u64], from: &[u64])
+    requires { ⌜ Alike rows solutions (now t) (now from) ⌝ }
+    ensures { λ _. ⌜ now (t .exit) ≡ numbersOf (withBase (tableOf (now (t .entry))) (tableOf (now (from .entry)) .base)) ⌝ }
+{
+    let a = sound::base_place(t);
+    bucket::put(&mut t[a..], &from[a..]);
+    t[Table::BASE_COUNT_AT] = from[Table::BASE_COUNT_AT];
+}
+
+// The words that leave level 1 go on, each tried on a draft first; then what they changed is written.
+pub(crate) fn pass_drafted(t: &mut [u64], draft: &mut [u64], out: Outgoing) -> bool
+    requires { do ⌜ FlatKept rows solutions (now t) × ((length (now draft) ≡ length (now t)) × (out .count ≤ (← ⟦Outgoing::MOST⟧))) ⌝ }
+    ensures { λ r. ⌜ Passed rows solutions (now (t .entry)) (allToSecond rows solutions mixOf (tableOf (now (t .entry))) (seconds mixOf out)) r (now (t .exit)) ⌝ }
+{
+    bucket::put(draft, t);
+    if carry(draft, out) {
+        take_buckets(t, draft, out);
+        take_base(t, draft);
+        return true;
+    }
+    false
+}
+
+// The words that leave level 1 go on, or nothing is written. One word alone needs no draft.
+pub(crate) fn pass_on(t: &mut [u64], out: Outgoing) -> bool
+    requires { do ⌜ FlatKept rows solutions (now t) × (out .count ≤ (← ⟦Outgoing::MOST⟧)) ⌝ }
+    ensures { λ r. ⌜ Passed rows solutions (now (t .entry)) (allToSecond rows solutions mixOf (tableOf (now (t .entry))) (seconds mixOf out)) r (now (t .exit)) ⌝ }
+{
+    let count = out.count;
+    if count == 0 {
+        return true;
+    }
+    if count == 1 {
+        let vectors = out.vectors;
+        let plans = out.plans;
+        return arrive_second(t, identifier::second(vectors[0]), plans[0]);
+    }
+    let n = t.len();
+    let mut draft = [0u64; Table::LONGEST];
+    pass_drafted(t, &mut draft[..n], out)
+}
+
+// A word that is not live arrives at level 1, and what leaves that goes on.
+pub(crate) fn enter(t: &mut [u64], w: u64, plan: u64) -> Answer
+    requires { ⌜ Ready (now t) ⌝ }
+    ensures { λ r. ⌜ (r ≡ entering (now (t .entry)) (record { word = w; plan = plan }) .answer) × (now (t .exit) ≡ entering (now (t .entry)) (record { word = w; plan = plan }) .table) ⌝ }
+{
+    let at = sound::first_place(t, w);
+    let s = settled_at(t, at, w, plan);
+    let out = s.out;
+    if pass_on(t, out) {
+        let b = s.bucket;
+        store_at(t, at, b);
+        let count = t[Table::LIVE_COUNT_AT] + 1;
+        t[Table::LIVE_COUNT_AT] = count;
+        return Answer::Accepted(count);
+    }
+    Answer::Full
+}
+
+// An add of the word w.
+pub fn add_word(t: &mut [u64], w: u64, plan: u64) -> Answer
+    requires { ⌜ Ready (now t) ⌝ }
+    ensures { λ r. ⌜ (r ≡ served (now (t .entry)) w (add [] plan) .answer) × (now (t .exit) ≡ served (now (t .entry)) w (add [] plan) .table) ⌝ }
+{
+    let found = table::plan_in(t, w);
+    match found {
+        Found::Plan(p) => Answer::Live(p),
+        Found::Nothing => enter(t, w, plan),
+    }
+}
+
+// Add: accepted, the live count.
+pub fn add(t: &mut [u64], id: &[u8], plan: u8) -> Answer
+    ensures { λ r. ⌜ (r ≡ call (now (t .entry)) (add (now (id .entry)) plan) .answer) × (now (t .exit) ≡ call (now (t .entry)) (add (now (id .entry)) plan) .table) ⌝ }
+{
+    let admitted = table::admit(t, id);
+    match admitted {
+        Read::Word(w) => add_word(t, w, plan as u64),
+        Read::Refused(a) => a,
+    }
+}
