@@ -1,16 +1,19 @@
 -- Decimal numbers: a field read from index i on, and a number printed digit by digit from the last on.
 -- Assumes nothing.
 use mathlib.Core.Path.{_≡_, refl, sym, ap, _∙_}
+use mathlib.Core.Bool.{Bool, true, false, cond}
 use mathlib.Core.List.{List, [], _∷_}
 use Prim.Native.Nat.{ℕ, zero, suc, _+_, _-_, _*_, _/_, _%_, _^_, _≤_, _<_}
 use native.Mathlib.Nat.{pow-suc}
 use native.Mathlib.Numerals.{add-one}
 use native.Mathlib.Omega.{arith}
+use lib.Dec.{eqb, leb}
 use lib.ListN.{length, getD, take, drop, set, length-set, length-drop, drop-of-length-le}
 use lib.Seq.{take-all, drop-cons, getD-set-same, drop-set-lt}
-use borrow.Author.Tests.{le-leb, lt-leb, lt-ltb, le-ltb, eq-eqb, ne-eqb}
+use borrow.Author.Tests.{le-leb, lt-leb, lt-ltb, le-ltb, eq-eqb, ne-eqb, leb-true}
 use Rattle.session.specs.declared.Number.the-variants.{Of, Wrong}
-use Rattle.session.specs.Decimal.{digitOf, grown, readOn, numberTo, digitsThen, mostDigits}
+use Rattle.session.specs.Decimal.{digitOf, isDigit, grown, readOn, numberTo, digitsThen, mostDigits}
+use Rattle.session.specs.Parsed.{AtMost}
 
 -- ---- a field
 
@@ -59,6 +62,32 @@ module _ (limit : ℕ) where
     unfolding readOn
     read-more l u o =
         rw (add-one i, drop-cons s i 0, le-leb 48 (getD s i 0) l, le-leb (getD s i 0) 57 u, le-leb (grown n (getD s i 0)) limit o)
+
+  -- what is read is at most the limit
+  read-most : (n : ℕ) (s : List ℕ) → n ≤ limit → AtMost limit (readOn limit n s)
+  unfolding readOn
+  read-most n [] l = l
+  read-most n (b ∷ s) l = by-tests (isDigit b) (leb (grown n b) limit) refl (read-most (grown n b) s)
+    where
+      by-tests : (t u : Bool) → leb (grown n b) limit ≡ u → (grown n b ≤ limit → AtMost limit (readOn limit (grown n b) s))
+          → AtMost limit (cond t (cond u (readOn limit (grown n b) s) Wrong) Wrong)
+      by-tests true true e ih = ih (leb-true (grown n b) limit e)
+      by-tests true false e ih = tt
+      by-tests false u e ih = tt
+
+  pub number-most : (s : List ℕ) → AtMost limit (numberTo limit s)
+  unfolding numberTo
+  number-most [] = tt
+  number-most (b ∷ []) = by-test (eqb b 48)
+    where
+      by-test : (t : Bool) → AtMost limit (cond t (Of 0) (readOn limit 0 (b ∷ [])))
+      by-test true = omega arith
+      by-test false = read-most 0 (b ∷ []) (omega arith)
+  number-most (b ∷ c ∷ s) = by-test (eqb b 48)
+    where
+      by-test : (t : Bool) → AtMost limit (cond t Wrong (readOn limit 0 (b ∷ c ∷ s)))
+      by-test true = tt
+      by-test false = read-most 0 (b ∷ c ∷ s) (omega arith)
 
 -- ---- a number printed
 

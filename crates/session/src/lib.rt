@@ -2,18 +2,32 @@
 // Definitions: specs/Decimal.antt (numbers), specs/Line.antt (a line's fields and what it asks for) and specs/Run.antt (what is
 // printed for an input: the calls of concrete folded over the lines).
 // Cites codec, answer and concrete; the program `lines` is a thin one over it.
+use answer::Answer;
 ghost use mathlib.Core.Path.{_≡_};
-ghost use Prim.Native.Nat.{_+_, _≤_, _<_};
-ghost use lib.ListN.{length, drop};
+ghost use Prim.Native.Nat.{_+_, _^_, _≤_, _<_};
+ghost use mathlib.Core.List.{_∷_, [], _++_};
+ghost use lib.ListN.{length, take, drop};
 ghost use Rattle.codec.specs.Parts.{written};
 ghost use Rattle.session.specs.Decimal.{grown, numberTo, digitOf, decimal};
-ghost use Rattle.session.specs.Line.{placeOf};
+ghost use Rattle.session.specs.Line.{lf, placeOf, ofTwo, ofThree, commandOf};
+ghost use Rattle.session.specs.Parsed.{between, meant, Within, openForm, addForm, setForm};
+ghost use Rattle.session.specs.Run.{badLine, printed};
 
 // What a field is read as.
 pub enum Number {
     // A decimal number without leading zeros, not above its limit.
     Of(u64),
     Wrong,
+}
+
+// What a line asks for. An identifier is the bytes from start to before end.
+pub enum Parsed {
+    Open(u64, u64),
+    Add { start: usize, end: usize, plan: u64 },
+    Set { start: usize, end: usize, plan: u64 },
+    Del { start: usize, end: usize },
+    Get { start: usize, end: usize },
+    Bad,
 }
 
 // One digit more.
@@ -67,7 +81,7 @@ pub(crate) fn digit(d: u64) -> u8
 
 // Prints x from index at on, as much as fits. The next index.
 pub(crate) fn put_decimal(out: &mut [u8], at: usize, x: u64) -> usize
-    requires { ⌜ at ≤ 4000000 ⌝ }
+    requires { ⌜ at < 2 ^ 32 ⌝ }
     ensures { λ r. ⌜ (r ≡ at + length (decimal x)) × (now (out .exit) ≡ written at (decimal x) (now (out .entry))) ⌝ }
 {
     let mut digits = [0u8; 20];
@@ -96,4 +110,126 @@ pub(crate) fn place(s: &[u8], b: u8, a: usize) -> usize
         i += 1;
     }
     i
+}
+
+// `open` with what its two fields say.
+pub(crate) fn open_form(x: Number, y: Number) -> Parsed
+    ensures { λ r. ⌜ r ≡ openForm x y ⌝ }
+{
+    match x {
+        Number::Of(b1) => match y {
+            Number::Of(b2) => Parsed::Open(b1, b2),
+            Number::Wrong => Parsed::Bad,
+        },
+        Number::Wrong => Parsed::Bad,
+    }
+}
+
+// `add` with what its last field says.
+pub(crate) fn add_form(start: usize, end: usize, x: Number) -> Parsed
+    ensures { λ r. ⌜ r ≡ addForm start end x ⌝ }
+{
+    match x {
+        Number::Of(plan) => Parsed::Add { start, end, plan },
+        Number::Wrong => Parsed::Bad,
+    }
+}
+
+// `set` with what its last field says.
+pub(crate) fn set_form(start: usize, end: usize, x: Number) -> Parsed
+    ensures { λ r. ⌜ r ≡ setForm start end x ⌝ }
+{
+    match x {
+        Number::Of(plan) => Parsed::Set { start, end, plan },
+        Number::Wrong => Parsed::Bad,
+    }
+}
+
+// A line of two fields, parted at a.
+pub(crate) fn two_fields(s: &[u8], a: usize) -> Parsed
+    requires { ⌜ a < length (now s) ⌝ }
+    ensures { λ r. ⌜ (meant (now (s .entry)) r ≡ ofTwo (take a (now (s .entry))) (drop (a + 1) (now (s .entry)))) × Within (length (now (s .entry))) r ⌝ }
+{
+    let start = a + 1;
+    let end = s.len();
+    let word = &s[..a];
+    if codec::same(word, b"del") {
+        return Parsed::Del { start, end };
+    }
+    if codec::same(word, b"get") {
+        return Parsed::Get { start, end };
+    }
+    Parsed::Bad
+}
+
+// A line of three fields, parted at a and b.
+pub(crate) fn three_fields(s: &[u8], a: usize, b: usize) -> Parsed
+    requires { ⌜ (a < b) × (b < length (now s)) ⌝ }
+    ensures { λ r. ⌜ (meant (now (s .entry)) r ≡ ofThree (take a (now (s .entry))) (between (a + 1) b (now (s .entry))) (drop (b + 1) (now (s .entry)))) × Within (length (now (s .entry))) r ⌝ }
+{
+    let start = a + 1;
+    let next = b + 1;
+    let word = &s[..a];
+    let last = &s[next..];
+    if codec::same(word, b"open") {
+        return open_form(read_number(&s[start..b], 999), read_number(last, 999));
+    }
+    if codec::same(word, b"add") {
+        return add_form(start, b, read_number(last, 255));
+    }
+    if codec::same(word, b"set") {
+        return set_form(start, b, read_number(last, 255));
+    }
+    Parsed::Bad
+}
+
+// What a line asks for, without its LF.
+pub(crate) fn parse(s: &[u8]) -> Parsed
+    ensures { λ r. ⌜ (meant (now (s .entry)) r ≡ commandOf (now (s .entry))) × Within (length (now (s .entry))) r ⌝ }
+{
+    let a = place(s, 32, 0);
+    if s.len() <= a {
+        return Parsed::Bad;
+    }
+    let b = place(s, 32, a + 1);
+    if s.len() <= b {
+        return two_fields(s, a);
+    }
+    if place(s, 32, b + 1) < s.len() {
+        return Parsed::Bad;
+    }
+    three_fields(s, a, b)
+}
+
+// Prints the bytes of start, n and LF from index at on, as much as fits. The next index.
+pub(crate) fn put_line(out: &mut [u8], at: usize, start: &[u8], n: u64) -> usize
+    requires { ⌜ at + length (now start) < 2 ^ 32 ⌝ }
+    ensures { λ r. ⌜ (r ≡ at + length (now (start .entry) ++ (decimal n ++ (lf ∷ [])))) × (now (out .exit) ≡ written at (now (start .entry) ++ (decimal n ++ (lf ∷ []))) (now (out .entry))) ⌝ }
+{
+    let next = at + start.len();
+    codec::put_bytes(out, at, start);
+    let end = put_decimal(out, next, n);
+    codec::put_bytes(out, end, b"\n");
+    end + 1
+}
+
+// Prints an answer.
+pub(crate) fn put_answer(out: &mut [u8], at: usize, a: Answer) -> usize
+    requires { ⌜ at < 2 ^ 31 ⌝ }
+    ensures { λ r. ⌜ (r ≡ at + length (printed a)) × (now (out .exit) ≡ written at (printed a) (now (out .entry))) ⌝ }
+{
+    let cause = answer::number(a);
+    if cause == 0 {
+        return put_line(out, at, b"ok ", answer::value(a));
+    }
+    put_line(out, at, b"no ", cause)
+}
+
+// Prints `bad`.
+pub(crate) fn put_bad(out: &mut [u8], at: usize) -> usize
+    requires { ⌜ at < 2 ^ 32 ⌝ }
+    ensures { λ r. ⌜ (r ≡ at + length badLine) × (now (out .exit) ≡ written at badLine (now (out .entry))) ⌝ }
+{
+    codec::put_bytes(out, at, b"bad\n");
+    at + 4
 }
