@@ -2,3 +2,5 @@ pub mod Decimal
 pub mod Parted
 pub mod Forms
 pub mod Printed
+pub mod Agree
+pub mod Session

@@ -7,10 +7,14 @@ use mathlib.Core.Option.{Option, none, some}
 use lib.Dec.{leb}
 use lib.ListN.{length, take, replicate}
 use Rattle.answer.specs.declared.Answer.{Answer}
+use Rattle.answer.specs.declared.Answer.the-variants.{Accepted, WrongBuckets}
 use Rattle.answer.specs.Numbers.{numberOf, valueOf}
-use Rattle.model.specs.Machine.{accepted}
-use Rattle.concrete.specs.Layout.{lengthOf}
-use Rattle.concrete.specs.Calls.{rows, solutions, Outcome, openCall, call}
+use Rattle.model.specs.Model as M
+use Rattle.model.specs.Model.{State, Call}
+use Rattle.model.specs.Request.{serve}
+use Rattle.model.specs.Machine.{Machine, accepted}
+use Rattle.concrete.specs.Layout.{inRange, lengthOf}
+use Rattle.concrete.specs.Calls.{rows, solutions, openCall, call}
 use Rattle.session.specs.Decimal.{decimal}
 use Rattle.session.specs.Line.{lf, space, parted, Command, opening, ask, bad, commandOf}
 
@@ -38,41 +42,64 @@ noStart = 0x6e ∷ 0x6f ∷ space ∷ []
 unfoldable pub printed : Answer → List ℕ
 printed a = cond (accepted a) (okStart ++ (decimal (valueOf a) ++ (lf ∷ []))) (noStart ++ (decimal (numberOf a) ++ (lf ∷ [])))
 
--- what a line prints, and the table after it, if one was opened
-pub record Turn : Type 0 where
+-- what takes openings and calls: the answer to an opening, what an accepted one leaves, and the calls put to that
+pub record Desk (T : Type 0) : Type 0 where
+  pub answer : ℕ → ℕ → Answer
+  pub opened : ℕ → ℕ → T
+  pub calls : Machine T (Call (List ℕ))
+
+-- what a line prints, and what is open after it
+pub record Turn (T : Type 0) : Type 0 where
   pub output : List ℕ
-  pub state : Option (List ℕ)
+  pub state : Option T
 
--- `bad` is printed, and the table stays
-abbrev pub refuse : Option (List ℕ) → Turn
-refuse m = record { output = badLine; state = m }
+module _ {T : Type 0} (D : Desk T) where
+  -- `bad` is printed, and what is open stays
+  abbrev pub refuse : Option T → Turn T
+  refuse m = record { output = badLine; state = m }
 
--- the opening: an accepted one starts afresh, a refused one keeps what was
-abbrev pub openedWith : Option (List ℕ) → Outcome → Turn
-openedWith m o = record { output = printed (o .answer); state = cond (accepted (o .answer)) (some (o .table)) m }
+  -- what a command does. An accepted opening starts afresh, a refused one keeps what was
+  abbrev pub obey : Option T → Command → Turn T
+  obey m (opening b1 b2) = record { output = printed (D .answer b1 b2); state = cond (accepted (D .answer b1 b2)) (some (D .opened b1 b2)) m }
+  obey none (ask c) = refuse none
+  obey (some t) (ask c) = record { output = printed (D .calls .answer t c); state = some (D .calls .next t c) }
+  obey m bad = refuse m
 
--- what a command does. The opening gets a table of the length that its numbers give
-unfoldable pub obey : Option (List ℕ) → Command → Turn
-obey m (opening b1 b2) = openedWith m (openCall b1 b2 (replicate (lengthOf rows solutions b1 b2) 0))
-obey none (ask c) = refuse none
-obey (some t) (ask c) = record { output = printed (call t c .answer); state = some (call t c .table) }
-obey m bad = refuse m
+  -- a line s that had its LF
+  abbrev pub turn : Option T → List ℕ → Turn T
+  turn m s = cond (leb (suc (length s)) lineLimit) (obey m (commandOf s)) (refuse m)
 
--- a line s that had its LF
-abbrev pub turn : Option (List ℕ) → List ℕ → Turn
-turn m s = cond (leb (suc (length s)) lineLimit) (obey m (commandOf s)) (refuse m)
+  -- what is left after the last LF: a line without LF, or none
+  abbrev pub unfinished : List ℕ → List ℕ
+  unfinished [] = []
+  unfinished (x ∷ s) = badLine
 
--- what is left after the last LF: a line without LF, or none
-abbrev pub unfinished : List ℕ → List ℕ
-unfinished [] = []
-unfinished (x ∷ s) = badLine
+  -- the lines one after the other; each part but the last had its LF
+  abbrev pub outputFrom : Option T → List (List ℕ) → List ℕ
+  outputFrom m [] = []
+  outputFrom m (s ∷ []) = unfinished s
+  outputFrom m (s ∷ r ∷ rs) = turn m s .output ++ outputFrom (turn m s .state) (r ∷ rs)
 
--- the lines one after the other; each part but the last had its LF
-abbrev pub outputFrom : Option (List ℕ) → List (List ℕ) → List ℕ
-outputFrom m [] = []
-outputFrom m (s ∷ []) = unfinished s
-outputFrom m (s ∷ r ∷ rs) = turn m s .output ++ outputFrom (turn m s .state) (r ∷ rs)
+  -- what is printed for an input
+  abbrev pub outputOf : List ℕ → List ℕ
+  outputOf s = outputFrom none (parted lf (take inputLimit s))
+
+-- the table. An opening gets one of the length that its numbers give
+abbrev pub tables : Desk (List ℕ)
+tables = record {
+  answer = λ b1 b2. openCall b1 b2 (replicate (lengthOf rows solutions b1 b2) 0) .answer;
+  opened = λ b1 b2. openCall b1 b2 (replicate (lengthOf rows solutions b1 b2) 0) .table;
+  calls = record { answer = λ t c. call t c .answer; next = λ t c. call t c .table };
+}
 
 -- what the line program prints for an input
 unfoldable pub output : List ℕ → List ℕ
-output s = outputFrom none (parted lf (take inputLimit s))
+output s = outputOf tables s
+
+-- the model in the table's place
+abbrev pub states : Desk State
+states = record {
+  answer = λ b1 b2. cond (inRange b1 b2) (Accepted 0) WrongBuckets;
+  opened = M.opened;
+  calls = record { answer = λ t c. serve t c .answer; next = λ t c. serve t c .after };
+}
