@@ -2,5 +2,6 @@ pub mod Decimal
 pub mod Parted
 pub mod Forms
 pub mod Printed
+pub mod Lines
 pub mod Agree
 pub mod Session
