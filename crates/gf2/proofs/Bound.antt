@@ -6,7 +6,7 @@ use native.Mathlib.Nat.{le-refl, le-trans, le-antisymm, le-step, le-suc, le-suc-
 use mathlib.Core.Path.{_≡_, refl, sym, ap, _∙_}
 use mathlib.Core.Bool.{Bool, true, false, cond, not, _&&_, true≢false}
 use mathlib.Core.Logic.{⊎-elim}
-use mathlib.Core.List.{List, [], _∷_, Sublistᴰ, Sublistᴰ·cons, Sublistᴰ·refl, List·Permᴰ, Permᴰ·symm, Permᴰ·map, map}
+use mathlib.Core.List.{List, [], _∷_, Sublistᴰ, Sublistᴰ·refl, List·Permᴰ, Permᴰ·symm, Permᴰ·map, map}
 use lib.Dec.{ltb}
 use borrow.Author.Tests.{lt-ltb, le-ltb, ltb-true}
 use Rattle.lists.specs.Lists.{keep}
@@ -79,10 +79,6 @@ module _ (ds es : List Due) (more : (t : ℕ) → Free t es → Free t ds) where
       le-antisymm
       (bound-most old es (boundOf (boundOf old ds) es) (le-trans (bound-low (boundOf old ds) es) (bound-low old ds)) (bound-free (boundOf old ds) es))
       (bound-most (boundOf old ds) es (boundOf old es) (bound-anti old) (bound-free old es))
-
--- one arrival
-pub bound-arrival : (old : ℕ) (d : Due) (ds : List Due) → boundOf (boundOf old ds) (d ∷ ds) ≡ boundOf old (d ∷ ds)
-bound-arrival old d ds = bound-again ds (d ∷ ds) (λ t. free-sub t (Sublistᴰ·cons (Sublistᴰ·refl ds))) old
 
 pub bound-perm : (old : ℕ) {ds es : List Due} → List·Permᴰ ds es → boundOf old ds ≡ boundOf old es
 bound-perm old {ds} {es} s =

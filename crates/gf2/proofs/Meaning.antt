@@ -4,10 +4,10 @@ use Prim.Native.Nat.{ℕ}
 use mathlib.Core.Path.{_≡_, refl, sym, ap, _∙_, subst, subst⁻¹}
 use mathlib.Core.Bool.{true, false, not}
 use mathlib.Core.Logic.{⊎-elim, _↔_}
-use mathlib.Core.List.{List, [], _∷_, Sublistᴰ, Sublistᴰ·slnil, Sublistᴰ·cons, Sublistᴰ·cons-cons, Sublistᴰ·refl}
+use mathlib.Core.List.{List, [], _∷_, Sublistᴰ, Sublistᴰ·slnil, Sublistᴰ·cons, Sublistᴰ·cons-cons}
 use lib.Bits.{bitXor, xor-self, xor-zero-r}
 use lib.Dec.{T, T-not, not-T, eqb, eqb→eq}
-use Rattle.lists.proofs.Tests.{T→true, true→T, or-l, or-r, or-cases, and-l, and-r, and-i, eq-T}
+use Rattle.lists.proofs.Tests.{T→true, true→T, or-r, or-cases, and-l, and-r, and-i}
 use Rattle.gf2.specs.Select.{elem, sums, indep}
 use Rattle.gf2.proofs.Bit.{xor-cancel}
 use Rattle.gf2.proofs.Select.{sums-cons, indep-cons, sums-sub}

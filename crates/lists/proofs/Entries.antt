@@ -109,15 +109,6 @@ find-ext xs ys a b h =
     (λ e m. find-mem (e .word) (e .plan) ys (sym (h (e .word)) ∙ mem-find xs a e m))
     (λ e m. find-mem (e .word) (e .plan) xs (h (e .word) ∙ mem-find ys b e m))
 
--- the same, where all words are below a limit: it is enough to ask for those
-pub find-ext-below : (n : ℕ) (xs ys : List Entry) → Ascending xs → Ascending ys
-    → ((e : Entry) → List·Memᴰ e xs → e .word < n) → ((e : Entry) → List·Memᴰ e ys → e .word < n)
-    → ((w : ℕ) → w < n → find w xs ≡ find w ys) → xs ≡ ys
-find-ext-below n xs ys a b f g h =
-    ascending-ext xs ys a b
-    (λ e m. find-mem (e .word) (e .plan) ys (sym (h (e .word) (f e m)) ∙ mem-find xs a e m))
-    (λ e m. find-mem (e .word) (e .plan) xs (h (e .word) (g e m) ∙ mem-find ys b e m))
-
 -- ---- insert
 
 pub insert-perm : (e : Entry) (xs : List Entry) → List·Permᴰ (insert e xs) (e ∷ xs)
