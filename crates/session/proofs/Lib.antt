@@ -5,3 +5,4 @@ pub mod Printed
 pub mod Lines
 pub mod Agree
 pub mod Session
+pub mod Asked

@@ -1,13 +1,19 @@
-// The line program of document 01 as functions on byte slices.
-// Definitions: specs/Decimal.antt (numbers), specs/Line.antt (a line's fields and what it asks for) and specs/Run.antt (what is
-// printed for an input: the calls of concrete folded over the lines).
-// Cites codec, answer and concrete; the program `lines` is a thin one over it.
+// The line program of document 01 as functions on byte slices: numbers, the fields of a line, answers printed, calls put to a table that
+// is known to be sound. Definitions: specs/Decimal.antt, specs/Line.antt (what a line asks for), specs/Run.antt (what is printed for an
+// input: the calls of concrete folded over the lines); specs/Parsed.antt has the form that the code gives a line.
+// Laws: proofs/Agree.antt (the model would print the same; the table is sound at each line), proofs/Session.antt (document 01's session).
+// Cites codec, answer, identifier, concrete and table; the program `lines` is a thin one over it.
 use answer::Answer;
+use identifier::Identifier;
+use identifier::Read;
 ghost use mathlib.Core.Path.{_≡_};
 ghost use Prim.Native.Nat.{_+_, _^_, _≤_, _<_};
 ghost use mathlib.Core.List.{_∷_, [], _++_};
 ghost use lib.ListN.{length, take, drop};
 ghost use Rattle.codec.specs.Parts.{written};
+ghost use Rattle.model.specs.Model.{change, withdraw, query};
+ghost use Rattle.concrete.specs.Calls.{call};
+ghost use Rattle.table.specs.Ready.{Ready};
 ghost use Rattle.session.specs.Decimal.{grown, numberTo, digitOf, decimal};
 ghost use Rattle.session.specs.Line.{lf, placeOf, ofTwo, ofThree, commandOf};
 ghost use Rattle.session.specs.Parsed.{between, meant, Within, openForm, addForm, setForm};
@@ -232,4 +238,40 @@ pub(crate) fn put_bad(out: &mut [u8], at: usize) -> usize
 {
     codec::put_bytes(out, at, b"bad\n");
     at + 4
+}
+
+// `get` put to a sound table.
+pub(crate) fn ask_get(t: &[u64], id: &[u8]) -> Answer
+    requires { ⌜ Ready (now t) ⌝ }
+    ensures { λ r. ⌜ (r ≡ call (now (t .entry)) (query (now (id .entry))) .answer) × (now (t .exit) ≡ call (now (t .entry)) (query (now (id .entry))) .table) ⌝ }
+{
+    let read = Identifier::read(id);
+    match read {
+        Read::Word(w) => table::query_word(t, w),
+        Read::Refused(a) => a,
+    }
+}
+
+// `set` put to a sound table.
+pub(crate) fn ask_set(t: &mut [u64], id: &[u8], plan: u64) -> Answer
+    requires { ⌜ Ready (now t) ⌝ }
+    ensures { λ r. ⌜ (r ≡ call (now (t .entry)) (change (now (id .entry)) plan) .answer) × (now (t .exit) ≡ call (now (t .entry)) (change (now (id .entry)) plan) .table) ⌝ }
+{
+    let read = Identifier::read(id);
+    match read {
+        Read::Word(w) => table::change_word(t, w, plan),
+        Read::Refused(a) => a,
+    }
+}
+
+// `del` put to a sound table.
+pub(crate) fn ask_del(t: &mut [u64], id: &[u8]) -> Answer
+    requires { ⌜ Ready (now t) ⌝ }
+    ensures { λ r. ⌜ (r ≡ call (now (t .entry)) (withdraw (now (id .entry))) .answer) × (now (t .exit) ≡ call (now (t .entry)) (withdraw (now (id .entry))) .table) ⌝ }
+{
+    let read = Identifier::read(id);
+    match read {
+        Read::Word(w) => table::withdraw_word(t, w),
+        Read::Refused(a) => a,
+    }
 }
