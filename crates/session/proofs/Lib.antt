@@ -6,3 +6,4 @@ pub mod Lines
 pub mod Agree
 pub mod Session
 pub mod Asked
+pub mod Opening

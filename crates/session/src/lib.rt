@@ -6,6 +6,7 @@
 use answer::Answer;
 use identifier::Identifier;
 use identifier::Read;
+use sound::Table;
 ghost use mathlib.Core.Path.{_≡_};
 ghost use Prim.Native.Nat.{_+_, _^_, _≤_, _<_};
 ghost use mathlib.Core.List.{_∷_, [], _++_};
@@ -17,7 +18,8 @@ ghost use Rattle.table.specs.Ready.{Ready};
 ghost use Rattle.session.specs.Decimal.{grown, numberTo, digitOf, decimal};
 ghost use Rattle.session.specs.Line.{lf, placeOf, ofTwo, ofThree, commandOf};
 ghost use Rattle.session.specs.Parsed.{between, meant, Within, openForm, addForm, setForm};
-ghost use Rattle.session.specs.Run.{badLine, printed};
+ghost use Rattle.session.specs.Run.{badLine, printed, tables};
+ghost use Rattle.session.specs.Buffer.{openedIn};
 
 // What a field is read as.
 pub enum Number {
@@ -274,4 +276,16 @@ pub(crate) fn ask_del(t: &mut [u64], id: &[u8]) -> Answer
         Read::Word(w) => table::withdraw_word(t, w),
         Read::Refused(a) => a,
     }
+}
+
+// `open` in a buffer for the longest table.
+pub(crate) fn ask_open(t: &mut [u64], b1: u64, b2: u64) -> Answer
+    requires { do ⌜ length (now t) ≡ (← ⟦Table::LONGEST⟧) ⌝ }
+    ensures { λ r. ⌜ (r ≡ tables .answer b1 b2) × (now (t .exit) ≡ openedIn b1 b2 (now (t .entry))) ⌝ }
+{
+    if sound::in_range(b1, b2) {
+        let n = sound::length_of(b1, b2);
+        return table::open(&mut t[..n], b1, b2);
+    }
+    Answer::WrongBuckets
 }
