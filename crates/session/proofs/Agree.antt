@@ -1,23 +1,22 @@
 -- The line program prints what it would print if the model took the calls; its table is sound at each line.
 -- Assumes nothing.
-use mathlib.Core.Path.{_≡_, refl, sym, ap, ap₂, _∙_}
-use mathlib.Core.Bool.{Bool, true, false, cond, true≢false}
+use mathlib.Core.Path.{_≡_, refl, ap, ap₂}
+use mathlib.Core.Bool.{Bool, true, false, cond}
 use mathlib.Core.List.{List, [], _∷_, _++_}
 use mathlib.Core.Option.{Option, none, some}
-use Prim.Native.Nat.{ℕ, suc, _^_, _≤_, _<_}
+use Prim.Native.Nat.{ℕ, suc}
 use native.Mathlib.Omega.{arith}
-use lib.Dec.{leb, eqb}
+use lib.Dec.{leb}
 use lib.ListN.{length, take, replicate, length-replicate}
 use borrow.Author.Tests.{eq-eqb}
 use Rattle.lists.proofs.Tests.{cases}
 use Rattle.codec.specs.Bytes.{eqList}
-use Rattle.answer.specs.declared.Answer.{Answer}
 use Rattle.answer.specs.declared.Answer.the-variants.{Accepted, WrongBuckets}
 use Rattle.model.specs.Model.{State, Call}
 use Rattle.model.specs.Machine.{accepted}
 use Rattle.concrete.specs.Table.{openTable}
 use Rattle.concrete.specs.Layout.{inRange, lengthOf, numbersOf}
-use Rattle.concrete.specs.Calls.{rows, solutions, shaped, FlatSound, Outcome, openCall}
+use Rattle.concrete.specs.Calls.{rows, solutions, shaped, FlatSound, openCall}
 use Rattle.concrete.specs.History.{PlanFits, flatState}
 use Rattle.concrete.proofs.Calls.{FlatStands}
 use Rattle.concrete.proofs.Statements.{refines, opening-stands, stands-sound, sound-stands}

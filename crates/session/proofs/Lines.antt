@@ -1,13 +1,13 @@
 -- The lines of an input one after the other, from index i on, and how long what they print is.
 -- Assumes nothing.
-use mathlib.Core.Path.{_≡_, refl, sym, ap, _∙_}
+use mathlib.Core.Path.{_≡_, refl, ap, _∙_}
 use mathlib.Core.Bool.{Bool, true, false, cond}
 use mathlib.Core.List.{List, [], _∷_, _++_}
 use mathlib.Core.Option.{Option, none, some}
-use Prim.Native.Nat.{ℕ, suc, _+_, _*_, _≤_, _<_}
+use Prim.Native.Nat.{ℕ, suc, _+_, _≤_, _<_}
 use native.Mathlib.Omega.{arith}
 use lib.Dec.{leb}
-use lib.ListN.{length, take, drop, length-append, drop-of-length-le}
+use lib.ListN.{length, drop, length-append, drop-of-length-le}
 use lib.Seq.{drop-cons}
 use borrow.Author.Tests.{le-leb, lt-leb}
 use Rattle.answer.specs.declared.Answer.{Answer}
@@ -16,7 +16,7 @@ use Rattle.model.specs.Machine.{accepted}
 use Rattle.session.specs.Decimal.{decimal, mostDigits}
 use Rattle.session.specs.Line.{lf, placeOf, parted, Command, opening, ask, bad, commandOf}
 use Rattle.session.specs.Parsed.{between}
-use Rattle.session.specs.Run.{lineLimit, badLine, okStart, noStart, printed, Desk, Turn, refuse, obey, turn, unfinished, outputFrom}
+use Rattle.session.specs.Run.{lineLimit, badLine, okStart, noStart, printed, Desk, refuse, obey, turn, outputFrom}
 use Rattle.session.proofs.Parted.{parted-some, parted-from, parted-last}
 use Rattle.session.proofs.Printed.{decimal-most}
 

@@ -1,6 +1,6 @@
 -- The first place of a byte, looked for from index i on; the parts between such bytes, and the fields of a line.
 -- Assumes nothing.
-use mathlib.Core.Path.{_≡_, refl, sym, ap, ap₂, _∙_}
+use mathlib.Core.Path.{_≡_, refl, ap, _∙_}
 use mathlib.Core.Bool.{Bool, true, false, cond}
 use mathlib.Core.List.{List, [], _∷_}
 use Prim.Native.Nat.{ℕ, suc, _+_, _-_, _≤_, _<_}
@@ -11,7 +11,7 @@ use lib.Dec.{eqb}
 use lib.ListN.{length, getD, take, drop, drop-of-length-le, length-drop}
 use lib.Seq.{drop-cons, drop-drop}
 use borrow.Author.Tests.{eq-eqb, ne-eqb}
-use Rattle.session.specs.Line.{space, placeOf, before, parted, Command, bad, ofTwo, ofThree, ofFields, commandOf}
+use Rattle.session.specs.Line.{space, placeOf, before, parted, bad, ofTwo, ofThree, ofFields, commandOf}
 use Rattle.session.specs.Parsed.{between}
 
 -- ---- the first place

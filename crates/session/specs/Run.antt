@@ -53,6 +53,11 @@ pub record Turn (T : Type 0) : Type 0 where
   pub output : List ℕ
   pub state : Option T
 
+-- what is left after the last LF: a line without LF, or none
+abbrev pub unfinished : List ℕ → List ℕ
+unfinished [] = []
+unfinished (x ∷ s) = badLine
+
 module _ {T : Type 0} (D : Desk T) where
   -- `bad` is printed, and what is open stays
   abbrev pub refuse : Option T → Turn T
@@ -68,11 +73,6 @@ module _ {T : Type 0} (D : Desk T) where
   -- a line s that had its LF
   abbrev pub turn : Option T → List ℕ → Turn T
   turn m s = cond (leb (suc (length s)) lineLimit) (obey m (commandOf s)) (refuse m)
-
-  -- what is left after the last LF: a line without LF, or none
-  abbrev pub unfinished : List ℕ → List ℕ
-  unfinished [] = []
-  unfinished (x ∷ s) = badLine
 
   -- the lines one after the other; each part but the last had its LF
   abbrev pub outputFrom : Option T → List (List ℕ) → List ℕ
