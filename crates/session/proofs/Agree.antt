@@ -1,0 +1,159 @@
+-- The line program prints what it would print if the model took the calls; its table is sound at each line.
+-- Assumes nothing.
+use mathlib.Core.Path.{_≡_, refl, ap, ap₂}
+use mathlib.Core.Bool.{Bool, true, false, cond}
+use mathlib.Core.List.{List, [], _∷_, _++_}
+use mathlib.Core.Option.{Option, none, some}
+use Prim.Native.Nat.{ℕ, suc}
+use native.Mathlib.Omega.{arith}
+use lib.Dec.{leb}
+use lib.ListN.{length, take, replicate, length-replicate}
+use borrow.Author.Tests.{eq-eqb}
+use Rattle.lists.proofs.Tests.{cases}
+use Rattle.codec.specs.Bytes.{eqList}
+use Rattle.answer.specs.declared.Answer.the-variants.{Accepted, WrongBuckets}
+use Rattle.model.specs.Model.{State, Call}
+use Rattle.model.specs.Machine.{accepted}
+use Rattle.concrete.specs.Table.{openTable}
+use Rattle.concrete.specs.Layout.{inRange, lengthOf, numbersOf}
+use Rattle.concrete.specs.Calls.{rows, solutions, shaped, FlatSound, openCall}
+use Rattle.concrete.specs.History.{PlanFits, flatState}
+use Rattle.concrete.proofs.Calls.{FlatStands}
+use Rattle.concrete.proofs.Statements.{refines, opening-stands, stands-sound, sound-stands}
+use Rattle.session.specs.declared.Number.{Number}
+use Rattle.session.specs.declared.Number.the-variants.{Of, Wrong}
+use Rattle.session.specs.Decimal.{numberTo}
+use Rattle.session.specs.Line.{lf, parted, Command, opening, ask, bad, openWord, addWord, setWord, delWord, getWord, mostBuckets, mostPlan, openWith, addWith, setWith, ofTwo, ofThree, ofFields, commandOf}
+use Rattle.session.specs.Parsed.{AtMost}
+use Rattle.session.specs.Run.{inputLimit, lineLimit, printed, Turn, obey, refuse, turn, outputFrom, outputOf, tables, output, states}
+use Rattle.session.proofs.Decimal.{number-most}
+
+-- ---- the plan of a command is a byte
+
+abbrev pub CommandFits : Command → Type 0
+CommandFits (opening b1 b2) = Unit {0}
+CommandFits (ask c) = PlanFits c
+CommandFits bad = Unit {0}
+
+open-fits : (x y : Number) → CommandFits (openWith x y)
+open-fits (Of b1) (Of b2) = tt
+open-fits (Of b1) Wrong = tt
+open-fits Wrong y = tt
+
+add-fits : (i : List ℕ) (x : Number) → AtMost mostPlan x → CommandFits (addWith i x)
+add-fits i (Of p) h = omega arith
+add-fits i Wrong h = tt
+
+set-fits : (i : List ℕ) (x : Number) → AtMost mostPlan x → CommandFits (setWith i x)
+set-fits i (Of p) h = omega arith
+set-fits i Wrong h = tt
+
+either : (t : Bool) (a b : Command) → CommandFits a → CommandFits b → CommandFits (cond t a b)
+either true a b h k = h
+either false a b h k = k
+
+fields-fit : (fs : List (List ℕ)) → CommandFits (ofFields fs)
+unfolding ofTwo ofThree
+fields-fit [] = tt
+fields-fit (w ∷ []) = tt
+fields-fit (w ∷ x ∷ []) = either (eqList w delWord) _ _ tt (either (eqList w getWord) _ _ tt tt)
+fields-fit (w ∷ x ∷ y ∷ []) =
+    either (eqList w openWord) _ _ (open-fits (numberTo mostBuckets x) (numberTo mostBuckets y))
+    (either (eqList w addWord) _ _ (add-fits x (numberTo mostPlan y) (number-most mostPlan y))
+    (either (eqList w setWord) _ _ (set-fits x (numberTo mostPlan y) (number-most mostPlan y)) tt))
+fields-fit (w ∷ x ∷ y ∷ z ∷ fs) = tt
+
+pub command-fits : (s : List ℕ) → CommandFits (commandOf s)
+command-fits s = fields-fit (parted _ s)
+
+-- ---- an opening
+
+abbrev pub zeros : ℕ → ℕ → List ℕ
+zeros b1 b2 = replicate (lengthOf rows solutions b1 b2) 0
+
+-- the outcome of an opening in the program
+pub open-is : (b1 b2 : ℕ) → (inRange b1 b2 ≡ true → openCall b1 b2 (zeros b1 b2) ≡ record { answer = Accepted 0; table = numbersOf (openTable rows solutions b1 b2) })
+    × (inRange b1 b2 ≡ false → openCall b1 b2 (zeros b1 b2) ≡ record { answer = WrongBuckets; table = zeros b1 b2 })
+unfolding openCall
+open-is b1 b2 = (
+  λ r. rw (r, length-replicate {A = ℕ} (lengthOf rows solutions b1 b2) 0, eq-eqb (lengthOf rows solutions b1 b2) (lengthOf rows solutions b1 b2) refl),
+  λ r. rw r,
+)
+
+-- ---- the table beside the model
+
+-- either nothing is open, or the table stands for the state
+abbrev pub BothStand : Option (List ℕ) → Option State → Type 0
+BothStand none none = Unit {0}
+BothStand none (some s) = ⊥
+BothStand (some t) none = ⊥
+BothStand (some t) (some s) = FlatStands t s
+
+-- the same is printed, and what is open stands again
+abbrev pub Alike : Turn (List ℕ) → Turn State → Type 0
+Alike x y = (x .output ≡ y .output) × BothStand (x .state) (y .state)
+
+module _ (m : Option (List ℕ)) (k : Option State) (h : BothStand m k) where
+  open-alike : (b1 b2 : ℕ) → Alike (obey tables m (opening b1 b2)) (obey states k (opening b1 b2))
+  open-alike b1 b2 =
+      cases (inRange b1 b2)
+      (λ r. rw (open-is b1 b2 .0 r, r)
+      (refl, opening-stands (numbersOf (openTable rows solutions b1 b2)) (record { buckets1 = b1; buckets2 = b2; before = zeros b1 b2; accepted = open-is b1 b2 .0 r })))
+      (λ r. rw (open-is b1 b2 .1 r, r) (refl, h))
+
+  refuse-alike : Alike (refuse tables m) (refuse states k)
+  refuse-alike = (refl, h)
+
+ask-alike : (m : Option (List ℕ)) (k : Option State) → BothStand m k → (c : Call (List ℕ)) → PlanFits c → Alike (obey tables m (ask c)) (obey states k (ask c))
+ask-alike none none h c f = (refl, tt)
+ask-alike none (some s) h c f = absurd h
+ask-alike (some t) none h c f = absurd h
+ask-alike (some t) (some s) h c f =
+    (ap printed (refines .says t s (record { call = c; fits = f }) h), refines .goes t s (record { call = c; fits = f }) h)
+
+pub obey-alike : (m : Option (List ℕ)) (k : Option State) → BothStand m k → (c : Command) → CommandFits c → Alike (obey tables m c) (obey states k c)
+obey-alike m k h (opening b1 b2) f = open-alike m k h b1 b2
+obey-alike m k h (ask c) f = ask-alike m k h c f
+obey-alike m k h bad f = refuse-alike m k h
+
+turn-alike : (m : Option (List ℕ)) (k : Option State) → BothStand m k → (s : List ℕ) → Alike (turn tables m s) (turn states k s)
+turn-alike m k h s =
+    cases (leb (suc (length s)) lineLimit)
+    (λ e. rw e (obey-alike m k h (commandOf s) (command-fits s)))
+    (λ e. rw e (refuse-alike m k h))
+
+from-alike : (m : Option (List ℕ)) (k : Option State) → BothStand m k → (ps : List (List ℕ)) → outputFrom tables m ps ≡ outputFrom states k ps
+from-alike m k h [] = refl
+from-alike m k h (s ∷ []) = refl
+from-alike m k h (s ∷ r ∷ rs) =
+    let a = turn-alike m k h s in
+    ap₂ _++_ (a .0) (from-alike (turn tables m s .state) (turn states k s .state) (a .1) (r ∷ rs))
+
+-- "so statement 3 covers what the program answers"
+pub as-model : (s : List ℕ) → output s ≡ outputOf states s
+unfolding output
+as-model s = from-alike none none tt (parted lf (take inputLimit s))
+
+-- ---- the table is sound at each line
+
+-- what is open is sound
+abbrev pub Sound : Option (List ℕ) → Type 0
+Sound none = Unit {0}
+Sound (some t) = (shaped t ≡ true) × FlatSound t
+
+stateOf : Option (List ℕ) → Option State
+stateOf none = none
+stateOf (some t) = some (flatState t)
+
+sound-both : (m : Option (List ℕ)) → Sound m → BothStand m (stateOf m)
+unfolding stateOf
+sound-both none h = tt
+sound-both (some t) h = sound-stands t (h .0) (h .1)
+
+both-sound : (m : Option (List ℕ)) (k : Option State) → BothStand m k → Sound m
+both-sound none k h = tt
+both-sound (some t) none h = absurd h
+both-sound (some t) (some s) h = let r = stands-sound t s h in (r .0, r .2)
+
+pub sound-next : (m : Option (List ℕ)) → Sound m → (c : Command) → CommandFits c → Sound (obey tables m c .state)
+sound-next m h c f = both-sound (obey tables m c .state) (obey states (stateOf m) c .state) (obey-alike m (stateOf m) (sound-both m h) c f .1)

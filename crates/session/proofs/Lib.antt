@@ -1,0 +1,9 @@
+pub mod Decimal
+pub mod Parted
+pub mod Forms
+pub mod Printed
+pub mod Lines
+pub mod Agree
+pub mod Session
+pub mod Asked
+pub mod Opening

@@ -1,0 +1,52 @@
+-- `session::ask_del` meets its contract.
+-- Assumes nothing.
+use mathlib.Core.Path.{refl}
+use Rattle.model.specs.Model.{withdraw}
+use Rattle.session.proofs.Asked.{asked-word, asked-refused}
+use borrow.Author.Needs.{needs}
+use Rattle.session.proofs.ask_del.Statement.{statement}
+use Rattle.session.proofs.ask_del.Tie as tie
+
+read-requires : tie.Need-read-requires
+read-requires c κs = search needs
+
+enum-known-read : tie.Need-enum-known-read
+enum-known-read c = search needs
+
+withdraw-word-requires : tie.Need-withdraw-word-requires
+withdraw-word-requires c κs = search needs
+
+enum-known-read-2 : tie.Need-enum-known-read-2
+enum-known-read-2 c = search needs
+
+same-length : tie.Need-same-length
+same-length c = search needs
+
+returns : tie.Need-returns
+returns c =
+    let done = c .before .before in
+    let m = done .before .before .before in
+    let d = m .before .before in
+    let start = d .before .before .before in
+    let a = start .args in
+    rw (asked-word (a .t .now) (start .pre) (withdraw (a .id .now)) (d .read .result) (d .read .ensures) (m .read2 .given .0 .0) (m .read2 .given .1)) (done .withdraw-word .ensures)
+
+returns-2 : tie.Need-returns-2
+returns-2 c =
+    let m = c .before in
+    let d = m .before .before in
+    let start = d .before .before .before in
+    let a = start .args in
+    rw (asked-refused (a .t .now) (start .pre) (withdraw (a .id .now)) (d .read .result) (d .read .ensures) (m .read3 .given .0 .0) (m .read3 .given .1)) (refl, refl)
+
+pub ask-del-spec : {M : Type 1} → statement M
+ask-del-spec =
+    tie.close
+    (tie.spec
+    read-requires
+    enum-known-read
+    withdraw-word-requires
+    enum-known-read-2
+    same-length
+    returns
+    returns-2)

@@ -1,0 +1,5 @@
+pub mod Decimal
+pub mod Line
+pub mod Parsed
+pub mod Run
+pub mod Buffer
