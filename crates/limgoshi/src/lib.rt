@@ -1,9 +1,9 @@
 // The library for C and Rust: one entry for each call, over table and plane. Each returns the number of the answer (0: accepted) and puts
 // the number that goes with it into `value`; include/limgoshi.h declares them. No entry has a `requires`.
-// Cites answer, table and plane. Programs in other languages call it.
+// Cites answer, table, adding and plane. Programs in other languages call it.
 ghost use mathlib.Core.Path.{_≡_};
 ghost use Rattle.answer.specs.Numbers.{numberOf, valueOf};
-ghost use Rattle.model.specs.Model.{change, withdraw, query};
+ghost use Rattle.model.specs.Model.{add, change, withdraw, query};
 ghost use Rattle.concrete.specs.Calls.{openCall, call};
 ghost use Rattle.plane.specs.Lookup.{lookupCall};
 ghost use Rattle.plane.specs.Write.{writeCall};
@@ -14,6 +14,16 @@ pub extern "C" fn limgoshi_open(t: &mut [u64], b1: u64, b2: u64, value: &mut u64
     ensures { λ r. ⌜ (r ≡ numberOf (openCall b1 b2 (now (t .entry)) .answer)) × (now (value .exit) ≡ valueOf (openCall b1 b2 (now (t .entry)) .answer)) × (now (t .exit) ≡ openCall b1 b2 (now (t .entry)) .table) ⌝ }
 {
     let a = table::open(t, b1, b2);
+    *value = answer::value(a);
+    answer::number(a)
+}
+
+// Adds an identifier with its plan.
+#[no_mangle]
+pub extern "C" fn limgoshi_add(t: &mut [u64], id: &[u8], plan: u8, value: &mut u64) -> u64
+    ensures { λ r. ⌜ (r ≡ numberOf (call (now (t .entry)) (add (now (id .entry)) plan) .answer)) × (now (value .exit) ≡ valueOf (call (now (t .entry)) (add (now (id .entry)) plan) .answer)) × (now (t .exit) ≡ call (now (t .entry)) (add (now (id .entry)) plan) .table) ⌝ }
+{
+    let a = adding::add(t, id, plan);
     *value = answer::value(a);
     answer::number(a)
 }
