@@ -174,7 +174,7 @@ fn some_table(rng: &mut Rng, cards: &[Vec<u8>]) -> Vec<u64> {
         let word = identifier::word(id).expect("a card");
         let _ = shape.add(&mut t, word, rng.byte());
         if rng.one_in(5) {
-            let _ = shape.withdraw(&mut t, identifier::word(rng.pick(cards)).expect("a card"));
+            let _ = shape.withdraw(&mut t, identifier::word(rng.pick::<Vec<u8>>(cards)).expect("a card"));
         }
     }
     t
