@@ -7,7 +7,7 @@ ghost use mathlib.Core.Path.{_≡_};
 ghost use Prim.Native.Nat.{_<_, _≤_, _^_};
 ghost use lib.Count.{trailingZeros};
 ghost use lib.ListN.{length, getD};
-ghost use Rattle.gf2.specs.Vectors.{dot, product, flipIf, colStep, solStep, exchange, units};
+ghost use Rattle.gf2.specs.Vectors.{dot, product, colStep, solStep, exchange};
 ghost use Rattle.bucket.specs.Bucket.{emptyBucket, rowOf, lookup, add, change, withdraw};
 ghost use Rattle.bucket.specs.Words.{bucketFrom, wordsOf};
 
@@ -53,13 +53,6 @@ pub(crate) fn product(cols: [u64; Bucket::ROWS], k: u64) -> u64
     product_in(&cols, k)
 }
 
-// a with u XORed into it where d is set.
-pub(crate) fn flip_if(d: u64, u: u64, a: u64) -> u64
-    ensures { λ r. ⌜ r ≡ flipIf d u a ⌝ }
-{
-    if d == 0 { a } else { a ^ u }
-}
-
 // u = column i is XORed into each column a for which (v AND a) has odd parity.
 pub(crate) fn col_step(i: usize, v: u64, cols: [u64; Bucket::ROWS]) -> [u64; Bucket::ROWS]
     requires { do ⌜ i < (← ⟦Bucket::ROWS⟧) ⌝ }
@@ -70,7 +63,7 @@ pub(crate) fn col_step(i: usize, v: u64, cols: [u64; Bucket::ROWS]) -> [u64; Buc
     let mut at: usize = 0;
     while at < Bucket::ROWS {
         let a = out[at];
-        out[at] = flip_if(dot(v, a), u, a);
+        out[at] = bits::flip_if(dot(v, a), u, a);
         at += 1;
     }
     out
@@ -84,7 +77,7 @@ pub(crate) fn sol_step(u: u64, d: u64, sols: [u64; Bucket::SOLUTIONS]) -> [u64; 
     let mut left = d;
     let mut i: usize = 0;
     while i < Bucket::SOLUTIONS {
-        out[i] = flip_if(left % 2, u, out[i]);
+        out[i] = bits::flip_if(left % 2, u, out[i]);
         left = left / 2;
         i += 1;
     }
@@ -103,32 +96,11 @@ pub(crate) fn exchanged(i: usize, j: usize, cols: [u64; Bucket::ROWS]) -> [u64; 
     out
 }
 
-// The unit vector of row i.
-pub(crate) fn power(i: usize) -> u64
-    requires { do ⌜ i < (← ⟦Bucket::ROWS⟧) ⌝ }
-    ensures { λ r. ⌜ r ≡ 2 ^ i ⌝ }
-{
-    1 << i
-}
-
 // The lowest set bit of x; `ROWS` where x is 0.
 pub(crate) fn lowest(x: u64) -> usize
     ensures { λ r. do ⌜ r ≡ trailingZeros (← ⟦Bucket::ROWS⟧ .entry) x ⌝ }
 {
     u64::trailing_zeros(x) as usize
-}
-
-// The unit vectors.
-pub(crate) fn unit_cols() -> [u64; Bucket::ROWS]
-    ensures { λ r. do ⌜ r ≡ units (← ⟦Bucket::ROWS⟧ .entry) ⌝ }
-{
-    let mut out = [0u64; Bucket::ROWS];
-    let mut i: usize = 0;
-    while i < Bucket::ROWS {
-        out[i] = power(i);
-        i += 1;
-    }
-    out
 }
 
 impl Bucket {
@@ -153,7 +125,7 @@ impl Bucket {
     pub fn empty() -> Self
         ensures { λ r. do ⌜ r ≡ emptyBucket (← ⟦Bucket::ROWS⟧ .entry) (← ⟦Bucket::SOLUTIONS⟧ .entry) ⌝ }
     {
-        let cols = unit_cols();
+        let cols = bits::unit_rows();
         Self {
             cols,
             mark: 0,
@@ -179,7 +151,7 @@ impl Bucket {
         let p = product(cols, k);
         let i = lowest(p);
         if i < Self::ROWS {
-            if p == power(i) {
+            if p == bits::power(i) {
                 if (mark >> i) % 2 == 1 {
                     return i;
                 }
@@ -197,14 +169,14 @@ impl Bucket {
         let p = product(cols, k);
         let i = lowest(p ^ (p & mark));
         if i < Self::ROWS {
-            let next = col_step(i, k ^ power(i), cols);
+            let next = col_step(i, k ^ bits::power(i), cols);
             let sols = self.sols;
             let solved = sol_step(next[i], self.lookup(k) ^ plan, sols);
             return Tried {
                 done: true,
                 bucket: Self {
                     cols: next,
-                    mark: mark | power(i),
+                    mark: mark | bits::power(i),
                     sols: solved,
                     bound: self.bound,
                 },
@@ -250,13 +222,13 @@ impl Bucket {
             let cols = self.cols;
             let mark = self.mark;
             let j = lowest(cols[i]);
-            let next = exchanged(i, j, col_step(i, k ^ power(j), cols));
+            let next = exchanged(i, j, col_step(i, k ^ bits::power(j), cols));
             let sols = self.sols;
             return Tried {
                 done: true,
                 bucket: Self {
                     cols: next,
-                    mark: mark ^ (mark & power(j)),
+                    mark: mark ^ (mark & bits::power(j)),
                     sols,
                     bound: self.bound,
                 },

@@ -1,31 +1,18 @@
 // K's rows from the 64 columns of its inverse, or the fact that there are none: elimination without counting ones.
 // The rows that the mark does not name must be units; their columns need no pass, and an empty bucket none at all.
 // The contract is an equation (`soundRows`); proofs/Exact.antt says that it is exact both ways.
-// Cites gf2. table cites it for the test of soundness.
+// Cites gf2 and bits. settle and sound cite it.
 ghost use mathlib.Core.Path.{_≡_};
 ghost use mathlib.Core.Bool.{true};
 ghost use Prim.Native.Nat.{_/_, _%_, _^_, _<_};
 ghost use lib.Count.{trailingZeros};
 ghost use lib.ListN.{length, getD};
-ghost use Rattle.gf2.specs.Vectors.{flipIf, solStep, units};
+ghost use Rattle.gf2.specs.Vectors.{solStep};
 ghost use Rattle.eliminate.specs.Elimination.{clearFrom, passed, pick, ordered, eliminated, freeCols, soundRows};
 
 pub struct Rows {
     pub ok: bool,
     pub rows: [u64; 64],
-}
-
-fn power(i: usize) -> u64
-    requires { ⌜ i < 64 ⌝ }
-    ensures { λ r. ⌜ r ≡ 2 ^ i ⌝ }
-{
-    1 << i
-}
-
-fn flip_if(d: u64, u: u64, a: u64) -> u64
-    ensures { λ r. ⌜ r ≡ flipIf d u a ⌝ }
-{
-    if d == 0 { a } else { a ^ u }
 }
 
 // `w` is XORed into each number from `j` on that has bit `p`.
@@ -36,7 +23,7 @@ fn clear_from(t: &mut [u64; 64], j: usize, p: usize, w: u64)
     let mut k = j;
     while k < 64 {
         let a = t[k];
-        t[k] = flip_if((a >> p) % 2, w, a);
+        t[k] = bits::flip_if((a >> p) % 2, w, a);
         k += 1;
     }
 }
@@ -77,18 +64,6 @@ fn pick_of(j: usize, f: u64) -> usize
     j
 }
 
-fn unit_rows() -> [u64; 64]
-    ensures { λ r. ⌜ r ≡ units 64 ⌝ }
-{
-    let mut out = [0u64; 64];
-    let mut i: usize = 0;
-    while i < 64 {
-        out[i] = power(i);
-        i += 1;
-    }
-    out
-}
-
 fn dual_at(ds: &[u64; 64], x: u64) -> u64
     requires { ⌜ length (now ds) ≡ 64 ⌝ }
     ensures { λ r. ⌜ r ≡ getD (now (ds .entry)) (trailingZeros 64 x) 0 ⌝ }
@@ -114,7 +89,7 @@ fn eliminate(cols: [u64; 64], occupied: u64) -> Rows
     ensures { λ r. ⌜ r ≡ eliminated 64 cols ⌝ }
 {
     let mut prods = cols;
-    let mut duals = unit_rows();
+    let mut duals = bits::unit_rows();
     let mut mark: u64 = 0;
     let mut j: usize = 0;
     while j < 64 {
@@ -126,7 +101,7 @@ fn eliminate(cols: [u64; 64], occupied: u64) -> Rows
                 rows: cols,
             };
         }
-        let unit = power(p);
+        let unit = bits::power(p);
         let w = x ^ unit;
         if w != 0 {
             pass(&mut prods, occupied, j, p, w, unit);
@@ -151,7 +126,7 @@ fn free_cols(cols: &[u64; 64], mark: u64) -> bool
     let mut i: usize = 0;
     while i < 64 {
         let c = cols[i];
-        let u = power(i);
+        let u = bits::power(i);
         if c ^ (c & mark) != u ^ (u & mark) {
             return false;
         }

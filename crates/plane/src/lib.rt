@@ -21,7 +21,7 @@ ghost use Rattle.plane.specs.declared.Wrong.the-variants.{Nowhere};
 ghost use Rattle.plane.specs.Record.{bytesOf, readAll, bucketLength, entryLength, endLength, headerRecord, bucketRecord, bucketFrom, entryRecord, entryFrom, endRecord};
 ghost use Rattle.plane.specs.Plane.{planeBytes, bucketsAt, planeLength, whole, headerFits, bucketFits, bucketsWrong, entriesWrong, endFits, endWrong, recordsWrong, wrongAt, planeFrom};
 ghost use Rattle.concrete.specs.Calls.{rows, solutions, tableOf, shaped, sound};
-ghost use Rattle.plane.specs.Write.{planeOf, inFront, putFront};
+ghost use Rattle.plane.specs.Write.{planeOf, inFront, putFront, writeCall};
 ghost use Rattle.plane.specs.Steps.{seenFrom, pairFrom, recordsOf};
 ghost use Rattle.plane.specs.Lookup.{orStranger, levelPlan, secondPlan, planFrom, looked, lookupCall};
 
@@ -508,4 +508,18 @@ pub(crate) fn write_sound(t: &[u64], out: &mut [u8]) -> Answer
     }
     write_plane(t, out);
     Answer::Accepted(needed as u64)
+}
+
+// The plane of a table of any numbers, to the front of the output: causes 4, 5, 9. Nothing is written where it is turned down.
+pub fn write(t: &[u64], out: &mut [u8]) -> Answer
+    ensures { λ r. ⌜ (r ≡ writeCall (now (t .entry)) (now (out .entry)) .answer) × (now (out .exit) ≡ writeCall (now (t .entry)) (now (out .entry)) .output) ⌝ }
+{
+    if sound::shaped(t) {
+        if sound::sound(t) {
+            return write_sound(t, out);
+        }
+        return Answer::NotSound;
+    }
+    let size = t.len();
+    Answer::WrongTable(size as u64)
 }

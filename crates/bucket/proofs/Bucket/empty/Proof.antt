@@ -5,12 +5,12 @@ use Rattle.bucket.specs.Bucket.{emptyBucket}
 use Rattle.bucket.proofs.Bucket.empty.Statement.{statement}
 use Rattle.bucket.proofs.Bucket.empty.Tie as tie
 
-unit-cols-requires : tie.Need-unit-cols-requires
-unit-cols-requires c κs = search needs
+unit-rows-requires : tie.Need-unit-rows-requires
+unit-rows-requires c κs = search needs
 
 returns : tie.Need-returns
 unfolding emptyBucket
-returns c = rw (c .unit-cols .ensures)
+returns c = rw (c .unit-rows .ensures)
 
 pub empty-spec : {M : Type 1} → statement M
-empty-spec = tie.close (tie.spec unit-cols-requires returns)
+empty-spec = tie.close (tie.spec unit-rows-requires returns)

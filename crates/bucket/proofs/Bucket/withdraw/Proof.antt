@@ -12,7 +12,7 @@ use Rattle.bucket.specs.Bucket.{withdrawAt, withdraw}
 use Rattle.bucket.proofs.Laws.{live-row, freed-lt}
 use Rattle.bucket.proofs.Bucket.row_of.Reads as row-of-reads
 use Rattle.bucket.proofs.lowest.Reads as lowest-reads
-use Rattle.bucket.proofs.power.Reads as power-reads
+use Rattle.bits.proofs.power.Reads as power-reads
 use Rattle.bucket.proofs.col_step.Reads as col-step-reads
 use Rattle.bucket.proofs.exchanged.Reads as exchanged-reads
 use Rattle.bucket.proofs.Bucket.withdraw.Reads as reads

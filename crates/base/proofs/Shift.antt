@@ -1,0 +1,85 @@
+-- An element comes into a list or goes out of it, one place at a time; and a pair of numbers, which is an entry, does.
+-- Assumes nothing.
+use Prim.Native.Nat.{ℕ, zero, suc, _+_, _-_, _*_, _≤_, _<_}
+use native.Mathlib.Nat.{not-suc-le-zero, le-of-suc-le-suc}
+use native.Mathlib.Omega.{arith}
+use mathlib.Core.Path.{_≡_, refl, sym, ap, ap₂, _∙_, subst}
+use mathlib.Core.List.{List, [], _∷_, _++_, append-assoc}
+use lib.ListN.{length, getD, set, take, drop, replicate, length-append, length-take, length-drop, length-replicate, replicate-append-replicate, drop-of-length-le}
+use lib.Seq.{take-all, take-append-le, drop-append-le}
+use Rattle.lists.specs.Entries.{Entry}
+use Rattle.model.specs.Model.{baseLimit}
+use Rattle.concrete.specs.Layout.{baseNumbers, pairNumbers, basePairs, pairsFrom}
+use Rattle.concrete.proofs.Numbers.{length-base, length-pairsFrom}
+use Rattle.base.specs.Base.{Pairs, putAt}
+
+-- ---- one element
+
+module _ {A : Type 0} where
+  pub length-put : (i : ℕ) (x : A) (xs : List A) → i ≤ length xs → length (putAt i x xs) ≡ suc (length xs)
+  length-put i x xs h = simp (length-append, length-take, length-drop) (omega arith)
+
+  pub put-last : (i : ℕ) (x : A) (xs : List A) → length xs ≤ i → putAt i x xs ≡ xs ++ x ∷ []
+  put-last i x xs h = rw (take-all i xs h, drop-of-length-le xs h)
+
+  pub put-append : (i : ℕ) (x : A) (xs ys : List A) → i ≤ length xs → putAt i x (xs ++ ys) ≡ putAt i x xs ++ ys
+  put-append i x xs ys h = rw (take-append-le, drop-append-le i xs ys h) (sym (append-assoc (take i xs) (x ∷ drop i xs) ys))
+
+  pub put-same : (i : ℕ) (a b : A) (xs ys : List A) → i ≤ length xs → i ≤ length ys → putAt i a xs ≡ putAt i b ys → xs ≡ ys
+  put-same zero a b xs ys h k e = cc
+  put-same (suc i) a b [] ys h k e = absurd (not-suc-le-zero h)
+  put-same (suc i) a b (x ∷ xs) [] h k e = absurd (not-suc-le-zero k)
+  put-same (suc i) a b (x ∷ xs) (y ∷ ys) h k e =
+      let p : x ≡ y = cc in
+      let q : putAt i a xs ≡ putAt i b ys = cc in
+      ap₂ {C = List A} _∷_ p (put-same i a b xs ys (le-of-suc-le-suc h) (le-of-suc-le-suc k) q)
+
+-- a turn of the loops: the element at i is carried on
+pub carry-up : (l : List ℕ) (i c : ℕ) → i < length l → putAt (suc i) (getD l i 0) (set l i c) ≡ putAt i c l
+carry-up [] i c h = absurd (not-suc-le-zero h)
+carry-up (y ∷ l) zero c h = refl
+carry-up (y ∷ l) (suc i) c h = ap {B = List ℕ} (λ r. y ∷ r) (carry-up l i c (le-of-suc-le-suc h))
+
+pub carry-down : (l : List ℕ) (i c : ℕ) → i < length l → putAt i (getD l i 0) (set l i c) ≡ putAt (suc i) c l
+carry-down [] i c h = absurd (not-suc-le-zero h)
+carry-down (y ∷ l) zero c h = refl
+carry-down (y ∷ l) (suc i) c h = ap {B = List ℕ} (λ r. y ∷ r) (carry-down l i c (le-of-suc-le-suc h))
+
+-- ---- one pair
+
+pairs-put : (i : ℕ) (e : Entry) (es : List Entry) → i ≤ length es → pairNumbers (putAt i e es) ≡ putAt (2 * i) (e .word) (putAt (2 * i) (e .plan) (pairNumbers es))
+pairs-put zero e es h = refl
+pairs-put (suc i) e [] h = absurd (not-suc-le-zero h)
+pairs-put (suc i) e (x ∷ es) h =
+    let k : suc (suc (2 * i)) ≡ 2 * suc i = omega arith in
+    ap {B = List ℕ} (λ l. x .word ∷ x .plan ∷ l) (pairs-put i e es (le-of-suc-le-suc h))
+    ∙ ap (λ (j : ℕ). putAt j (e .word) (putAt j (e .plan) (pairNumbers (x ∷ es)))) k
+
+pub length-pairs : (es : List Entry) → length es ≤ baseLimit → length (pairNumbers es) ≡ 2 * length es
+length-pairs es h =
+    let z : ℕ = baseNumbers - 2 * length es in
+    omega (arith, length-append (pairNumbers es) (replicate z 0), length-replicate {A = ℕ} z 0, length-base es h)
+
+two-zeros : (k : ℕ) → _≡_ {A = List ℕ} (replicate (suc (suc k)) 0) (replicate k 0 ++ 0 ∷ 0 ∷ [])
+two-zeros k = let e : k + 2 ≡ suc (suc k) = omega arith in sym (replicate-append-replicate {A = ℕ} k 2 0 ∙ ap (λ (j : ℕ). replicate {A = ℕ} j 0) e)
+
+-- an entry more is a pair more, and two zeros less
+pub base-put : (i : ℕ) (e : Entry) (es : List Entry) → i ≤ length es → length es < baseLimit
+    → putAt (2 * i) (e .word) (putAt (2 * i) (e .plan) (basePairs es)) ≡ basePairs (putAt i e es) ++ 0 ∷ 0 ∷ []
+base-put i e es h l =
+    let xs : List ℕ = pairNumbers es in
+    let z : List ℕ = replicate (baseNumbers - 2 * length es) 0 in
+    let ls : length xs ≡ 2 * length es = length-pairs es (omega arith) in
+    let p : 2 * i ≤ length xs = omega arith in
+    let q : 2 * i ≤ length (putAt (2 * i) (e .plan) xs) = omega (arith, length-put (2 * i) (e .plan) xs p) in
+    let m : baseNumbers - 2 * length es ≡ suc (suc (baseNumbers - 2 * length (putAt i e es))) = omega (arith, length-put i e es h) in
+    ap (putAt (2 * i) (e .word)) (put-append (2 * i) (e .plan) xs z p)
+    ∙ put-append (2 * i) (e .word) (putAt (2 * i) (e .plan) xs) z q
+    ∙ ap₂ (λ (a b : List ℕ). a ++ b) (sym (pairs-put i e es h)) (ap (λ (j : ℕ). replicate j 0) m ∙ two-zeros (baseNumbers - 2 * length (putAt i e es)))
+    ∙ sym (append-assoc (pairNumbers (putAt i e es)) (replicate (baseNumbers - 2 * length (putAt i e es)) 0) (0 ∷ 0 ∷ []))
+
+pub length-of : {k : ℕ} {xs : List ℕ} → Pairs k xs → length xs ≡ baseNumbers
+length-of {k} {xs} h = ap length (h .rest) ∙ length-base (pairsFrom k xs) (subst (λ (j : ℕ). j ≤ baseLimit) (sym (length-pairsFrom k xs)) (h .fits))
+
+pub room : {k : ℕ} {xs : List ℕ} → Pairs k xs → 2 * k ≤ length xs
+room {k} {xs} h = let f : k ≤ baseLimit = h .fits in omega (arith, length-of h)

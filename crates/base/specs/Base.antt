@@ -1,0 +1,32 @@
+-- The base list as it lies in the table.
+-- Assumes nothing.
+use Prim.Native.Nat.{ℕ, suc, _≤_}
+use mathlib.Core.Path.{_≡_}
+use mathlib.Core.Bool.{Bool, cond}
+use mathlib.Core.List.{List, [], _∷_, _++_}
+use mathlib.Core.Option.{Option, none, some}
+use lib.ListN.{take, drop}
+use Rattle.lists.specs.Entries.{Entry}
+use Rattle.model.specs.Model.{baseLimit}
+use Rattle.concrete.specs.Layout.{pairsFrom, basePairs}
+use Rattle.base.specs.declared.Found.{Found}
+use Rattle.base.specs.declared.Found.the-variants.{Plan, Nothing}
+
+-- the numbers hold `count` entries: that many pairs, and 0 for the unused ones
+pub record Pairs (count : ℕ) (xs : List ℕ) : Type 0 where
+  pub fits : count ≤ baseLimit
+  pub rest : xs ≡ basePairs (pairsFrom count xs)
+
+-- what the search for a word gives
+abbrev pub foundOf : Option ℕ → Found
+foundOf (some p) = Plan p
+foundOf none = Nothing
+
+-- how many entries stand before the first whose word passes the test
+abbrev pub before : (ℕ → Bool) → List Entry → ℕ
+before p [] = 0
+before p (e ∷ es) = cond (p (e .word)) 0 (suc (before p es))
+
+-- x before element i
+abbrev pub putAt : {A : Type 0} → ℕ → A → List A → List A
+putAt i x xs = take i xs ++ x ∷ drop i xs

@@ -1,0 +1,33 @@
+// Code on words of bits that the elimination and the bucket share: a power of two, an XOR under a condition, the unit vectors.
+// Each is an equation with a definition of gf2. Cites gf2; eliminate and bucket cite it.
+ghost use mathlib.Core.Path.{_≡_};
+ghost use Prim.Native.Nat.{_^_, _<_};
+ghost use Rattle.gf2.specs.Vectors.{flipIf, units};
+
+// 2^i.
+pub fn power(i: usize) -> u64
+    requires { ⌜ i < 64 ⌝ }
+    ensures { λ r. ⌜ r ≡ 2 ^ i ⌝ }
+{
+    1 << i
+}
+
+// a with u XORed into it where d is set.
+pub fn flip_if(d: u64, u: u64, a: u64) -> u64
+    ensures { λ r. ⌜ r ≡ flipIf d u a ⌝ }
+{
+    if d == 0 { a } else { a ^ u }
+}
+
+// The unit vectors.
+pub fn unit_rows() -> [u64; 64]
+    ensures { λ r. ⌜ r ≡ units 64 ⌝ }
+{
+    let mut out = [0u64; 64];
+    let mut i: usize = 0;
+    while i < 64 {
+        out[i] = power(i);
+        i += 1;
+    }
+    out
+}

@@ -1,0 +1,24 @@
+-- `limgoshi::limgoshi_write_plane` meets its contract: what each call ensures, put together.
+-- Assumes nothing.
+use borrow.Author.Needs.{needs}
+use Rattle.limgoshi.proofs.limgoshi_write_plane.Statement.{statement}
+use Rattle.limgoshi.proofs.limgoshi_write_plane.Tie as tie
+
+write-requires : tie.Need-write-requires
+write-requires c κs = search needs
+
+value-requires : tie.Need-value-requires
+value-requires c κs = search needs
+
+number-requires : tie.Need-number-requires
+number-requires c κs = search needs
+
+same-length : tie.Need-same-length
+same-length c = search needs
+
+returns : tie.Need-returns
+returns c = (cc, cc, cc)
+
+pub limgoshi-write-plane-spec : {M : Type 1} → statement M
+limgoshi-write-plane-spec =
+    tie.close (tie.spec write-requires value-requires number-requires same-length returns)

@@ -1,0 +1,69 @@
+// The library for C and Rust: one entry for each call, over table and plane. Each returns the number of the answer (0: accepted) and puts
+// the number that goes with it into `value`; include/limgoshi.h declares them. No entry has a `requires`.
+// Cites answer, table and plane. Programs in other languages call it.
+ghost use mathlib.Core.Path.{_≡_};
+ghost use Rattle.answer.specs.Numbers.{numberOf, valueOf};
+ghost use Rattle.model.specs.Model.{change, withdraw, query};
+ghost use Rattle.concrete.specs.Calls.{openCall, call};
+ghost use Rattle.plane.specs.Lookup.{lookupCall};
+ghost use Rattle.plane.specs.Write.{writeCall};
+
+// Opens an empty table with b1 and b2 buckets.
+#[no_mangle]
+pub extern "C" fn limgoshi_open(t: &mut [u64], b1: u64, b2: u64, value: &mut u64) -> u64
+    ensures { λ r. ⌜ (r ≡ numberOf (openCall b1 b2 (now (t .entry)) .answer)) × (now (value .exit) ≡ valueOf (openCall b1 b2 (now (t .entry)) .answer)) × (now (t .exit) ≡ openCall b1 b2 (now (t .entry)) .table) ⌝ }
+{
+    let a = table::open(t, b1, b2);
+    *value = answer::value(a);
+    answer::number(a)
+}
+
+// The plan of a live identifier.
+#[no_mangle]
+pub extern "C" fn limgoshi_query(t: &[u64], id: &[u8], value: &mut u64) -> u64
+    ensures { λ r. ⌜ (r ≡ numberOf (call (now (t .entry)) (query (now (id .entry))) .answer)) × (now (value .exit) ≡ valueOf (call (now (t .entry)) (query (now (id .entry))) .answer)) ⌝ }
+{
+    let a = table::query(t, id);
+    *value = answer::value(a);
+    answer::number(a)
+}
+
+// Changes the plan of a live identifier.
+#[no_mangle]
+pub extern "C" fn limgoshi_change(t: &mut [u64], id: &[u8], plan: u8, value: &mut u64) -> u64
+    ensures { λ r. ⌜ (r ≡ numberOf (call (now (t .entry)) (change (now (id .entry)) plan) .answer)) × (now (value .exit) ≡ valueOf (call (now (t .entry)) (change (now (id .entry)) plan) .answer)) × (now (t .exit) ≡ call (now (t .entry)) (change (now (id .entry)) plan) .table) ⌝ }
+{
+    let a = table::change(t, id, plan);
+    *value = answer::value(a);
+    answer::number(a)
+}
+
+// Withdraws a live identifier.
+#[no_mangle]
+pub extern "C" fn limgoshi_withdraw(t: &mut [u64], id: &[u8], value: &mut u64) -> u64
+    ensures { λ r. ⌜ (r ≡ numberOf (call (now (t .entry)) (withdraw (now (id .entry))) .answer)) × (now (value .exit) ≡ valueOf (call (now (t .entry)) (withdraw (now (id .entry))) .answer)) × (now (t .exit) ≡ call (now (t .entry)) (withdraw (now (id .entry))) .table) ⌝ }
+{
+    let a = table::withdraw(t, id);
+    *value = answer::value(a);
+    answer::number(a)
+}
+
+// Writes the plane of a table to the front of the output.
+#[no_mangle]
+pub extern "C" fn limgoshi_write_plane(t: &[u64], out: &mut [u8], value: &mut u64) -> u64
+    ensures { λ r. ⌜ (r ≡ numberOf (writeCall (now (t .entry)) (now (out .entry)) .answer)) × (now (value .exit) ≡ valueOf (writeCall (now (t .entry)) (now (out .entry)) .answer)) × (now (out .exit) ≡ writeCall (now (t .entry)) (now (out .entry)) .output) ⌝ }
+{
+    let a = plane::write(t, out);
+    *value = answer::value(a);
+    answer::number(a)
+}
+
+// The plan that a plane gives an identifier.
+#[no_mangle]
+pub extern "C" fn limgoshi_plane_lookup(id: &[u8], plane: &[u8], value: &mut u64) -> u64
+    ensures { λ r. ⌜ (r ≡ numberOf (lookupCall (now (id .entry)) (now (plane .entry)))) × (now (value .exit) ≡ valueOf (lookupCall (now (id .entry)) (now (plane .entry)))) ⌝ }
+{
+    let a = plane::lookup(id, plane);
+    *value = answer::value(a);
+    answer::number(a)
+}

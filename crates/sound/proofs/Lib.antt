@@ -1,0 +1,4 @@
+-- The laws of the crate.
+pub mod Shape
+pub mod Loops
+pub mod Held

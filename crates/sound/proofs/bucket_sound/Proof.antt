@@ -1,0 +1,55 @@
+-- `sound::bucket_sound` meets its contract.
+-- Assumes nothing.
+use mathlib.Core.Path.{sym, ap, _∙_}
+use borrow.Author.Tests.{le-leb, lt-leb}
+use borrow.Author.Needs.{needs}
+use Rattle.bucket.specs.declared.Bucket.{Bucket}
+use Rattle.concrete.specs.Test.{bucketTest}
+use Rattle.concrete.specs.Calls.{rows}
+use Rattle.sound.specs.Held.{rowOf}
+use Rattle.sound.proofs.Held.{bucket-over, bucket-broken, bucket-rows}
+use Rattle.sound.proofs.bucket_sound.Statement.{statement}
+use Rattle.sound.proofs.bucket_sound.Tie as tie
+
+bucket-at-requires : tie.Need-bucket-at-requires
+bucket-at-requires c κs = search needs
+
+returns : tie.Need-returns
+returns c =
+    let b = c .before .before in
+    let a = b .before .before .args in
+    let x = b .bucket-at .result in
+    sym (bucket-over rows (rowOf (a .t .now) (a .second) (a .m) (a .i) x) x (lt-leb _ _ (c .if1 .taken)))
+    ∙ ap (λ (y : Bucket). bucketTest rows (rowOf (a .t .now) (a .second) (a .m) (a .i) y) y) (b .bucket-at .ensures)
+
+rows-of-requires : tie.Need-rows-of-requires
+rows-of-requires c κs = search needs
+
+rows-held-requires : tie.Need-rows-held-requires
+rows-held-requires c κs = search needs
+
+returns-2 : tie.Need-returns-2
+returns-2 c =
+    let r = c .before .before .before in
+    let i = r .before .before in
+    let b = i .before .before in
+    let a = b .before .before .args in
+    let x = b .bucket-at .result in
+    c .rows-held .ensures
+    ∙ sym (bucket-rows rows (rowOf (a .t .now) (a .second) (a .m) (a .i) x) x (le-leb _ _ (i .if1 .left)) (r .rows-of .result) (r .rows-of .ensures) (c .before .before .if2 .taken))
+    ∙ ap (λ (y : Bucket). bucketTest rows (rowOf (a .t .now) (a .second) (a .m) (a .i) y) y) (b .bucket-at .ensures)
+
+returns-3 : tie.Need-returns-3
+returns-3 c =
+    let r = c .before in
+    let i = r .before .before in
+    let b = i .before .before in
+    let a = b .before .before .args in
+    let x = b .bucket-at .result in
+    sym (bucket-broken rows (rowOf (a .t .now) (a .second) (a .m) (a .i) x) x (le-leb _ _ (i .if1 .left)) (r .rows-of .result) (r .rows-of .ensures) (c .if2 .left))
+    ∙ ap (λ (y : Bucket). bucketTest rows (rowOf (a .t .now) (a .second) (a .m) (a .i) y) y) (b .bucket-at .ensures)
+
+pub bucket-sound-spec : {M : Type 1} → statement M
+bucket-sound-spec =
+    tie.close
+    (tie.spec bucket-at-requires returns rows-of-requires rows-held-requires returns-2 returns-3)

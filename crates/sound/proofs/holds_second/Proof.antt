@@ -1,0 +1,32 @@
+-- `sound::holds_second` meets its contract.
+-- Assumes nothing.
+use native.Mathlib.Omega.{arith}
+use borrow.Author.Needs.{needs}
+use Rattle.hash.specs.Mix.{mixOf}
+use Rattle.concrete.specs.Calls.{rows, solutions}
+use Rattle.sound.proofs.Shape.{shape, second-lt, second-bucket}
+use Rattle.sound.proofs.holds_second.Statement.{statement}
+use Rattle.sound.proofs.holds_second.Tie as tie
+
+threshold-requires : tie.Need-threshold-requires
+threshold-requires c κs = search needs
+
+second-index-requires : tie.Need-second-index-requires
+second-index-requires c κs = search needs
+
+bound-at-requires : tie.Need-bound-at-requires
+bound-at-requires c κs =
+    let a = c .before .before .before .args in
+    let p = c .before .before .before .pre in
+    let s = shape rows solutions (a .t .now) p in
+    let l = second-lt rows solutions (a .t .now) s mixOf (a .v) in
+    (p, omega arith)
+
+returns : tie.Need-returns
+returns c =
+    let a = c .before .before .before .before .args in
+    let s = shape rows solutions (a .t .now) (c .before .before .before .before .pre) in
+    rw (second-bucket rows solutions (a .t .now) s mixOf (a .v), c .before .before .threshold .ensures, c .bound-at .ensures, c .before .second-index .ensures)
+
+pub holds-second-spec : {M : Type 1} → statement M
+holds-second-spec = tie.close (tie.spec threshold-requires second-index-requires bound-at-requires returns)

@@ -1,0 +1,31 @@
+-- `sound::second_index` meets its contract.
+-- Assumes nothing.
+use native.Mathlib.Omega.{arith}
+use borrow.Author.Needs.{needs}
+use Rattle.hash.specs.Mix.{mixOf}
+use Rattle.concrete.specs.Calls.{rows, solutions}
+use Rattle.sound.proofs.Shape.{shape, second-lt}
+use Rattle.sound.proofs.second_index.Statement.{statement}
+use Rattle.sound.proofs.second_index.Tie as tie
+
+shared-slice-read-result : tie.Need-shared-slice-read-result
+shared-slice-read-result c = let s = shape rows solutions (c .before .before .args .t .now) (c .before .before .pre) in omega arith
+
+shared-slice-read-bucket : tie.Need-shared-slice-read-bucket
+shared-slice-read-bucket c = let s = shape rows solutions (c .before .before .before .args .t .now) (c .before .before .before .pre) in omega arith
+
+bucket-requires : tie.Need-bucket-requires
+bucket-requires c κs = search needs
+
+add-result : tie.Need-add-result
+add-result c =
+    let a = c .before .before .before .before .args in
+    let s = shape rows solutions (a .t .now) (c .before .before .before .before .pre) in
+    let l = second-lt rows solutions (a .t .now) s mixOf (a .v) in
+    omega arith
+
+returns : tie.Need-returns
+returns c = search needs
+
+pub second-index-spec : {M : Type 1} → statement M
+second-index-spec = tie.close (tie.spec shared-slice-read-result shared-slice-read-bucket bucket-requires add-result returns)

@@ -1,0 +1,379 @@
+// Document 01's causes 4 and 5: the test of a table that is handed in, for any length and any contents; and what a table of the right
+// shape has where: the places of buckets, their bounds, which level holds a vector. Each function is an equation with a definition of
+// concrete (specs/Layout.antt, Table.antt, Test.antt, Calls.antt); specs/Held.antt is for the crate's own functions. proofs/Shape.antt
+// has the laws of the places. Cites concrete, bucket, eliminate (the rows of K), identifier and hash; table and plane build on it.
+use bucket::Bucket;
+ghost use mathlib.Core.Path.{_≡_};
+ghost use mathlib.Core.Bool.{true};
+ghost use Prim.Native.Nat.{_+_, _*_, _<_, _≤_};
+ghost use lib.Dec.{eqb};
+ghost use lib.ListN.{length, getD, drop};
+ghost use Rattle.gf2.specs.Select.{chosen};
+ghost use Rattle.hash.specs.Mix.{mixOf};
+ghost use Rattle.bucket.specs.Words.{bucketFrom};
+ghost use Rattle.concrete.specs.Table.{index, holds};
+ghost use Rattle.concrete.specs.Layout.{inRange, bucketPlace, lengthOf, levelFrom, pairsFrom};
+ghost use Rattle.concrete.specs.Content.{occupied};
+ghost use Rattle.concrete.specs.Test.{allOf, ascends};
+ghost use Rattle.concrete.specs.Calls.{rows, solutions, tableOf, shaped, sound};
+ghost use Rattle.sound.specs.Held.{rowTest, bucketSound, levelSound, pairTest, countsSound, baseSound};
+
+// The table of document 01: its limits and the places of its parts.
+pub struct Table {}
+
+impl Table {
+    // The numbers before the buckets, and what stands where among them.
+    pub const HEADER: usize = 4;
+
+    pub const BUCKETS_1_AT: usize = 0;
+
+    pub const BUCKETS_2_AT: usize = 1;
+
+    pub const BASE_COUNT_AT: usize = 2;
+
+    pub const LIVE_COUNT_AT: usize = 3;
+
+    // Level 1 has 1 to this many buckets.
+    pub const MOST_BUCKETS_1: u64 = 48;
+
+    // Level 2 has 1 to this many buckets.
+    pub const MOST_BUCKETS_2: u64 = 32;
+
+    pub const MOST_BUCKETS: usize = (Self::MOST_BUCKETS_1 + Self::MOST_BUCKETS_2) as usize;
+
+    // Entries of the base list, and a pair of numbers for each, used or not.
+    pub const BASE_ENTRIES: u64 = 64;
+
+    pub const BASE_NUMBERS: usize = 2 * (Self::BASE_ENTRIES as usize);
+
+    // A plan is at most this.
+    pub const MOST_PLAN: u64 = (1 << Bucket::SOLUTIONS) - 1;
+
+    // The longest table.
+    pub const LONGEST: usize = Self::HEADER
+        + Self::MOST_BUCKETS * Bucket::WORDS
+        + Self::BASE_NUMBERS;
+}
+
+// The bucket numbers are in range.
+pub fn in_range(b1: u64, b2: u64) -> bool
+    ensures { λ r. ⌜ r ≡ inRange b1 b2 ⌝ }
+{
+    if b1 < 1 {
+        return false;
+    }
+    if Table::MOST_BUCKETS_1 < b1 {
+        return false;
+    }
+    if b2 < 1 {
+        return false;
+    }
+    b2 <= Table::MOST_BUCKETS_2
+}
+
+// The place of bucket i, level 1 first.
+pub fn bucket_place(i: usize) -> usize
+    requires { do ⌜ i ≤ (← ⟦Table::MOST_BUCKETS⟧) ⌝ }
+    ensures { λ r. ⌜ r ≡ bucketPlace rows solutions i ⌝ }
+{
+    Table::HEADER + i * Bucket::WORDS
+}
+
+// The length that the bucket numbers give.
+pub fn length_of(b1: u64, b2: u64) -> usize
+    requires { ⌜ inRange b1 b2 ≡ true ⌝ }
+    ensures { λ r. ⌜ r ≡ lengthOf rows solutions b1 b2 ⌝ }
+{
+    bucket_place((b1 + b2) as usize) + Table::BASE_NUMBERS
+}
+
+// Not cause 4.
+pub fn shaped(t: &[u64]) -> bool
+    ensures { λ r. ⌜ r ≡ shaped (now (t .entry)) ⌝ }
+{
+    if t.len() < Table::HEADER {
+        return false;
+    }
+    if in_range(t[Table::BUCKETS_1_AT], t[Table::BUCKETS_2_AT]) {
+        return t.len() == length_of(t[Table::BUCKETS_1_AT], t[Table::BUCKETS_2_AT]);
+    }
+    false
+}
+
+// The bound of bucket i, level 1 first.
+pub fn bound_at(t: &[u64], i: usize) -> u64
+    requires { ⌜ (shaped (now t) ≡ true) × (i < getD (now t) 0 0 + getD (now t) 1 0) ⌝ }
+    ensures { λ r. ⌜ r ≡ bucketFrom rows solutions (drop (bucketPlace rows solutions i) (now (t .entry))) .bound ⌝ }
+{
+    t[bucket_place(i) + Bucket::BOUND_AT]
+}
+
+// The number of the bucket of v at level 1.
+pub fn first_index(t: &[u64], v: u64) -> usize
+    requires { ⌜ shaped (now t) ≡ true ⌝ }
+    ensures { λ r. ⌜ r ≡ index mixOf (getD (now (t .entry)) 0 0) v ⌝ }
+{
+    identifier::bucket(v, t[Table::BUCKETS_1_AT]) as usize
+}
+
+// The number of the bucket of v at level 2, after those of level 1.
+pub fn second_index(t: &[u64], v: u64) -> usize
+    requires { ⌜ shaped (now t) ≡ true ⌝ }
+    ensures { λ r. ⌜ r ≡ getD (now (t .entry)) 0 0 + index mixOf (getD (now (t .entry)) 1 0) v ⌝ }
+{
+    (t[Table::BUCKETS_1_AT] + identifier::bucket(v, t[Table::BUCKETS_2_AT])) as usize
+}
+
+// The place of v's bucket at level 1.
+pub fn first_place(t: &[u64], v: u64) -> usize
+    requires { ⌜ shaped (now t) ≡ true ⌝ }
+    ensures { λ r. ⌜ r ≡ bucketPlace rows solutions (index mixOf (getD (now (t .entry)) 0 0) v) ⌝ }
+{
+    bucket_place(first_index(t, v))
+}
+
+// The place of v's bucket at level 2.
+pub fn second_place(t: &[u64], v: u64) -> usize
+    requires { ⌜ shaped (now t) ≡ true ⌝ }
+    ensures { λ r. ⌜ r ≡ bucketPlace rows solutions (getD (now (t .entry)) 0 0 + index mixOf (getD (now (t .entry)) 1 0) v) ⌝ }
+{
+    bucket_place(second_index(t, v))
+}
+
+// Level 1 holds v.
+pub fn holds_first(t: &[u64], v: u64) -> bool
+    requires { ⌜ shaped (now t) ≡ true ⌝ }
+    ensures { λ r. ⌜ r ≡ holds rows solutions mixOf (tableOf (now (t .entry)) .level1) v ⌝ }
+{
+    identifier::threshold(v) < bound_at(t, first_index(t, v))
+}
+
+// Level 2 holds v.
+pub fn holds_second(t: &[u64], v: u64) -> bool
+    requires { ⌜ shaped (now t) ≡ true ⌝ }
+    ensures { λ r. ⌜ r ≡ holds rows solutions mixOf (tableOf (now (t .entry)) .level2) v ⌝ }
+{
+    identifier::threshold(v) < bound_at(t, second_index(t, v))
+}
+
+// The place of the base list.
+pub fn base_place(t: &[u64]) -> usize
+    requires { ⌜ shaped (now t) ≡ true ⌝ }
+    ensures { λ r. ⌜ r ≡ bucketPlace rows solutions (getD (now (t .entry)) 0 0 + getD (now (t .entry)) 1 0) ⌝ }
+{
+    bucket_place((t[Table::BUCKETS_1_AT] + t[Table::BUCKETS_2_AT]) as usize)
+}
+
+// The bucket whose words start at a place.
+pub fn bucket_at(t: &[u64], place: usize) -> Bucket
+    requires { do ⌜ place + (← ⟦Bucket::WORDS⟧) ≤ length (now t) ⌝ }
+    ensures { λ r. ⌜ r ≡ bucketFrom rows solutions (drop place (now (t .entry))) ⌝ }
+{
+    let end = place + Bucket::WORDS;
+    bucket::load(&t[place..end])
+}
+
+// An occupied row v of bucket i of m, under its bound, is held where the tests send it: at level 2 also by its level 1 form.
+pub(crate) fn row_held(t: &[u64], second: bool, m: u64, i: u64, bound: u64, v: u64) -> bool
+    requires { ⌜ shaped (now t) ≡ true ⌝ }
+    ensures { λ r. ⌜ r ≡ rowTest (now (t .entry)) second m i bound v ⌝ }
+{
+    if identifier::bucket(v, m) != i {
+        return false;
+    }
+    if bound <= identifier::threshold(v) {
+        return false;
+    }
+    if second {
+        return !holds_first(t, identifier::first(v));
+    }
+    true
+}
+
+// Each of the rows that the mark names is held so.
+pub(crate) fn rows_held(
+    t: &[u64],
+    second: bool,
+    m: u64,
+    i: u64,
+    bound: u64,
+    mark: u64,
+    vectors: [u64; Bucket::ROWS],
+) -> bool
+    requires { ⌜ shaped (now t) ≡ true ⌝ }
+    ensures { λ r. ⌜ r ≡ allOf (rowTest (now (t .entry)) second m i bound) (chosen mark vectors) ⌝ }
+{
+    let mut left = mark;
+    while left != 0 {
+        let a = u64::trailing_zeros(left) as usize;
+        if row_held(t, second, m, i, bound, vectors[a]) {
+            left = left & (left - 1);
+        } else {
+            return false;
+        }
+    }
+    true
+}
+
+// The bucket at a place, number i of m, is sound.
+pub(crate) fn bucket_sound(t: &[u64], second: bool, m: u64, i: u64, place: usize) -> bool
+    requires { do ⌜ (shaped (now t) ≡ true) × (place + (← ⟦Bucket::WORDS⟧) ≤ length (now t)) ⌝ }
+    ensures { λ r. ⌜ r ≡ bucketSound (now (t .entry)) second m i place ⌝ }
+{
+    let b = bucket_at(t, place);
+    if Bucket::LARGEST_BOUND < b.bound {
+        return false;
+    }
+    let cols = b.cols;
+    let found = eliminate::rows_of(cols, b.mark);
+    if found.ok {
+        let vectors = found.rows;
+        return rows_held(t, second, m, i, b.bound, b.mark, vectors);
+    }
+    false
+}
+
+// The m buckets of a level, from a place on, are sound.
+pub(crate) fn level_sound(t: &[u64], second: bool, m: u64, place: usize) -> bool
+    requires { do ⌜ (shaped (now t) ≡ true) × (place + m * (← ⟦Bucket::WORDS⟧) ≤ length (now t)) ⌝ }
+    ensures { λ r. ⌜ r ≡ levelSound (now (t .entry)) second m place ⌝ }
+{
+    let mut i: u64 = 0;
+    let mut at = place;
+    while i < m {
+        if bucket_sound(t, second, m, i, at) {
+            i += 1;
+            at += Bucket::WORDS;
+        } else {
+            return false;
+        }
+    }
+    true
+}
+
+// The occupied rows of m buckets, from a place on, and the base entries.
+pub(crate) fn live_count(t: &[u64], m: u64, place: usize, base: u64) -> u64
+    requires { do ⌜ (place + m * (← ⟦Bucket::WORDS⟧) ≤ length (now t)) × (base ≤ (← ⟦Table::BASE_ENTRIES⟧)) ⌝ }
+    ensures { λ r. ⌜ r ≡ occupied (levelFrom rows solutions m (drop place (now (t .entry)))) + base ⌝ }
+{
+    let mut sum = base;
+    let mut i: u64 = 0;
+    let mut at = place;
+    while i < m {
+        sum += u64::count_ones(t[at + Bucket::MARK_AT]) as u64;
+        i += 1;
+        at += Bucket::WORDS;
+    }
+    sum
+}
+
+// The entry of a word by its w' is held in the base list.
+pub(crate) fn pair_held(t: &[u64], word: u64, plan: u64) -> bool
+    requires { ⌜ shaped (now t) ≡ true ⌝ }
+    ensures { λ r. ⌜ r ≡ pairTest (now (t .entry)) (record { word = word; plan = plan }) ⌝ }
+{
+    if Table::MOST_PLAN < plan {
+        return false;
+    }
+    if holds_second(t, word) {
+        return false;
+    }
+    !holds_first(t, identifier::first(word))
+}
+
+// Each of the first pairs from a place on is held so.
+pub(crate) fn pairs_held(t: &[u64], count: u64, place: usize) -> bool
+    requires { ⌜ (shaped (now t) ≡ true) × (place + 2 * count ≤ length (now t)) ⌝ }
+    ensures { λ r. ⌜ r ≡ allOf (pairTest (now (t .entry))) (pairsFrom count (drop place (now (t .entry)))) ⌝ }
+{
+    let mut left = count;
+    let mut at = place;
+    while 0 < left {
+        if pair_held(t, t[at], t[at + 1]) {
+            left -= 1;
+            at += 2;
+        } else {
+            return false;
+        }
+    }
+    true
+}
+
+// The words of the first pairs from a place on ascend.
+pub(crate) fn pairs_ascend(t: &[u64], count: u64, place: usize) -> bool
+    requires { ⌜ place + 2 * count ≤ length (now t) ⌝ }
+    ensures { λ r. ⌜ r ≡ ascends (pairsFrom count (drop place (now (t .entry)))) ⌝ }
+{
+    let mut left = count;
+    let mut at = place;
+    while 1 < left {
+        let next = at + 2;
+        if t[at] < t[next] {
+            left -= 1;
+            at = next;
+        } else {
+            return false;
+        }
+    }
+    true
+}
+
+// From a place on each number is 0.
+pub(crate) fn zero_from(t: &[u64], place: usize) -> bool
+    requires { ⌜ place ≤ length (now t) ⌝ }
+    ensures { λ r. ⌜ r ≡ allOf (λ x. eqb x 0) (drop place (now (t .entry))) ⌝ }
+{
+    let mut i = place;
+    while i < t.len() {
+        if t[i] != 0 {
+            return false;
+        }
+        i += 1;
+    }
+    true
+}
+
+// The base count is in range, and the live count is right.
+pub(crate) fn counts_sound(t: &[u64]) -> bool
+    requires { ⌜ shaped (now t) ≡ true ⌝ }
+    ensures { λ r. ⌜ r ≡ countsSound (now (t .entry)) ⌝ }
+{
+    let count = t[Table::BASE_COUNT_AT];
+    if Table::BASE_ENTRIES < count {
+        return false;
+    }
+    let buckets = t[Table::BUCKETS_1_AT] + t[Table::BUCKETS_2_AT];
+    t[Table::LIVE_COUNT_AT] == live_count(t, buckets, Table::HEADER, count)
+}
+
+// The base list is sound.
+pub(crate) fn base_sound(t: &[u64]) -> bool
+    requires { do ⌜ (shaped (now t) ≡ true) × (getD (now t) 2 0 ≤ (← ⟦Table::BASE_ENTRIES⟧)) ⌝ }
+    ensures { λ r. ⌜ r ≡ baseSound (now (t .entry)) ⌝ }
+{
+    let count = t[Table::BASE_COUNT_AT];
+    let place = base_place(t);
+    if pairs_ascend(t, count, place) {
+        if zero_from(t, place + 2 * (count as usize)) {
+            return pairs_held(t, count, place);
+        }
+    }
+    false
+}
+
+// Not cause 5. What is cheap is tested first.
+pub fn sound(t: &[u64]) -> bool
+    requires { ⌜ shaped (now t) ≡ true ⌝ }
+    ensures { λ r. ⌜ r ≡ sound (now (t .entry)) ⌝ }
+{
+    let first = t[Table::BUCKETS_1_AT];
+    let second = t[Table::BUCKETS_2_AT];
+    if counts_sound(t) {
+        if base_sound(t) {
+            if level_sound(t, false, first, Table::HEADER) {
+                return level_sound(t, true, second, bucket_place(first as usize));
+            }
+        }
+    }
+    false
+}

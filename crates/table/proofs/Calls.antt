@@ -1,0 +1,138 @@
+-- The calls: what each does where its word is live or not, and where a cause before that is met.
+-- Assumes nothing.
+use Prim.Native.Nat.{ℕ, _-_, _^_, _≤_, _<_}
+use native.Mathlib.Omega.{arith}
+use mathlib.Core.Path.{_≡_, refl, sym, ap, ap₂, _∙_}
+use mathlib.Core.Bool.{true, false}
+use mathlib.Core.List.{List, []}
+use mathlib.Core.Option.{Option, none, some}
+use lib.ListN.{length, getD, set}
+use Rattle.lists.proofs.Tests.{cases, cond-true, cond-false}
+use Rattle.lists.proofs.Entries.{remove-length}
+use Rattle.hash.specs.Mix.{mixOf}
+use Rattle.answer.specs.declared.Answer.{Answer}
+use Rattle.answer.specs.declared.Answer.the-variants.{Accepted, WrongTable, NotSound, NotLive}
+use Rattle.identifier.specs.Identifier.{readOf}
+use Rattle.identifier.specs.declared.Read.{Read}
+use Rattle.identifier.specs.declared.Read.the-variants.{Word, Refused}
+use Rattle.model.specs.Model.{Call, add, change, withdraw, query}
+use Rattle.model.specs.Request.{subject, askOf}
+use Rattle.concrete.specs.Table.{changedIn, withdrawnFrom}
+use Rattle.concrete.specs.Layout.{numbersOf}
+use Rattle.concrete.specs.Calls.{rows, solutions, tableOf, planIn, shaped, sound, Outcome, turnedDown, queried, replaced, served, callRead, call}
+use Rattle.concrete.specs.History.{flatState}
+use Rattle.concrete.proofs.Calls.{stands-look, sound-stands-flat, sound-exactly}
+use Rattle.base.specs.declared.Found.{Found}
+use Rattle.base.specs.declared.Found.the-variants.{Plan, Nothing}
+use Rattle.base.specs.Base.{foundOf}
+use Rattle.table.specs.declared.Edit.the-variants.{Change, Withdraw}
+use Rattle.table.specs.Ready.{Ready, admitted}
+use Rattle.table.specs.Edit.{onBucket, onBase, touched}
+use Rattle.table.proofs.Touched.{touch-count, count-kept}
+
+-- ---- a word that is live, or not
+
+found-some : (o : Option ℕ) (p : ℕ) → foundOf o ≡ Plan p → o ≡ some p
+found-some (some q) p e = cc
+found-some none p e = absurd (let z : _≡_ {A = ℕ} 0 1 = cc in omega arith)
+
+found-none : (o : Option ℕ) → foundOf o ≡ Nothing → o ≡ none
+found-none (some q) e = absurd (let z : _≡_ {A = ℕ} 0 1 = cc in omega arith)
+found-none none e = refl
+
+module _ (t : List ℕ) (w : ℕ) (i : List ℕ) (f : Found) (e : f ≡ foundOf (planIn t w)) where
+  module _ (p : ℕ) (l : f ≡ Plan p) where
+    live : planIn t w ≡ some p
+    live = found-some (planIn t w) p (sym e ∙ l)
+
+    pub query-live : served t w (query i) ≡ record { answer = Accepted p; table = t }
+    unfolding served
+    query-live = ap (queried t) live
+
+    pub change-live : (q : ℕ) → served t w (change i q) ≡ record { answer = Accepted p; table = numbersOf (touched (Change q) w (tableOf t)) }
+    unfolding served
+    change-live q = ap (replaced t (changedIn rows solutions mixOf (tableOf t) w q)) live
+
+    pub withdraw-live : (ys : List ℕ) → ys ≡ numbersOf (touched Withdraw w (tableOf t)) → served t w (withdraw i) ≡ record { answer = Accepted p; table = set ys 3 (getD ys 3 0 - 1) }
+    unfolding served
+    withdraw-live ys y =
+        ap (replaced t (withdrawnFrom rows solutions mixOf (tableOf t) w)) live
+        ∙ ap {B = Outcome} (λ l. record { answer = Accepted p; table = l })
+        (touch-count rows solutions mixOf (tableOf t) w (onBucket Withdraw) (onBase Withdraw) (tableOf t .count - 1)
+        ∙ sym (ap₂ (λ (l : List ℕ) (c : ℕ). set l 3 (c - 1)) y (ap (λ (l : List ℕ). getD l 3 0) y ∙ count-kept rows solutions mixOf (tableOf t) w (onBucket Withdraw) (onBase Withdraw) (tableOf t .count))))
+
+    -- the live count is not 0
+    pub counted : Ready t → w < 2 ^ rows → (ys : List ℕ) → ys ≡ numbersOf (touched Withdraw w (tableOf t)) → 1 ≤ getD ys 3 0
+    counted h b ys y =
+        let st = sound-stands-flat t (h .shape) (h .sound) in
+        let k = remove-length w p (flatState t .live) (sym (stands-look t (flatState t) st w b) ∙ live) in
+        omega (arith, ap (λ (l : List ℕ). getD l 3 0) y, count-kept rows solutions mixOf (tableOf t) w (onBucket Withdraw) (onBase Withdraw) (tableOf t .count), st .stands .counted)
+
+  module _ (l : f ≡ Nothing) where
+    gone : planIn t w ≡ none
+    gone = found-none (planIn t w) (sym e ∙ l)
+
+    pub query-gone : served t w (query i) ≡ turnedDown NotLive t
+    unfolding served
+    query-gone = ap (queried t) gone
+
+    pub change-gone : (q : ℕ) → served t w (change i q) ≡ turnedDown NotLive t
+    unfolding served
+    change-gone q = ap (replaced t (changedIn rows solutions mixOf (tableOf t) w q)) gone
+
+    pub withdraw-gone : served t w (withdraw i) ≡ turnedDown NotLive t
+    unfolding served
+    withdraw-gone = ap (replaced t (withdrawnFrom rows solutions mixOf (tableOf t) w)) gone
+
+-- ---- the causes before that
+
+-- the identifier plays no part once its word is known
+by-word : (t : List ℕ) (w : ℕ) (c : Call (List ℕ)) → served t w c ≡ served t w (askOf [] c)
+unfolding served
+by-word t w (add i p) = refl
+by-word t w (change i p) = refl
+by-word t w (withdraw i) = refl
+by-word t w (query i) = refl
+
+abbrev after : List ℕ → Call (List ℕ) → Read → Outcome
+after t c (Refused a) = turnedDown a t
+after t c (Word w) = served t w c
+
+after-admitted : (t : List ℕ) (c : Call (List ℕ)) (x : Read) → callRead t c x ≡ after t c (admitted t x)
+after-admitted t c (Refused a) = refl
+after-admitted t c (Word w) = cases (shaped t) (λ p. rw p (cases (sound t) (λ q. rw q) (λ q. rw q))) (λ p. rw p)
+
+module _ (t : List ℕ) (c : Call (List ℕ)) (x : Read) (e : x ≡ admitted t (readOf (subject c))) where
+  pub call-word : (w : ℕ) → x ≡ Word w → call t c ≡ served t w (askOf [] c)
+  unfolding call
+  call-word w q = after-admitted t c (readOf (subject c)) ∙ ap (after t c) (sym e ∙ q) ∙ by-word t w c
+
+  pub call-refused : (a : Answer) → x ≡ Refused a → call t c ≡ turnedDown a t
+  unfolding call
+  call-refused a q = after-admitted t c (readOf (subject c)) ∙ ap (after t c) (sym e ∙ q)
+
+refused≢word : (a : Answer) (w : ℕ) → _≡_ {A = Read} (Refused a) (Word w) → ⊥
+refused≢word a w e = let z : _≡_ {A = ℕ} 0 1 = cc in omega arith
+
+passed : (t : List ℕ) (x : Read) (w : ℕ) → admitted t x ≡ Word w → (shaped t ≡ true) × (sound t ≡ true)
+passed t (Refused a) w e = absurd (refused≢word a w e)
+passed t (Word v) w e =
+    cases (shaped t)
+    (λ p. cases (sound t) (λ q. (p, q)) (λ q. absurd (refused≢word _ w (sym (cond-true _ _ p ∙ cond-false (Word v) _ q) ∙ e))))
+    (λ p. absurd (refused≢word _ w (sym (cond-false _ _ p) ∙ e)))
+
+-- a call that is admitted meets a sound table
+pub ready : (t : List ℕ) (x y : Read) (w : ℕ) → x ≡ admitted t y → x ≡ Word w → ((i : ℕ) → getD t i 0 < 2 ^ rows) → Ready t
+ready t x y w e q b = let p = passed t y w (sym e ∙ q) in record { shape = p .0; sound = sound-exactly t (p .0) b .0 (p .1) }
+
+-- ---- the tests of an admission
+
+module _ (t : List ℕ) (w : ℕ) where
+  pub admits : shaped t ≡ true → sound t ≡ true → admitted t (Word w) ≡ Word w
+  admits p q = cond-true _ _ p ∙ cond-true _ _ q
+
+  pub not-sound : shaped t ≡ true → sound t ≡ false → admitted t (Word w) ≡ Refused NotSound
+  not-sound p q = cond-true _ _ p ∙ cond-false _ _ q
+
+  pub not-shaped : shaped t ≡ false → admitted t (Word w) ≡ Refused (WrongTable (length t))
+  not-shaped p = cond-false _ _ p

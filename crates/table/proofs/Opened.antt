@@ -1,0 +1,113 @@
+-- Opening, number by number: the header, the empty buckets and the zeros are the numbers of the opened table.
+-- Assumes nothing.
+use Prim.Native.Nat.{ℕ, _+_, _-_, _*_, _≤_, _<_}
+use native.Mathlib.Omega.{arith}
+use mathlib.Core.Path.{_≡_, refl, sym, ap, ap₂, _∙_, subst, subst⁻¹}
+use mathlib.Core.Bool.{true, false}
+use mathlib.Core.List.{List, [], _∷_, _++_, append-assoc, append-nil}
+use lib.ListN.{length, set, take, drop, replicate, length-append, length-drop, length-replicate, getD-replicate, replicate-append-replicate, drop-of-length-le}
+use lib.Seq.{length-take-le, take-at, drop-at}
+use borrow.Author.Tests.{eq-eqb, ne-eqb}
+use borrow.Rule.Slice.PartMut.{putMid}
+use Rattle.lists.proofs.Tests.{cond-true, cond-false}
+use Rattle.answer.specs.declared.Answer.the-variants.{Accepted, WrongBuckets, WrongTable}
+use Rattle.bucket.specs.declared.Bucket.{Bucket}
+use Rattle.bucket.specs.Bucket.{emptyBucket}
+use Rattle.bucket.specs.Words.{bucketWords, wordsOf, Shaped}
+use Rattle.bucket.proofs.Words.{length-words, empty-shaped}
+use Rattle.concrete.specs.Table.{openTable}
+use Rattle.concrete.specs.Layout.{header, baseNumbers, levelNumbers, basePairs, numbersOf, bucketPlace, inRange, lengthOf}
+use Rattle.concrete.specs.Calls.{rows, solutions, turnedDown, openCall}
+use Rattle.concrete.proofs.Numbers.{length-level}
+
+level-append : (bs cs : List Bucket) → levelNumbers (bs ++ cs) ≡ levelNumbers bs ++ levelNumbers cs
+level-append [] cs = refl
+level-append (b ∷ bs) cs = ap (λ (l : List ℕ). wordsOf b ++ l) (level-append bs cs) ∙ sym (append-assoc (wordsOf b) (levelNumbers bs) (levelNumbers cs))
+
+-- the header is written
+pub header-set : (t : List ℕ) (b1 b2 : ℕ) → header ≤ length t → set (set (set (set t 0 b1) 1 b2) 2 0) 3 0 ≡ b1 ∷ b2 ∷ 0 ∷ 0 ∷ drop header t
+header-set [] b1 b2 h = absurd (omega arith)
+header-set (a ∷ []) b1 b2 h = absurd (omega arith)
+header-set (a ∷ b ∷ []) b1 b2 h = absurd (omega arith)
+header-set (a ∷ b ∷ c ∷ []) b1 b2 h = absurd (omega arith)
+header-set (a ∷ b ∷ c ∷ d ∷ t) b1 b2 h = refl
+
+module _ (n r : ℕ) where
+  abbrev E : Bucket
+  E = emptyBucket n r
+
+  abbrev w : ℕ
+  w = bucketWords n r
+
+  -- one more empty bucket is stored
+  pub level-more : (i at : ℕ) (words part : List ℕ) (k : ℕ) → at + w ≤ length words → part ≡ wordsOf E → take at words ≡ levelNumbers (replicate i E)
+      → take (at + w) (putMid at k words part) ≡ levelNumbers (replicate (i + 1) E)
+  level-more i at words part k h p q =
+      let e : length (take at words ++ part) ≡ at + w = length-append (take at words) part ∙ ap₂ _+_ (length-take-le at words (omega arith)) (ap length p ∙ length-words n r E (empty-shaped n r)) in
+      ap (take (at + w)) (sym (append-assoc (take at words) part (drop k (drop at words)))) ∙ take-at (take at words ++ part) (drop k (drop at words)) (at + w) e
+      ∙ ap₂ (λ (a b : List ℕ). a ++ b) q (p ∙ sym (append-nil (wordsOf E)))
+      ∙ sym (level-append (replicate i E) (E ∷ [])) ∙ ap levelNumbers (replicate-append-replicate i 1 E)
+
+  length-empty : (m : ℕ) → length (levelNumbers (replicate m E)) ≡ m * w
+  length-empty m =
+      length-level n r (replicate m E) (λ i l. subst⁻¹ (Shaped n r) (getD-replicate m i E E (subst (λ (k : ℕ). i < k) (length-replicate m E) l)) (empty-shaped n r))
+      ∙ ap (λ (k : ℕ). k * w) (length-replicate m E)
+
+  module _ (b1 b2 : ℕ) (t H L : List ℕ) (p : ℕ) (place : p ≡ bucketPlace n r (b1 + b2)) (size : length t ≡ lengthOf n r b1 b2)
+      (headed : H ≡ b1 ∷ b2 ∷ 0 ∷ 0 ∷ drop header t) (buckets : L ≡ levelNumbers (replicate (b1 + b2) E)) where
+    -- the header and the buckets are written
+    abbrev filled : List ℕ
+    filled = putMid header (p - header) H L
+
+    abbrev rest : List ℕ
+    rest = drop (p - header) (drop header t)
+
+    length-L : length L ≡ (b1 + b2) * w
+    length-L = ap length buckets ∙ length-empty (b1 + b2)
+
+    length-rest : length rest ≡ baseNumbers
+    length-rest = omega (arith, length-drop (p - header) (drop header t), length-drop header t)
+
+    filled-is : filled ≡ (b1 ∷ b2 ∷ 0 ∷ 0 ∷ L) ++ rest
+    filled-is = ap (λ (h : List ℕ). putMid header (p - header) h L) headed
+
+    length-filled : length filled ≡ length t
+    length-filled = ap length filled-is ∙ omega (arith, length-append L rest, length-L, length-rest)
+
+    front : take p filled ≡ b1 ∷ b2 ∷ 0 ∷ 0 ∷ L
+    front = ap (take p) filled-is ∙ take-at (b1 ∷ b2 ∷ 0 ∷ 0 ∷ L) rest p (omega (arith, length-L))
+
+    back : drop p filled ≡ rest
+    back = ap (drop p) filled-is ∙ drop-at (b1 ∷ b2 ∷ 0 ∷ 0 ∷ L) rest p (omega (arith, length-L))
+
+    -- and the base pairs
+    pub laid-out : (zs : List ℕ) → zs ≡ replicate (length (take (length filled - p) (drop p filled))) 0
+        → putMid p (length filled - p) filled zs ≡ numbersOf (openTable n r b1 b2)
+    unfolding numbersOf
+    laid-out zs z =
+        let k : ℕ = length filled - p in
+        let k-is : k ≡ baseNumbers = omega (arith, length-filled) in
+        let gone : drop k (drop p filled) ≡ [] = ap (drop k) back ∙ drop-of-length-le rest {i = k} (omega (arith, length-rest)) in
+        let room : length (take k (drop p filled)) ≡ baseNumbers - 2 * 0 = ap (λ (l : List ℕ). length (take k l)) back ∙ length-take-le k rest (omega (arith, length-rest)) ∙ k-is in
+        let pairs : zs ≡ basePairs [] = z ∙ ap (λ (m : ℕ). replicate m 0) room in
+        let both : L ≡ levelNumbers (replicate b1 E) ++ levelNumbers (replicate b2 E) = buckets ∙ ap levelNumbers (sym (replicate-append-replicate b1 b2 E)) ∙ level-append (replicate b1 E) (replicate b2 E) in
+        ap₂ (λ (a b : List ℕ). a ++ (zs ++ b)) front gone
+        ∙ ap₂ {C = List ℕ} (λ a b. b1 ∷ b2 ∷ 0 ∷ 0 ∷ (a ++ b)) both (append-nil zs ∙ pairs)
+        ∙ ap {B = List ℕ} (λ l. b1 ∷ b2 ∷ 0 ∷ 0 ∷ l) (append-assoc (levelNumbers (replicate b1 E)) (levelNumbers (replicate b2 E)) (basePairs []))
+        ∙ sym (ap₂ {C = List ℕ} (λ a b. a ∷ b ∷ 0 ∷ 0 ∷ (levelNumbers (replicate b1 E) ++ (levelNumbers (replicate b2 E) ++ basePairs []))) (length-replicate b1 E) (length-replicate b2 E))
+
+-- ---- the causes of an opening
+
+module _ (b1 b2 : ℕ) (t : List ℕ) where
+  pub out-of-range : inRange b1 b2 ≡ false → openCall b1 b2 t ≡ turnedDown WrongBuckets t
+  unfolding openCall
+  out-of-range f = cond-false _ _ f
+
+  module _ (i : inRange b1 b2 ≡ true) where
+    pub wrong-length : (length t ≡ lengthOf rows solutions b1 b2 → ⊥) → openCall b1 b2 t ≡ turnedDown (WrongTable (length t)) t
+    unfolding openCall
+    wrong-length e = cond-true _ _ i ∙ cond-false _ _ (ne-eqb _ _ e)
+
+    pub accepted : length t ≡ lengthOf rows solutions b1 b2 → openCall b1 b2 t ≡ record { answer = Accepted 0; table = numbersOf (openTable rows solutions b1 b2) }
+    unfolding openCall
+    accepted e = cond-true _ _ i ∙ cond-true _ _ (eq-eqb _ _ e)

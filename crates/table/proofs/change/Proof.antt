@@ -1,0 +1,59 @@
+-- `table::change` meets its contract.
+-- Assumes nothing.
+use mathlib.Core.Path.{refl}
+use borrow.Author.Needs.{needs}
+use Rattle.identifier.specs.Identifier.{readOf}
+use Rattle.model.specs.Model.{change}
+use Rattle.table.proofs.Calls.{ready, call-word, call-refused}
+use Rattle.table.proofs.change.Statement.{statement}
+use Rattle.table.proofs.change.Tie as tie
+
+admit-requires : tie.Need-admit-requires
+admit-requires c κs = search needs
+
+enum-known-admitted : tie.Need-enum-known-admitted
+enum-known-admitted c = search needs
+
+change-word-requires : tie.Need-change-word-requires
+change-word-requires c κs =
+    let m = c .before .before in
+    let d = m .before .before in
+    let a = d .before .before .before .before .args in
+    ready (a .t .now) (d .admit .result) (readOf (a .id .now)) (m .admitted .given .0 .0) (d .admit .ensures) (m .admitted .given .1) (λ i. d .before .before .before .slice-known .given i .fits)
+
+enum-known-admitted-2 : tie.Need-enum-known-admitted-2
+enum-known-admitted-2 c = search needs
+
+same-length : tie.Need-same-length
+same-length c = search needs
+
+returns : tie.Need-returns
+returns c =
+    let done = c .before .before in
+    let m = done .before .before .before in
+    let d = m .before .before in
+    let a = d .before .before .before .before .args in
+    rw (call-word (a .t .now) (change (a .id .now) (a .plan)) (d .admit .result) (d .admit .ensures) (m .admitted .given .0 .0) (m .admitted .given .1)) (done .change-word .ensures)
+
+same-length-2 : tie.Need-same-length-2
+same-length-2 c = search needs
+
+returns-2 : tie.Need-returns-2
+returns-2 c =
+    let m = c .before in
+    let d = m .before .before in
+    let a = d .before .before .before .before .args in
+    rw (call-refused (a .t .now) (change (a .id .now) (a .plan)) (d .admit .result) (d .admit .ensures) (m .admitted2 .given .0 .0) (m .admitted2 .given .1)) (refl, refl)
+
+pub change-spec : {M : Type 1} → statement M
+change-spec =
+    tie.close
+    (tie.spec
+    admit-requires
+    enum-known-admitted
+    change-word-requires
+    enum-known-admitted-2
+    same-length
+    returns
+    same-length-2
+    returns-2)

@@ -1,0 +1,97 @@
+-- `table::empty_buckets` meets its contract: i buckets are stored.
+-- Assumes nothing.
+use mathlib.Core.Path.{_≡_, refl, sym, ap, _∙_}
+use Prim.Native.Nat.{ℕ, _+_, _-_, _*_, _≤_}
+use native.Mathlib.Omega.{arith}
+use lib.ListN.{length, take, replicate}
+use lib.Seq.{take-all}
+use borrow.Author.Needs.{needs}
+use borrow.Rule.Slice.PartMut.{same-len-mid}
+use Rattle.bucket.specs.Words.{wordsOf}
+use Rattle.bucket.specs.Bucket.{emptyBucket}
+use Rattle.concrete.specs.Layout.{levelNumbers}
+use Rattle.concrete.specs.Calls.{rows, solutions}
+use Rattle.table.proofs.Stretch.{length-stretch}
+use Rattle.table.proofs.Opened.{level-more}
+use Rattle.table.proofs.empty_buckets.Statement.{statement}
+use Rattle.table.proofs.empty_buckets.Tie as tie
+
+abbrev Inv-loop : tie.InvT-loop
+Inv-loop words₀ count empty at₀ i₀ words at i =
+    (i ≤ count) × (at ≡ i * 74) × (length words ≡ count * 74) × (take at words ≡ levelNumbers (replicate i (emptyBucket rows solutions)))
+
+abbrev μ-loop : tie.MeasureT-loop
+μ-loop words₀ count empty at₀ i₀ words at i = count - i
+
+empty-requires : tie.Need-empty-requires Inv-loop μ-loop
+empty-requires c κs = search needs
+
+loop-holds : tie.Need-loop-holds Inv-loop μ-loop
+loop-holds c = (search needs, refl, c .before .before .pre, refl)
+
+add-end : tie.Need-add-end Inv-loop μ-loop
+add-end c = search needs
+
+mul-store : tie.Need-mul-store Inv-loop μ-loop
+mul-store c = search needs
+
+sub-store : tie.Need-sub-store Inv-loop μ-loop
+sub-store c = search needs
+
+part-store-start : tie.Need-part-store-start Inv-loop μ-loop
+part-store-start c = search needs
+
+part-store-end : tie.Need-part-store-end Inv-loop μ-loop
+part-store-end c = search needs
+
+store-requires : tie.Need-store-requires Inv-loop μ-loop
+store-requires c κs =
+    let l = c .before .before .loop in
+    length-stretch (l .at) 74 (l .words) (omega arith)
+
+add-i : tie.Need-add-i Inv-loop μ-loop
+add-i c = search needs
+
+loop-less : tie.Need-loop-less Inv-loop μ-loop
+loop-less c = search needs
+
+loop-again : tie.Need-loop-again Inv-loop μ-loop
+loop-again c =
+    let b = c .before .before in
+    let l = b .before .before .before .loop in
+    let h : l .at + 74 ≤ length (l .words) = omega arith in (
+      search needs,
+      omega arith,
+      same-len-mid (l .at) (l .at + 74 - l .at) (l .words) (b .store .last .0) (b .store .kept .0) ∙ l .inv .2,
+      level-more rows solutions (l .i) (l .at) (l .words) (b .store .last .0) (l .at + 74 - l .at) h (b .store .ensures ∙ ap wordsOf (b .before .before .before .before .empty .ensures)) (l .inv .3),
+    )
+
+same-length : tie.Need-same-length Inv-loop μ-loop
+same-length c = search needs
+
+returns : tie.Need-returns Inv-loop μ-loop
+returns c =
+    let l = c .before .loop in
+    let e : l .i ≡ c .before .before .before .before .args .count = omega arith in
+    let h : length (l .words) ≤ l .at = omega arith in
+    sym (take-all (l .at) (l .words) h) ∙ l .inv .3 ∙ ap (λ (k : ℕ). levelNumbers (replicate k (emptyBucket rows solutions))) e
+
+pub empty-buckets-spec : {M : Type 1} → statement M
+empty-buckets-spec =
+    tie.close
+    (tie.spec
+    Inv-loop
+    μ-loop
+    empty-requires
+    loop-holds
+    add-end
+    mul-store
+    sub-store
+    part-store-start
+    part-store-end
+    store-requires
+    add-i
+    loop-less
+    loop-again
+    same-length
+    returns)

@@ -1,0 +1,277 @@
+// The calls of document 01's table on a lent slice of any length and contents, with an identifier of any bytes: opening, query, change
+// and withdrawal. Each is an equation with a definition of concrete (specs/Calls.antt): the answer, causes in document 01's order, and
+// every number of the table afterwards. specs/Ready.antt has what every call tests first; the functions by word, which ask for a table
+// that passes, are for callers that know it does. proofs/Touched.antt has what one touched bucket or base list does to the numbers.
+// Cites concrete, sound (shape, soundness, places), base, bucket and identifier. The C entries and the line program build on it.
+use answer::Answer;
+use base::Found;
+use bucket::Bucket;
+use identifier::Identifier;
+use identifier::Read;
+use sound::Table;
+ghost use mathlib.Core.Path.{_≡_};
+ghost use mathlib.Core.Bool.{true};
+ghost use mathlib.Core.List.{[], _∷_};
+ghost use Prim.Native.Nat.{_+_, _*_, _<_, _≤_};
+ghost use lib.ListN.{length, drop, replicate};
+ghost use Rattle.bucket.specs.Bucket.{emptyBucket};
+ghost use Rattle.bucket.specs.Words.{bucketFrom, wordsOf};
+ghost use Rattle.settle.specs.Settle.{planOf};
+ghost use Rattle.base.specs.Base.{Pairs, foundOf};
+ghost use Rattle.identifier.specs.Identifier.{readOf};
+ghost use Rattle.model.specs.Model.{change, withdraw, query};
+ghost use Rattle.concrete.specs.Table.{openTable};
+ghost use Rattle.concrete.specs.Layout.{header, levelNumbers, pairsFrom, basePairs, numbersOf, inRange, lengthOf};
+ghost use Rattle.concrete.specs.Calls.{rows, solutions, tableOf, planIn, openCall, served, call};
+ghost use Rattle.table.specs.Ready.{Ready, admitted};
+ghost use Rattle.table.specs.Edit.{onBucket, onBase, touched};
+
+// 0 in each number.
+pub(crate) fn clear(words: &mut [u64])
+    ensures { λ _. ⌜ now (words .exit) ≡ replicate (length (now (words .entry))) 0 ⌝ }
+{
+    let mut i: usize = 0;
+    while i < words.len() {
+        words[i] = 0;
+        i += 1;
+    }
+}
+
+// Empty buckets one after the other.
+pub(crate) fn empty_buckets(words: &mut [u64], count: usize)
+    requires { do ⌜ length (now words) ≡ count * (← ⟦Bucket::WORDS⟧) ⌝ }
+    ensures { λ _. ⌜ now (words .exit) ≡ levelNumbers (replicate count (emptyBucket rows solutions)) ⌝ }
+{
+    let empty = Bucket::empty();
+    let mut at: usize = 0;
+    let mut i: usize = 0;
+    while i < count {
+        let end = at + Bucket::WORDS;
+        bucket::store(&mut words[at..end], empty);
+        at = end;
+        i += 1;
+    }
+}
+
+// The header of an opened table.
+pub(crate) fn put_header(t: &mut [u64], b1: u64, b2: u64)
+    requires { do ⌜ (← ⟦Table::HEADER⟧) ≤ length (now t) ⌝ }
+    ensures { λ _. ⌜ now (t .exit) ≡ b1 ∷ b2 ∷ 0 ∷ 0 ∷ drop header (now (t .entry)) ⌝ }
+{
+    t[Table::BUCKETS_1_AT] = b1;
+    t[Table::BUCKETS_2_AT] = b2;
+    t[Table::BASE_COUNT_AT] = 0;
+    t[Table::LIVE_COUNT_AT] = 0;
+}
+
+// The numbers of an opened table: header, empty buckets, base pairs 0.
+pub(crate) fn lay_out(t: &mut [u64], b1: u64, b2: u64)
+    requires { ⌜ (inRange b1 b2 ≡ true) × (length (now t) ≡ lengthOf rows solutions b1 b2) ⌝ }
+    ensures { λ _. ⌜ now (t .exit) ≡ numbersOf (openTable rows solutions b1 b2) ⌝ }
+{
+    put_header(t, b1, b2);
+    let count = (b1 + b2) as usize;
+    let first = Table::HEADER;
+    let base = sound::bucket_place(count);
+    empty_buckets(&mut t[first..base], count);
+    clear(&mut t[base..]);
+}
+
+// Opening: cause 3, then 4 for a wrong length alone. Earlier contents are not tested.
+pub fn open(t: &mut [u64], b1: u64, b2: u64) -> Answer
+    ensures { λ r. ⌜ (r ≡ openCall b1 b2 (now (t .entry)) .answer) × (now (t .exit) ≡ openCall b1 b2 (now (t .entry)) .table) ⌝ }
+{
+    if sound::in_range(b1, b2) {
+        let size = t.len();
+        if size == sound::length_of(b1, b2) {
+            lay_out(t, b1, b2);
+            return Answer::Accepted(0);
+        }
+        return Answer::WrongTable(size as u64);
+    }
+    Answer::WrongBuckets
+}
+
+// The plan of v in a bucket, if it is live there.
+pub(crate) fn plan_of(b: Bucket, v: u64) -> Found
+    ensures { λ r. ⌜ r ≡ foundOf (planOf rows v b) ⌝ }
+{
+    if b.row_of(v) < Bucket::ROWS {
+        return Found::Plan(b.lookup(v));
+    }
+    Found::Nothing
+}
+
+// The plan of w, if it is live: at level 1 if that holds it, else at level 2 if that holds it, else in the base list.
+pub(crate) fn plan_in(t: &[u64], w: u64) -> Found
+    requires { ⌜ Ready (now t) ⌝ }
+    ensures { λ r. ⌜ r ≡ foundOf (planIn (now (t .entry)) w) ⌝ }
+{
+    if sound::holds_first(t, w) {
+        return plan_of(sound::bucket_at(t, sound::first_place(t, w)), w);
+    }
+    let v = identifier::second(w);
+    if sound::holds_second(t, v) {
+        return plan_of(sound::bucket_at(t, sound::second_place(t, v)), v);
+    }
+    let a = sound::base_place(t);
+    let count = t[Table::BASE_COUNT_AT] as usize;
+    base::find(&t[a..], count, v)
+}
+
+// What is done to the entry of a live word.
+pub(crate) enum Edit {
+    Change(u64),
+    Withdraw,
+}
+
+// A bucket after the edit of v, if v is live there.
+pub(crate) fn edited(b: Bucket, v: u64, edit: Edit) -> Bucket
+    ensures { λ r. ⌜ r ≡ onBucket edit v b ⌝ }
+{
+    match edit {
+        Edit::Change(plan) => b.change(v, plan).bucket,
+        Edit::Withdraw => b.withdraw(v).bucket,
+    }
+}
+
+// The bucket of a stretch of the table after it.
+pub(crate) fn edit_bucket(part: &mut [u64], v: u64, edit: Edit)
+    requires { do ⌜ length (now part) ≡ (← ⟦Bucket::WORDS⟧) ⌝ }
+    ensures { λ _. ⌜ now (part .exit) ≡ wordsOf (onBucket edit v (bucketFrom rows solutions (now (part .entry)))) ⌝ }
+{
+    let b = edited(bucket::load(part), v, edit);
+    bucket::store(part, b);
+}
+
+// The base list after it, if v has an entry. Returns how many entries there are.
+pub(crate) fn edit_base(pairs: &mut [u64], count: usize, v: u64, edit: Edit) -> usize
+    requires { ⌜ Pairs count (now pairs) ⌝ }
+    ensures { λ r. ⌜ (r ≡ length (onBase edit v (pairsFrom count (now (pairs .entry))))) × (now (pairs .exit) ≡ basePairs (onBase edit v (pairsFrom count (now (pairs .entry))))) ⌝ }
+{
+    match edit {
+        Edit::Change(plan) => {
+            base::update(pairs, count, v, plan);
+            count
+        }
+        Edit::Withdraw => base::remove(pairs, count, v),
+    }
+}
+
+// The edit of w in its bucket or in the base list, wherever the three tests send w. The live count stays.
+pub(crate) fn touch(t: &mut [u64], w: u64, edit: Edit)
+    requires { ⌜ Ready (now t) ⌝ }
+    ensures { λ _. ⌜ now (t .exit) ≡ numbersOf (touched edit w (tableOf (now (t .entry)))) ⌝ }
+{
+    if sound::holds_first(t, w) {
+        let a = sound::first_place(t, w);
+        let e = a + Bucket::WORDS;
+        edit_bucket(&mut t[a..e], w, edit);
+        return;
+    }
+    let v = identifier::second(w);
+    if sound::holds_second(t, v) {
+        let a = sound::second_place(t, v);
+        let e = a + Bucket::WORDS;
+        edit_bucket(&mut t[a..e], v, edit);
+        return;
+    }
+    let a = sound::base_place(t);
+    let count = t[Table::BASE_COUNT_AT] as usize;
+    t[Table::BASE_COUNT_AT] = edit_base(&mut t[a..], count, v, edit) as u64;
+}
+
+// A query for the word w.
+pub fn query_word(t: &[u64], w: u64) -> Answer
+    requires { ⌜ Ready (now t) ⌝ }
+    ensures { λ r. ⌜ (r ≡ served (now (t .entry)) w (query []) .answer) × (now (t .exit) ≡ served (now (t .entry)) w (query []) .table) ⌝ }
+{
+    let found = plan_in(t, w);
+    match found {
+        Found::Plan(p) => Answer::Accepted(p),
+        Found::Nothing => Answer::NotLive,
+    }
+}
+
+// A change of the word w.
+pub fn change_word(t: &mut [u64], w: u64, plan: u64) -> Answer
+    requires { ⌜ Ready (now t) ⌝ }
+    ensures { λ r. ⌜ (r ≡ served (now (t .entry)) w (change [] plan) .answer) × (now (t .exit) ≡ served (now (t .entry)) w (change [] plan) .table) ⌝ }
+{
+    let found = plan_in(t, w);
+    match found {
+        Found::Plan(p) => {
+            touch(t, w, Edit::Change(plan));
+            Answer::Accepted(p)
+        }
+        Found::Nothing => Answer::NotLive,
+    }
+}
+
+// A withdrawal of the word w.
+pub fn withdraw_word(t: &mut [u64], w: u64) -> Answer
+    requires { ⌜ Ready (now t) ⌝ }
+    ensures { λ r. ⌜ (r ≡ served (now (t .entry)) w (withdraw []) .answer) × (now (t .exit) ≡ served (now (t .entry)) w (withdraw []) .table) ⌝ }
+{
+    let found = plan_in(t, w);
+    match found {
+        Found::Plan(p) => {
+            touch(t, w, Edit::Withdraw);
+            t[Table::LIVE_COUNT_AT] = t[Table::LIVE_COUNT_AT] - 1;
+            Answer::Accepted(p)
+        }
+        Found::Nothing => Answer::NotLive,
+    }
+}
+
+// The word that a call is for, or the answer that turns it down: causes 1, 2, 4, 5.
+pub(crate) fn admit(t: &[u64], id: &[u8]) -> Read
+    ensures { λ r. ⌜ r ≡ admitted (now (t .entry)) (readOf (now (id .entry))) ⌝ }
+{
+    let read = Identifier::read(id);
+    match read {
+        Read::Word(w) => {
+            if sound::shaped(t) {
+                if sound::sound(t) {
+                    return Read::Word(w);
+                }
+                return Read::Refused(Answer::NotSound);
+            }
+            Read::Refused(Answer::WrongTable(t.len() as u64))
+        }
+        Read::Refused(a) => Read::Refused(a),
+    }
+}
+
+// Query: accepted, the plan.
+pub fn query(t: &[u64], id: &[u8]) -> Answer
+    ensures { λ r. ⌜ (r ≡ call (now (t .entry)) (query (now (id .entry))) .answer) × (now (t .exit) ≡ call (now (t .entry)) (query (now (id .entry))) .table) ⌝ }
+{
+    let admitted = admit(t, id);
+    match admitted {
+        Read::Word(w) => query_word(t, w),
+        Read::Refused(a) => a,
+    }
+}
+
+// Change: accepted, the earlier plan.
+pub fn change(t: &mut [u64], id: &[u8], plan: u8) -> Answer
+    ensures { λ r. ⌜ (r ≡ call (now (t .entry)) (change (now (id .entry)) plan) .answer) × (now (t .exit) ≡ call (now (t .entry)) (change (now (id .entry)) plan) .table) ⌝ }
+{
+    let admitted = admit(t, id);
+    match admitted {
+        Read::Word(w) => change_word(t, w, plan as u64),
+        Read::Refused(a) => a,
+    }
+}
+
+// Withdrawal: accepted, the earlier plan.
+pub fn withdraw(t: &mut [u64], id: &[u8]) -> Answer
+    ensures { λ r. ⌜ (r ≡ call (now (t .entry)) (withdraw (now (id .entry))) .answer) × (now (t .exit) ≡ call (now (t .entry)) (withdraw (now (id .entry))) .table) ⌝ }
+{
+    let admitted = admit(t, id);
+    match admitted {
+        Read::Word(w) => withdraw_word(t, w),
+        Read::Refused(a) => a,
+    }
+}
