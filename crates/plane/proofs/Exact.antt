@@ -19,9 +19,9 @@ use Rattle.model.specs.Model.{baseLimit}
 use Rattle.concrete.specs.Layout.{inRange}
 use Rattle.plane.specs.declared.Wrong.the-variants.{Nowhere}
 use Rattle.plane.specs.Record.{bytesOf, readAll, wordBytes, wordFrom, headerKind, headerBody, format, headerRecord, bucketKind, bucketBody, bucketRecord, bucketFrom, entryKind, entryBody, entryRecord, entryFrom, endKind, endBody, endBytes, endRecord, bucketLength, entryLength}
-use Rattle.plane.specs.Plane.{planeBytes, planeFrom, bucketsAt, whole, bucketFits, bucketsWrong, entryFits, entriesWrong, wrongAt}
+use Rattle.plane.specs.Plane.{baseCount, planeBytes, planeFrom, bucketsAt, whole, bucketFits, bucketsWrong, entryFits, entriesWrong, wrongAt}
 use Rattle.plane.specs.Fits.{Every, Below, FitsBucket, FitsEntry, Fits}
-use Rattle.plane.proofs.Scan.{both, right, whole-length, Right, parts, bucketCount, entryCount, entriesIn, endIn}
+use Rattle.plane.proofs.Scan.{both, right, whole-length, Right, parts, bucketCount, entriesIn, endIn}
 use Rattle.plane.proofs.Read.{drop-more, length-readAll, read-add}
 
 -- each is below 256
@@ -114,20 +114,20 @@ module _ (least : ℕ) (p : List ℕ) (e : entryFits least p ≡ true) (b : AllB
 
 module _ (r : ℕ) where
   buckets-bytes : (m at : ℕ) (p : List ℕ) → bucketsWrong r m at p ≡ Nowhere → AllBytes p
-      → bytesOf bucketRecord (readAll (bucketLength r) (bucketFrom r) m p) ++ drop (m * (bucketLength r)) p ≡ p
+      → bytesOf bucketRecord (readAll (bucketLength r) (bucketFrom r) m p) ++ drop (m * bucketLength r) p ≡ p
   unfolding bucketsWrong
   buckets-bytes zero at p e b = bytes-none bucketRecord (bucketLength r) (bucketFrom r) p
   buckets-bytes (suc m) at p e b =
       let f = right (bucketFits r p) _ at e in
       bytes-front bucketRecord (bucketLength r) (bucketFrom r) m p (bucket-bytes r p (f .0) b)
-      (buckets-bytes m (at + (bucketLength r)) (drop (bucketLength r) p) (f .1) (bytes-drop (bucketLength r) p b))
+      (buckets-bytes m (at + bucketLength r) (drop (bucketLength r) p) (f .1) (bytes-drop (bucketLength r) p b))
 
   buckets-fit : (m at : ℕ) (p : List ℕ) → bucketsWrong r m at p ≡ Nowhere → AllBytes p → Every (FitsBucket r) (readAll (bucketLength r) (bucketFrom r) m p)
   unfolding bucketsWrong readAll
   buckets-fit zero at p e b = tt
   buckets-fit (suc m) at p e b =
       let f = right (bucketFits r p) _ at e in
-      (bucket-fit r p (f .0) b, buckets-fit m (at + (bucketLength r)) (drop (bucketLength r) p) (f .1) (bytes-drop (bucketLength r) p b))
+      (bucket-fit r p (f .0) b, buckets-fit m (at + bucketLength r) (drop (bucketLength r) p) (f .1) (bytes-drop (bucketLength r) p b))
 
 entries-bytes : (least k at : ℕ) (p : List ℕ) → entriesWrong least k at p ≡ Nowhere → AllBytes p
     → bytesOf entryRecord (readAll entryLength entryFrom k p) ++ drop (k * entryLength) p ≡ p
@@ -195,8 +195,8 @@ module _ (r : ℕ) (p : List ℕ) (e : wrongAt r p ≡ Nowhere) (b : AllBytes p)
   base-bytes : bytesOf entryRecord (planeFrom r p .base) ++ endRecord ≡ drop (entriesIn r p) p
   unfolding planeFrom
   base-bytes =
-      rw (end-bytes, ← drop-drop (entryCount p * entryLength) (entriesIn r p) p)
-      (entries-bytes 0 (entryCount p) (entriesIn r p) (drop (entriesIn r p) p) (h .entries) (bytes-drop (entriesIn r p) p b))
+      rw (end-bytes, ← drop-drop (baseCount p * entryLength) (entriesIn r p) p)
+      (entries-bytes 0 (baseCount p) (entriesIn r p) (drop (entriesIn r p) p) (h .entries) (bytes-drop (entriesIn r p) p b))
 
   length1 : length (planeFrom r p .level1) ≡ getD p 2 0
   unfolding planeFrom
@@ -206,9 +206,9 @@ module _ (r : ℕ) (p : List ℕ) (e : wrongAt r p ≡ Nowhere) (b : AllBytes p)
   unfolding planeFrom
   length2 = length-readAll s (bucketFrom r) (getD p 3 0) _
 
-  length0 : length (planeFrom r p .base) ≡ entryCount p
+  length0 : length (planeFrom r p .base) ≡ baseCount p
   unfolding planeFrom
-  length0 = length-readAll entryLength entryFrom (entryCount p) _
+  length0 = length-readAll entryLength entryFrom (baseCount p) _
 
   -- the bytes are those of the plane that they say
   pub read-written : planeBytes (planeFrom r p) ≡ p
@@ -225,8 +225,8 @@ module _ (r : ℕ) (p : List ℕ) (e : wrongAt r p ≡ Nowhere) (b : AllBytes p)
       let c = both (inRange (getD p 2 0) (getD p 3 0)) _ (both (eqb (getD p 1 0) format) _ (a .1) .1) in
       record {
         range = rw (length1, length2) (c .0);
-        few = rw length0 (leb-true (entryCount p) baseLimit (c .1));
+        few = rw length0 (leb-true (baseCount p) baseLimit (c .1));
         buckets = rw two (buckets-fit r (bucketCount p) bucketsAt (drop bucketsAt p) (h .buckets) (bytes-drop bucketsAt p b));
-        entries = entries-fit 0 (entryCount p) (entriesIn r p) (drop (entriesIn r p) p) (h .entries) (bytes-drop (entriesIn r p) p b);
-        ascending = entries-ascending 0 (entryCount p) (entriesIn r p) (drop (entriesIn r p) p) (h .entries);
+        entries = entries-fit 0 (baseCount p) (entriesIn r p) (drop (entriesIn r p) p) (h .entries) (bytes-drop (entriesIn r p) p b);
+        ascending = entries-ascending 0 (baseCount p) (entriesIn r p) (drop (entriesIn r p) p) (h .entries);
       }

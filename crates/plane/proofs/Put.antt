@@ -126,7 +126,7 @@ records-put n r m k t out o1 o2 o3 h e f g =
     let bs = readAll (bucketWords n r) (seenFrom n r) m (drop header t) in
     let es = readAll 2 pairFrom k (drop (bucketPlace n r m) t) in
     g
-    ∙ three bucketsAt (m * (bucketLength r)) (k * entryLength) (bytesOf bucketRecord bs) (bytesOf entryRecord es) endRecord out o1 o2
-    (length-bytes bucketRecord (bucketLength r) bs (buckets-sized n r m (drop header t) (rw length-drop (omega arith))) ∙ ap (λ (i : ℕ). i * (bucketLength r)) (length-readAll (bucketWords n r) (seenFrom n r) m (drop header t)))
+    ∙ three bucketsAt (m * bucketLength r) (k * entryLength) (bytesOf bucketRecord bs) (bytesOf entryRecord es) endRecord out o1 o2
+    (length-bytes bucketRecord (bucketLength r) bs (buckets-sized n r m (drop header t) (rw length-drop (omega arith))) ∙ ap (λ (i : ℕ). i * bucketLength r) (length-readAll (bucketWords n r) (seenFrom n r) m (drop header t)))
     (length-bytes entryRecord entryLength es (entries-sized k (drop (bucketPlace n r m) t)) ∙ ap (λ (i : ℕ). i * entryLength) (length-readAll 2 pairFrom k (drop (bucketPlace n r m) t)))
     e f

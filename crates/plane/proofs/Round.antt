@@ -97,7 +97,7 @@ module _ (r : ℕ) where
       let rest : List ℕ = bytesOf bucketRecord bs ++ q in
       ap (bucketsWrong r (suc (length bs)) at) (append-assoc (bucketRecord b) (bytesOf bucketRecord bs) q)
       ∙ buckets-next r (length bs) at (bucketRecord b ++ rest) (bucket-fits b rest (h .0))
-      (rw (drop-at (bucketRecord b) rest (bucketLength r) (bucket-back r b (h .0) .0)) (buckets-right bs q (at + (bucketLength r)) (h .1)))
+      (rw (drop-at (bucketRecord b) rest (bucketLength r) (bucket-back r b (h .0) .0)) (buckets-right bs q (at + bucketLength r) (h .1)))
 
 -- the first word is at least `least`
 abbrev From : ℕ → List Entry → Type 0
@@ -144,10 +144,10 @@ module _ (r : ℕ) (P : Plane) (h : Fits r P) where
   abbrev E : List ℕ
   E = bytesOf entryRecord (P .base)
 
-  length-B : length B ≡ m * (bucketLength r)
+  length-B : length B ≡ m * bucketLength r
   length-B =
       length-bytes bucketRecord (bucketLength r) (P .level1 ++ P .level2) (every (λ b f. bucket-back r b f .0) (P .level1 ++ P .level2) (h .buckets))
-      ∙ ap (λ (n : ℕ). n * (bucketLength r)) (length-append (P .level1) (P .level2))
+      ∙ ap (λ (n : ℕ). n * bucketLength r) (length-append (P .level1) (P .level2))
 
   length-E : length E ≡ k * entryLength
   length-E = length-bytes entryRecord entryLength (P .base) (every (λ e f. entry-back e f .0) (P .base) (h .entries))
@@ -155,8 +155,8 @@ module _ (r : ℕ) (P : Plane) (h : Fits r P) where
   at-entries : drop (entriesAt r m) (planeBytes P) ≡ E ++ endRecord
   unfolding planeBytes
   at-entries =
-      drop-append-add (headerRecord (length (P .level1)) (length (P .level2)) k) (B ++ (E ++ endRecord)) (m * (bucketLength r))
-      ∙ drop-at B (E ++ endRecord) (m * (bucketLength r)) length-B
+      drop-append-add (headerRecord (length (P .level1)) (length (P .level2)) k) (B ++ (E ++ endRecord)) (m * bucketLength r)
+      ∙ drop-at B (E ++ endRecord) (m * bucketLength r) length-B
 
   at-end : drop (endAt r m k) (planeBytes P) ≡ endRecord
   at-end = sym (drop-drop (k * entryLength) (entriesAt r m) (planeBytes P)) ∙ ap (drop (k * entryLength)) at-entries ∙ drop-at E endRecord (k * entryLength) length-E
@@ -194,7 +194,7 @@ module _ (r : ℕ) (P : Plane) (h : Fits r P) where
   at-second : drop (entriesAt r (length (P .level1))) (planeBytes P) ≡ bytesOf bucketRecord (P .level2) ++ (E ++ endRecord)
   unfolding planeBytes
   at-second =
-      let n : ℕ = length (P .level1) * (bucketLength r) in
+      let n : ℕ = length (P .level1) * bucketLength r in
       drop-append-add (headerRecord (length (P .level1)) (length (P .level2)) k) (B ++ (E ++ endRecord)) n
       ∙ ap (drop n) split
       ∙ drop-at (bytesOf bucketRecord (P .level1)) (bytesOf bucketRecord (P .level2) ++ (E ++ endRecord)) n

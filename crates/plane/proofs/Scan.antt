@@ -17,7 +17,7 @@ use Rattle.concrete.specs.Layout.{inRange, mostBuckets1, mostBuckets2}
 use Rattle.plane.specs.declared.Wrong.{Wrong}
 use Rattle.plane.specs.declared.Wrong.the-variants.{Nowhere, At}
 use Rattle.plane.specs.Record.{headerKind, headerBody, format, bucketKind, bucketBody, entryKind, entryBody, entryFrom, bucketLength, entryLength, endLength}
-use Rattle.plane.specs.Plane.{whole, headerFits, bucketFits, bucketsWrong, entryFits, entriesWrong, endFits, endWrong, orNext, recordsWrong, wrongAt, bucketsAt, entriesAt, endAt, planeLength}
+use Rattle.plane.specs.Plane.{buckets1, buckets2, baseCount, whole, headerFits, bucketFits, bucketsWrong, entryFits, entriesWrong, endFits, endWrong, orNext, recordsWrong, wrongAt, bucketsAt, entriesAt, endAt, planeLength}
 
 -- two tests that hold
 pub both : (a b : Bool) → (a && b) ≡ true → (a ≡ true) × (b ≡ true)
@@ -61,7 +61,7 @@ whole-next kind body at p e =
 
 module _ (r : ℕ) where
   pub buckets-step : (left at : ℕ) (p : List ℕ) → 0 < left → bucketFits r (drop at p) ≡ true
-      → bucketsWrong r left at (drop at p) ≡ bucketsWrong r (left - 1) (at + (bucketLength r)) (drop (at + (bucketLength r)) p)
+      → bucketsWrong r left at (drop at p) ≡ bucketsWrong r (left - 1) (at + bucketLength r) (drop (at + bucketLength r) p)
   unfolding bucketsWrong
   buckets-step zero at p h e = absurd (omega arith)
   buckets-step (suc m) at p h e = rw (e, drop-drop, sub-one)
@@ -72,19 +72,19 @@ module _ (r : ℕ) where
   buckets-here (suc m) at p h e = rw e
 
   -- one that fits, and nothing wrong after it
-  pub buckets-next : (m at : ℕ) (p : List ℕ) → bucketFits r p ≡ true → bucketsWrong r m (at + (bucketLength r)) (drop (bucketLength r) p) ≡ Nowhere
+  pub buckets-next : (m at : ℕ) (p : List ℕ) → bucketFits r p ≡ true → bucketsWrong r m (at + bucketLength r) (drop (bucketLength r) p) ≡ Nowhere
       → bucketsWrong r (suc m) at p ≡ Nowhere
   unfolding bucketsWrong
   buckets-next m at p e f = rw (e, f)
 
   -- m buckets that fit are there
-  pub buckets-room : (m at : ℕ) (p : List ℕ) → bucketsWrong r m at p ≡ Nowhere → m * (bucketLength r) ≤ length p
+  pub buckets-room : (m at : ℕ) (p : List ℕ) → bucketsWrong r m at p ≡ Nowhere → m * bucketLength r ≤ length p
   unfolding bucketsWrong
   buckets-room zero at p e = omega arith
   buckets-room (suc m) at p e =
-      let f : (bucketFits r p ≡ true) × (bucketsWrong r m (at + (bucketLength r)) (drop (bucketLength r) p) ≡ Nowhere) = right (bucketFits r p) _ at e in
+      let f : (bucketFits r p ≡ true) × (bucketsWrong r m (at + bucketLength r) (drop (bucketLength r) p) ≡ Nowhere) = right (bucketFits r p) _ at e in
       let n : bucketBody r < length p = whole-length bucketKind (bucketBody r) p (both (whole bucketKind (bucketBody r) p) _ (f .0) .0) in
-      let i : m * (bucketLength r) ≤ length p - (bucketLength r) = rw length-drop at (buckets-room m _ _ (f .1)) in
+      let i : m * bucketLength r ≤ length p - (bucketLength r) = rw length-drop at (buckets-room m _ _ (f .1)) in
       rw (suc-mul m (bucketLength r)) (omega arith)
 
 -- a base entry that is cut, one whose word w is too small, and one that fits
@@ -161,26 +161,23 @@ pub next : (a o : Wrong) → orNext a o ≡ Nowhere → (a ≡ Nowhere) × (o �
 next Nowhere o e = (refl, e)
 next (At at) o e = absurd (at-nowhere e)
 
--- the numbers of buckets and base entries that a header gives
+-- the buckets of both levels
 abbrev pub bucketCount : List ℕ → ℕ
-bucketCount p = getD p 2 0 + getD p 3 0
-
-abbrev pub entryCount : List ℕ → ℕ
-entryCount p = getD p 4 0
+bucketCount p = buckets1 p + buckets2 p
 
 -- where the entries and the end start by it
 abbrev pub entriesIn : ℕ → List ℕ → ℕ
 entriesIn r p = entriesAt r (bucketCount p)
 
 abbrev pub endIn : ℕ → List ℕ → ℕ
-endIn r p = endAt r (bucketCount p) (entryCount p)
+endIn r p = endAt r (bucketCount p) (baseCount p)
 
 -- a plane that is wrong nowhere, part by part
 module _ (r : ℕ) (p : List ℕ) where
   pub record Right : Type 0 where
     pub header : headerFits p ≡ true
     pub buckets : bucketsWrong r (bucketCount p) bucketsAt (drop bucketsAt p) ≡ Nowhere
-    pub entries : entriesWrong 0 (entryCount p) (entriesIn r p) (drop (entriesIn r p) p) ≡ Nowhere
+    pub entries : entriesWrong 0 (baseCount p) (entriesIn r p) (drop (entriesIn r p) p) ≡ Nowhere
     pub end : endFits (drop (endIn r p) p) ≡ true
     pub nothing : length (drop (endIn r p) p) ≡ endLength
 
@@ -192,9 +189,9 @@ module _ (r : ℕ) (p : List ℕ) where
   unfolding wrongAt
   parts e =
       let q : List ℕ = drop (endIn r p) p in
-      let h = right (headerFits p) (recordsWrong r (bucketCount p) (entryCount p) p) 0 e in
+      let h = right (headerFits p) (recordsWrong r (bucketCount p) (baseCount p) p) 0 e in
       let n1 = next (bucketsWrong r (bucketCount p) bucketsAt (drop bucketsAt p)) _ (h .1) in
-      let n2 = next (entriesWrong 0 (entryCount p) (entriesIn r p) (drop (entriesIn r p) p)) _ (n1 .1) in
+      let n2 = next (entriesWrong 0 (baseCount p) (entriesIn r p) (drop (entriesIn r p) p)) _ (n1 .1) in
       let f = right (endFits q) (cond (eqb (length q) endLength) Nowhere (At (endIn r p + endLength))) (endIn r p) (n2 .1) in
       record {
         header = h .0;
@@ -204,7 +201,7 @@ module _ (r : ℕ) (p : List ℕ) where
         nothing = eqb-true (length q) endLength (right (eqb (length q) endLength) Nowhere _ (f .1) .0);
       }
 
-  pub right-length : Right → length p ≡ planeLength r (bucketCount p) (entryCount p)
+  pub right-length : Right → length p ≡ planeLength r (bucketCount p) (baseCount p)
   right-length h =
       let e : length p - endIn r p ≡ endLength = rw length-drop at (h .nothing) in
       omega arith
@@ -212,7 +209,7 @@ module _ (r : ℕ) (p : List ℕ) where
   -- what a right plane's header and length say
   pub record Known : Type 0 where
     pub header : Header p
-    pub whole : length p ≡ planeLength r (bucketCount p) (entryCount p)
+    pub whole : length p ≡ planeLength r (bucketCount p) (baseCount p)
 
   pub known : wrongAt r p ≡ Nowhere → Known
   known e = record { header = header p (parts e .header); whole = right-length (parts e) }

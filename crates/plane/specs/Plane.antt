@@ -27,18 +27,21 @@ planeBytes P =
     headerRecord (length (P .level1)) (length (P .level2)) (length (P .base))
     ++ (bytesOf bucketRecord (P .level1 ++ P .level2) ++ (bytesOf entryRecord (P .base) ++ endRecord))
 
--- where the buckets, the base entries and the end start, and the length
+-- where the buckets start
 abbrev pub bucketsAt : ℕ
 bucketsAt = 1 + headerBody
 
+-- where what follows this many buckets starts
 abbrev pub entriesAt : ℕ → ℕ → ℕ
-entriesAt r buckets = bucketsAt + buckets * (bucketLength r)
+entriesAt r buckets = bucketsAt + buckets * bucketLength r
 
+-- where the end starts
 abbrev pub endAt : ℕ → ℕ → ℕ → ℕ
-endAt r buckets entries = entriesAt r buckets + entries * entryLength
+endAt r buckets k = entriesAt r buckets + k * entryLength
 
+-- document 01's length of a plane
 abbrev pub planeLength : ℕ → ℕ → ℕ → ℕ
-planeLength r buckets entries = endAt r buckets entries + endLength
+planeLength r buckets k = endAt r buckets k + endLength
 
 -- ---- the first record that is wrong: p are the bytes from the record's first on, at is its offset
 
@@ -46,35 +49,46 @@ planeLength r buckets entries = endAt r buckets entries + endLength
 abbrev pub whole : ℕ → ℕ → List ℕ → Bool
 whole kind body p = leb (1 + body) (length p) && eqb (getD p 0 0) kind
 
--- format 1, bucket numbers in range, at most 64 entries
-abbrev pub headerFits : List ℕ → Bool
-headerFits p =
-    whole headerKind headerBody p && (eqb (getD p 1 0) format && (inRange (getD p 2 0) (getD p 3 0) && leb (getD p 4 0) baseLimit))
+-- the numbers of a header: buckets of level 1
+abbrev pub buckets1 : List ℕ → ℕ
+buckets1 p = getD p 2 0
 
--- a bound of at most 8
+-- buckets of level 2
+abbrev pub buckets2 : List ℕ → ℕ
+buckets2 p = getD p 3 0
+
+-- base count
+abbrev pub baseCount : List ℕ → ℕ
+baseCount p = getD p 4 0
+
+-- kind 1: format 1, bucket numbers in range, at most 64 entries
+abbrev pub headerFits : List ℕ → Bool
+headerFits p = whole headerKind headerBody p && (eqb (getD p 1 0) format && (inRange (buckets1 p) (buckets2 p) && leb (baseCount p) baseLimit))
+
+-- kind 2: a bound of at most 8
 abbrev pub bucketFits : ℕ → List ℕ → Bool
 bucketFits r p = whole bucketKind (bucketBody r) p && leb (getD p 1 0) largestBound
 
--- m buckets
+-- m of them
 unfoldable pub bucketsWrong : ℕ → ℕ → ℕ → List ℕ → Wrong
 bucketsWrong r zero at p = Nowhere
-bucketsWrong r (suc m) at p = cond (bucketFits r p) (bucketsWrong r m (at + (bucketLength r)) (drop (bucketLength r) p)) (At at)
+bucketsWrong r (suc m) at p = cond (bucketFits r p) (bucketsWrong r m (at + bucketLength r) (drop (bucketLength r) p)) (At at)
 
--- a word of at least `least`
+-- kind 3: a word of at least `least`
 abbrev pub entryFits : ℕ → List ℕ → Bool
 entryFits least p = whole entryKind entryBody p && leb least (entryFrom p .word)
 
--- k base entries: each must exceed the one before
+-- k of them: each must exceed the one before
 unfoldable pub entriesWrong : ℕ → ℕ → ℕ → List ℕ → Wrong
 entriesWrong least zero at p = Nowhere
 entriesWrong least (suc k) at p =
     cond (entryFits least p) (entriesWrong (suc (entryFrom p .word)) k (at + entryLength) (drop entryLength p)) (At at)
 
--- the fixed byte string
+-- kind 4: the fixed byte string
 abbrev pub endFits : List ℕ → Bool
 endFits p = whole endKind endBody p && eqList (take endBody (drop 1 p)) endBytes
 
--- kind 4, and nothing after it
+-- and nothing after it
 abbrev pub endWrong : ℕ → List ℕ → Wrong
 endWrong at p = cond (endFits p) (cond (eqb (length p) endLength) Nowhere (At (at + endLength))) (At at)
 
@@ -85,21 +99,22 @@ orNext (At at) o = At at
 
 -- the records after kind 1, for these numbers of buckets and base entries
 abbrev pub recordsWrong : ℕ → ℕ → ℕ → List ℕ → Wrong
-recordsWrong r buckets entries p =
+recordsWrong r buckets k p =
     orNext (bucketsWrong r buckets bucketsAt (drop bucketsAt p))
-    (orNext (entriesWrong 0 entries (entriesAt r buckets) (drop (entriesAt r buckets) p))
-    (endWrong (endAt r buckets entries) (drop (endAt r buckets entries) p)))
+    (orNext (entriesWrong 0 k (entriesAt r buckets) (drop (entriesAt r buckets) p))
+    (endWrong (endAt r buckets k) (drop (endAt r buckets k) p)))
 
 -- document 01's "offset of the first byte of the first record that is cut, of a wrong kind, or with a value not allowed; or of the first
 -- byte after kind 4"
 unfoldable pub wrongAt : ℕ → List ℕ → Wrong
-wrongAt r p = cond (headerFits p) (recordsWrong r (getD p 2 0 + getD p 3 0) (getD p 4 0) p) (At 0)
+wrongAt r p = cond (headerFits p) (recordsWrong r (buckets1 p + buckets2 p) (baseCount p) p) (At 0)
 
 -- ---- what the bytes say, where nothing is wrong
 
+-- the buckets of each level and the base entries
 unfoldable pub planeFrom : ℕ → List ℕ → Plane
 planeFrom r p = record {
-  level1 = readAll (bucketLength r) (bucketFrom r) (getD p 2 0) (drop bucketsAt p);
-  level2 = readAll (bucketLength r) (bucketFrom r) (getD p 3 0) (drop (entriesAt r (getD p 2 0)) p);
-  base = readAll entryLength entryFrom (getD p 4 0) (drop (entriesAt r (getD p 2 0 + getD p 3 0)) p);
+  level1 = readAll (bucketLength r) (bucketFrom r) (buckets1 p) (drop bucketsAt p);
+  level2 = readAll (bucketLength r) (bucketFrom r) (buckets2 p) (drop (entriesAt r (buckets1 p)) p);
+  base = readAll entryLength entryFrom (baseCount p) (drop (entriesAt r (buckets1 p + buckets2 p)) p);
 }

@@ -16,74 +16,95 @@ unfoldable pub readAll : {A : Type 0} → ℕ → (List ℕ → A) → ℕ → L
 readAll size read zero p = []
 readAll size read (suc m) p = read p ∷ readAll size read m (drop size p)
 
--- a 64-bit number: 8 bytes, little-endian
+-- the bytes of a 64-bit number
 abbrev pub wordBytes : ℕ
 wordBytes = 8
 
+-- the number at the front of the bytes, little-endian
 abbrev pub wordFrom : List ℕ → ℕ
 wordFrom p = fromBytes (take wordBytes p)
 
--- kind 1: format 1, buckets of level 1, of level 2, base count
+-- ---- kind 1: format 1, buckets of level 1, of level 2, base count (4 bytes)
+
 abbrev pub headerKind : ℕ
 headerKind = 1
 
+-- the bytes after the kind byte
 abbrev pub headerBody : ℕ
 headerBody = 4
 
+-- the only format
 abbrev pub format : ℕ
 format = 1
 
+-- with the kind byte first
 abbrev pub headerRecord : ℕ → ℕ → ℕ → List ℕ
 headerRecord buckets1 buckets2 entries = headerKind ∷ format ∷ buckets1 ∷ buckets2 ∷ entries ∷ []
 
--- kind 2: a bucket as the posts see it: bound, r solution words
+-- ---- kind 2: bound (1 byte), r solution words (8 each)
+
 abbrev pub bucketKind : ℕ
 bucketKind = 2
 
+-- the bytes after the kind byte
 abbrev pub bucketBody : ℕ → ℕ
 bucketBody r = 1 + wordBytes * r
 
+-- with the kind byte
 abbrev pub bucketLength : ℕ → ℕ
 bucketLength r = 1 + bucketBody r
 
+-- a bucket as the posts see it
 pub record PlaneBucket : Type 0 where
   pub bound : ℕ
   pub sols : List ℕ
 
+-- its record
 abbrev pub bucketRecord : PlaneBucket → List ℕ
 bucketRecord b = bucketKind ∷ b .bound ∷ bytesOf (toBytes wordBytes) (b .sols)
 
+-- the bucket whose record is at the front of the bytes
 abbrev pub bucketFrom : ℕ → List ℕ → PlaneBucket
 bucketFrom r p = record { bound = getD p 1 0; sols = readAll wordBytes wordFrom r (drop 2 p) }
 
--- kind 3: a base entry: w', plan
+-- ---- kind 3: w' (8), plan (1)
+
 abbrev pub entryKind : ℕ
 entryKind = 3
 
+-- the bytes after the kind byte
 abbrev pub entryBody : ℕ
 entryBody = wordBytes + 1
 
+-- with the kind byte
 abbrev pub entryLength : ℕ
 entryLength = 1 + entryBody
 
+-- the record of a base entry, by its w'
 abbrev pub entryRecord : Entry → List ℕ
 entryRecord e = entryKind ∷ (toBytes wordBytes (e .word) ++ (e .plan ∷ []))
 
+-- the entry whose record is at the front of the bytes
 abbrev pub entryFrom : List ℕ → Entry
 entryFrom p = record { word = wordFrom (drop 1 p); plan = getD p (1 + wordBytes) 0 }
 
--- kind 4 closes: the fixed byte string E N D LF
+-- ---- kind 4 closes
+
 abbrev pub endKind : ℕ
 endKind = 4
 
+-- the bytes after the kind byte
 abbrev pub endBody : ℕ
 endBody = 4
 
+-- with the kind byte
 abbrev pub endLength : ℕ
 endLength = 1 + endBody
 
+-- the fixed byte string E N D LF
 abbrev pub endBytes : List ℕ
 endBytes = 0x45 ∷ 0x4e ∷ 0x44 ∷ 0x0a ∷ []
 
+-- with the kind byte first
 abbrev pub endRecord : List ℕ
 endRecord = endKind ∷ endBytes

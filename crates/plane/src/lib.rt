@@ -1,11 +1,13 @@
-// The plane: the small file that every post reads to find the plan of an identifier. Reader and lookup for any bytes.
-// Definitions: specs/Record.antt and specs/Plane.antt (the bytes, which planes are wrong, what the bytes say), specs/Lookup.antt (the
-// call), in document 01's words. Laws: proofs/.
-// Cites codec, identifier, bucket and concrete (the table). The library for C cites it.
+// The plane: the small file that every post reads to find the plan of an identifier. Writer, reader and lookup, for any bytes and numbers.
+// Definitions, in document 01's words: specs/Record.antt and specs/Plane.antt (the bytes, which planes are wrong, what the bytes say),
+// specs/Lookup.antt and specs/Write.antt (the two calls), specs/Fits.antt (its limits); specs/Steps.antt is for the inner steps alone.
+// Statements: proofs/Statements.antt.
+// Cites codec, identifier, bucket, concrete (the table) and sound (its test). The library for C cites it.
 use answer::Answer;
 use bucket::Bucket;
 use identifier::Identifier;
 use identifier::Read;
+use sound::Table;
 ghost use mathlib.Core.Path.{_≡_};
 ghost use mathlib.Core.Bool.{true};
 ghost use Prim.Native.Nat.{ℕ, suc, _+_, _*_, _≤_, _<_};
@@ -16,7 +18,7 @@ ghost use Rattle.codec.specs.Parts.{written};
 ghost use Rattle.gf2.specs.Vectors.{product};
 ghost use Rattle.bucket.specs.Words.{bucketWords};
 ghost use Rattle.model.specs.Model.{baseLimit};
-ghost use Rattle.concrete.specs.Layout.{mostBuckets1, mostBuckets2, inRange, header, bucketPlace};
+ghost use Rattle.concrete.specs.Layout.{mostBuckets1, mostBuckets2, header, bucketPlace};
 ghost use Rattle.plane.specs.declared.Wrong.the-variants.{Nowhere};
 ghost use Rattle.plane.specs.Record.{bytesOf, readAll, bucketLength, entryLength, endLength, headerRecord, bucketRecord, bucketFrom, entryRecord, entryFrom, endRecord};
 ghost use Rattle.plane.specs.Plane.{planeBytes, bucketsAt, planeLength, whole, headerFits, bucketFits, bucketsWrong, entriesWrong, endFits, endWrong, recordsWrong, wrongAt, planeFrom};
@@ -74,15 +76,6 @@ impl Record {
     pub const END_LEN: usize = 1 + Record::END_BODY;
 }
 
-const MOST_BUCKETS_1: u8 = 48;
-
-const MOST_BUCKETS_2: u8 = 32;
-
-const BASE_LIMIT: u8 = 64;
-
-// The numbers of a table before its buckets.
-const TABLE_HEADER: usize = 4;
-
 // The plan of a word due to the base list and not in it.
 const STRANGER_PLAN: u64 = 0;
 
@@ -109,22 +102,6 @@ pub(crate) fn whole(p: &[u8], kind: u8, body: usize) -> bool
     p[0] == kind
 }
 
-// Bucket numbers in range.
-pub(crate) fn in_range(buckets1: u8, buckets2: u8) -> bool
-    ensures { λ r. ⌜ r ≡ inRange buckets1 buckets2 ⌝ }
-{
-    if buckets1 < 1 {
-        return false;
-    }
-    if MOST_BUCKETS_1 < buckets1 {
-        return false;
-    }
-    if buckets2 < 1 {
-        return false;
-    }
-    buckets2 <= MOST_BUCKETS_2
-}
-
 // The header: format 1, bucket numbers in range, at most 64 entries.
 pub(crate) fn header_fits(p: &[u8]) -> bool
     ensures { λ r. ⌜ r ≡ headerFits (now (p .entry)) ⌝ }
@@ -135,10 +112,10 @@ pub(crate) fn header_fits(p: &[u8]) -> bool
     if p[1] != Record::FORMAT {
         return false;
     }
-    if !in_range(p[2], p[3]) {
+    if !sound::in_range(wide(p[2]), wide(p[3])) {
         return false;
     }
-    p[4] <= BASE_LIMIT
+    wide(p[4]) <= Table::BASE_ENTRIES
 }
 
 // A bucket in front, with a bound of at most 8.
@@ -470,9 +447,9 @@ pub(crate) fn put_records(out: &mut [u8], t: &[u64], buckets: usize, entries: us
     requires plans { ⌜ ((i : ℕ) → i < entries → pairFrom (drop (i * 2) (drop (bucketPlace rows solutions buckets) (now t))) .plan < 256) ⌝ }
     ensures { λ _. ⌜ now (out .exit) ≡ written bucketsAt (recordsOf rows solutions buckets entries (now (t .entry))) (now (out .entry)) ⌝ }
 {
-    let pairs_at = TABLE_HEADER + buckets * Bucket::WORDS;
+    let pairs_at = Table::HEADER + buckets * Bucket::WORDS;
     let entries_at = Record::BUCKETS_AT + buckets * Record::BUCKET_LEN;
-    put_buckets(out, Record::BUCKETS_AT, &t[TABLE_HEADER..], buckets);
+    put_buckets(out, Record::BUCKETS_AT, &t[Table::HEADER..], buckets);
     put_entries(out, entries_at, &t[pairs_at..], entries);
     put_end(out, entries_at + entries * Record::ENTRY_LEN);
 }
@@ -482,8 +459,11 @@ pub(crate) fn write_plane(t: &[u64], out: &mut [u8])
     requires { ⌜ (shaped (now t) ≡ true) × (sound (now t) ≡ true) × (length (planeBytes (planeOf (tableOf (now t)))) ≤ length (now out)) ⌝ }
     ensures { λ _. ⌜ now (out .exit) ≡ inFront (planeBytes (planeOf (tableOf (now (t .entry))))) (now (out .entry)) .output ⌝ }
 {
-    put_header(out, t[0], t[1], t[2]);
-    put_records(out, t, (t[0] + t[1]) as usize, t[2] as usize);
+    let buckets1 = t[Table::BUCKETS_1_AT];
+    let buckets2 = t[Table::BUCKETS_2_AT];
+    let entries = t[Table::BASE_COUNT_AT];
+    put_header(out, buckets1, buckets2, entries);
+    put_records(out, t, (buckets1 + buckets2) as usize, entries as usize);
 }
 
 // The length of a plane.
@@ -502,7 +482,8 @@ pub(crate) fn write_sound(t: &[u64], out: &mut [u8]) -> Answer
     requires { ⌜ (shaped (now t) ≡ true) × (sound (now t) ≡ true) ⌝ }
     ensures { λ r. ⌜ (r ≡ putFront (planeBytes (planeOf (tableOf (now (t .entry))))) (now (out .entry)) .answer) × (now (out .exit) ≡ putFront (planeBytes (planeOf (tableOf (now (t .entry))))) (now (out .entry)) .output) ⌝ }
 {
-    let needed = plane_len((t[0] + t[1]) as usize, t[2] as usize);
+    let buckets = (t[Table::BUCKETS_1_AT] + t[Table::BUCKETS_2_AT]) as usize;
+    let needed = plane_len(buckets, t[Table::BASE_COUNT_AT] as usize);
     if out.len() < needed {
         return Answer::ShortOutput(needed as u64);
     }

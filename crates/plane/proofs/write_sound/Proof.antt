@@ -15,17 +15,17 @@ use Rattle.plane.proofs.write_sound.Tie as tie
 facts : (c : tie.After-shared-slice-known) → Known (c .before .args .t .now)
 facts c = known (c .before .args .t .now) (λ i. c .shared-slice-known .given i .fits) (c .before .pre .0) (c .before .pre .1)
 
+shared-slice-read-buckets : tie.Need-shared-slice-read-buckets
+shared-slice-read-buckets c = omega (arith, facts (c .before .before))
+
+shared-slice-read-buckets-2 : tie.Need-shared-slice-read-buckets-2
+shared-slice-read-buckets-2 c = omega (arith, facts (c .before .before .before))
+
+add-buckets : tie.Need-add-buckets
+add-buckets c = omega (arith, facts (c .before .before .before))
+
 shared-slice-read-plane-len : tie.Need-shared-slice-read-plane-len
-shared-slice-read-plane-len c = omega (arith, facts (c .before .before))
-
-shared-slice-read-plane-len-2 : tie.Need-shared-slice-read-plane-len-2
-shared-slice-read-plane-len-2 c = omega (arith, facts (c .before .before .before))
-
-add-plane-len : tie.Need-add-plane-len
-add-plane-len c = omega (arith, facts (c .before .before .before))
-
-shared-slice-read-plane-len-3 : tie.Need-shared-slice-read-plane-len-3
-shared-slice-read-plane-len-3 c = omega (arith, facts (c .before .before .before .before))
+shared-slice-read-plane-len c = omega (arith, facts (c .before .before .before .before))
 
 plane-len-requires : tie.Need-plane-len-requires
 plane-len-requires c κs = omega (arith, facts (c .before .before .before .before))
@@ -57,10 +57,10 @@ pub write-sound-spec : {M : Type 1} → statement M
 write-sound-spec =
     tie.close
     (tie.spec
+    shared-slice-read-buckets
+    shared-slice-read-buckets-2
+    add-buckets
     shared-slice-read-plane-len
-    shared-slice-read-plane-len-2
-    add-plane-len
-    shared-slice-read-plane-len-3
     plane-len-requires
     returns
     write-plane-requires
