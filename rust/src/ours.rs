@@ -10,12 +10,50 @@ extern "C" {
     fn probe_row(part: *const u64, len: usize, k: u64) -> u64;
     fn probe_matrix(part: *const u64, len: usize, i: usize) -> u64;
     fn limgoshi_open(t: *mut u64, len: usize, b1: u64, b2: u64, value: *mut u64) -> u64;
-    fn limgoshi_query(t: *const u64, len: usize, id: *const u8, id_len: usize, value: *mut u64) -> u64;
-    fn limgoshi_change(t: *mut u64, len: usize, id: *const u8, id_len: usize, plan: u8, value: *mut u64) -> u64;
-    fn limgoshi_withdraw(t: *mut u64, len: usize, id: *const u8, id_len: usize, value: *mut u64) -> u64;
-    fn limgoshi_add(t: *mut u64, len: usize, id: *const u8, id_len: usize, plan: u8, value: *mut u64) -> u64;
-    fn limgoshi_write_plane(t: *const u64, len: usize, out: *mut u8, out_len: usize, value: *mut u64) -> u64;
-    fn limgoshi_plane_lookup(id: *const u8, id_len: usize, plane: *const u8, plane_len: usize, value: *mut u64) -> u64;
+    fn limgoshi_query(
+        t: *const u64,
+        len: usize,
+        id: *const u8,
+        id_len: usize,
+        value: *mut u64,
+    ) -> u64;
+    fn limgoshi_change(
+        t: *mut u64,
+        len: usize,
+        id: *const u8,
+        id_len: usize,
+        plan: u8,
+        value: *mut u64,
+    ) -> u64;
+    fn limgoshi_withdraw(
+        t: *mut u64,
+        len: usize,
+        id: *const u8,
+        id_len: usize,
+        value: *mut u64,
+    ) -> u64;
+    fn limgoshi_add(
+        t: *mut u64,
+        len: usize,
+        id: *const u8,
+        id_len: usize,
+        plan: u8,
+        value: *mut u64,
+    ) -> u64;
+    fn limgoshi_write_plane(
+        t: *const u64,
+        len: usize,
+        out: *mut u8,
+        out_len: usize,
+        value: *mut u64,
+    ) -> u64;
+    fn limgoshi_plane_lookup(
+        id: *const u8,
+        id_len: usize,
+        plane: *const u8,
+        plane_len: usize,
+        value: *mut u64,
+    ) -> u64;
 }
 
 use crate::answer::Answer;
@@ -75,21 +113,31 @@ pub fn query(t: &[u64], id: &[u8]) -> Answer {
 }
 
 pub fn change(t: &mut [u64], id: &[u8], plan: u8) -> Answer {
-    answered(|value| unsafe { limgoshi_change(t.as_mut_ptr(), t.len(), id.as_ptr(), id.len(), plan, value) })
+    answered(|value| unsafe {
+        limgoshi_change(t.as_mut_ptr(), t.len(), id.as_ptr(), id.len(), plan, value)
+    })
 }
 
 pub fn withdraw(t: &mut [u64], id: &[u8]) -> Answer {
-    answered(|value| unsafe { limgoshi_withdraw(t.as_mut_ptr(), t.len(), id.as_ptr(), id.len(), value) })
+    answered(|value| unsafe {
+        limgoshi_withdraw(t.as_mut_ptr(), t.len(), id.as_ptr(), id.len(), value)
+    })
 }
 
 pub fn add(t: &mut [u64], id: &[u8], plan: u8) -> Answer {
-    answered(|value| unsafe { limgoshi_add(t.as_mut_ptr(), t.len(), id.as_ptr(), id.len(), plan, value) })
+    answered(|value| unsafe {
+        limgoshi_add(t.as_mut_ptr(), t.len(), id.as_ptr(), id.len(), plan, value)
+    })
 }
 
 pub fn lookup(id: &[u8], plane: &[u8]) -> Answer {
-    answered(|value| unsafe { limgoshi_plane_lookup(id.as_ptr(), id.len(), plane.as_ptr(), plane.len(), value) })
+    answered(|value| unsafe {
+        limgoshi_plane_lookup(id.as_ptr(), id.len(), plane.as_ptr(), plane.len(), value)
+    })
 }
 
 pub fn write_plane(t: &[u64], out: &mut [u8]) -> Answer {
-    answered(|value| unsafe { limgoshi_write_plane(t.as_ptr(), t.len(), out.as_mut_ptr(), out.len(), value) })
+    answered(|value| unsafe {
+        limgoshi_write_plane(t.as_ptr(), t.len(), out.as_mut_ptr(), out.len(), value)
+    })
 }

@@ -174,7 +174,10 @@ fn some_table(rng: &mut Rng, cards: &[Vec<u8>]) -> Vec<u64> {
         let word = identifier::word(id).expect("a card");
         let _ = shape.add(&mut t, word, rng.byte());
         if rng.one_in(5) {
-            let _ = shape.withdraw(&mut t, identifier::word(rng.pick::<Vec<u8>>(cards)).expect("a card"));
+            let _ = shape.withdraw(
+                &mut t,
+                identifier::word(rng.pick::<Vec<u8>>(cards)).expect("a card"),
+            );
         }
     }
     t
@@ -201,12 +204,19 @@ fn damage(rng: &mut Rng, t: &mut Vec<u64>) {
             // A bound one higher or lower.
             let bucket = rng.below((t.len() as u64 - 132) / 74) as usize;
             let bound = 4 + 74 * bucket + 73;
-            t[bound] = if rng.one_in(2) { t[bound].wrapping_add(1) } else { t[bound].wrapping_sub(1) };
+            t[bound] = if rng.one_in(2) {
+                t[bound].wrapping_add(1)
+            } else {
+                t[bound].wrapping_sub(1)
+            };
         }
         8 => {
             // Two columns of a bucket exchanged, or one made another's copy.
             let bucket = 4 + 74 * rng.below((t.len() as u64 - 132) / 74) as usize;
-            let (i, j) = (bucket + rng.below(64) as usize, bucket + rng.below(64) as usize);
+            let (i, j) = (
+                bucket + rng.below(64) as usize,
+                bucket + rng.below(64) as usize,
+            );
             if rng.one_in(2) {
                 t.swap(i, j);
             } else {
@@ -216,7 +226,10 @@ fn damage(rng: &mut Rng, t: &mut Vec<u64>) {
         9 => {
             // Two buckets exchanged: words held where the tests do not send them.
             let buckets = (t.len() as u64 - 132) / 74;
-            let (i, j) = (4 + 74 * rng.below(buckets) as usize, 4 + 74 * rng.below(buckets) as usize);
+            let (i, j) = (
+                4 + 74 * rng.below(buckets) as usize,
+                4 + 74 * rng.below(buckets) as usize,
+            );
             for k in 0..74 {
                 t.swap(i + k, j + k);
             }
@@ -231,13 +244,37 @@ fn call(rng: &mut Rng, cards: &[Vec<u8>], ours_t: &mut [u64], t: &mut [u64]) {
     let plan = rng.byte();
     match rng.below(24) {
         0 => {
-            let (b1, b2) = if rng.one_in(2) { (rng.below(60), rng.below(40)) } else { some_shape(rng) };
-            same("open", (b1, b2), ours::open(ours_t, b1, b2), table::open(t, b1, b2));
+            let (b1, b2) = if rng.one_in(2) {
+                (rng.below(60), rng.below(40))
+            } else {
+                some_shape(rng)
+            };
+            same(
+                "open",
+                (b1, b2),
+                ours::open(ours_t, b1, b2),
+                table::open(t, b1, b2),
+            );
         }
         1..=6 => same("query", &id, ours::query(ours_t, &id), table::query(t, &id)),
-        7..=12 => same("change", &id, ours::change(ours_t, &id, plan), table::change(t, &id, plan)),
-        13..=15 => same("withdraw", &id, ours::withdraw(ours_t, &id), table::withdraw(t, &id)),
-        _ => same("add", &id, ours::add(ours_t, &id, plan), table::add(t, &id, plan)),
+        7..=12 => same(
+            "change",
+            &id,
+            ours::change(ours_t, &id, plan),
+            table::change(t, &id, plan),
+        ),
+        13..=15 => same(
+            "withdraw",
+            &id,
+            ours::withdraw(ours_t, &id),
+            table::withdraw(t, &id),
+        ),
+        _ => same(
+            "add",
+            &id,
+            ours::add(ours_t, &id, plan),
+            table::add(t, &id, plan),
+        ),
     }
     same("table", &id, &*ours_t, &*t);
 }
@@ -276,7 +313,12 @@ fn planes(rng: &mut Rng, cases: u64) {
         let mut ours_out: Vec<u8> = (0..length).map(|_| rng.byte()).collect();
         let mut out = ours_out.clone();
         let answer = plane::write(&t, &mut out);
-        same("write", t.len(), ours::write_plane(&t, &mut ours_out), answer);
+        same(
+            "write",
+            t.len(),
+            ours::write_plane(&t, &mut ours_out),
+            answer,
+        );
         same("output", t.len(), &ours_out, &out);
         if !answer.is_accepted() {
             continue;
@@ -284,7 +326,12 @@ fn planes(rng: &mut Rng, cases: u64) {
         out.truncate(answer.value as usize);
         for _ in 0..200 {
             let id = card(rng, &cards);
-            same("lookup", &id, ours::lookup(&id, &out), plane::lookup(&id, &out));
+            same(
+                "lookup",
+                &id,
+                ours::lookup(&id, &out),
+                plane::lookup(&id, &out),
+            );
             let mut damaged = out.clone();
             match rng.below(4) {
                 0 => damaged.truncate(rng.below(out.len() as u64 + 1) as usize),
@@ -294,7 +341,12 @@ fn planes(rng: &mut Rng, cases: u64) {
                     damaged[at] = rng.byte();
                 }
             }
-            same("lookup", &id, ours::lookup(&id, &damaged), plane::lookup(&id, &damaged));
+            same(
+                "lookup",
+                &id,
+                ours::lookup(&id, &damaged),
+                plane::lookup(&id, &damaged),
+            );
             lookups += 2;
         }
     }

@@ -3,7 +3,8 @@
 
 use reference::bucket::Bucket;
 use reference::rng::Rng;
-use reference::{identifier, ours};
+use reference::table::{self, Shape};
+use reference::{identifier, ours, plane};
 use std::hint::black_box;
 use std::time::Instant;
 
@@ -166,6 +167,122 @@ fn buckets(rng: &mut Rng) {
     }
 }
 
+/// Identifiers, all different.
+fn cards(rng: &mut Rng, count: usize) -> Vec<Vec<u8>> {
+    (0..count)
+        .map(|i| format!("{i:X}-{:010X}", rng.next() >> 24).into_bytes())
+        .collect()
+}
+
+/// A table filled until the first refusal, and the identifiers in it.
+fn full_table(rng: &mut Rng, b1: u64, b2: u64) -> (Vec<u64>, Vec<Vec<u8>>) {
+    let shape = Shape::new(b1, b2).expect("in range");
+    let mut t = vec![0; shape.table_len()];
+    table::open(&mut t, b1, b2);
+    let mut inside = Vec::new();
+    for id in cards(rng, 8000) {
+        if shape
+            .add(
+                &mut t,
+                identifier::word(&id).expect("an identifier"),
+                rng.byte(),
+            )
+            .is_err()
+        {
+            break;
+        }
+        inside.push(id);
+    }
+    (t, inside)
+}
+
+fn tables(rng: &mut Rng) {
+    const N: u32 = 50;
+    for (b1, b2) in [(1, 1), (12, 8), (48, 32)] {
+        let (t, inside) = full_table(rng, b1, b2);
+        let asked: Vec<&Vec<u8>> = (0..N).map(|_| rng.pick::<Vec<u8>>(&inside)).collect();
+        let (mut a, mut b) = (t.clone(), t.clone());
+        println!("-- {b1} and {b2} buckets, {} live words", inside.len());
+        compare(
+            "query",
+            N,
+            || {
+                asked.iter().for_each(|id| {
+                    black_box(ours::query(&t, id));
+                })
+            },
+            || {
+                asked.iter().for_each(|id| {
+                    black_box(table::query(&t, id));
+                })
+            },
+        );
+        compare(
+            "change",
+            N,
+            || {
+                asked.iter().for_each(|id| {
+                    black_box(ours::change(&mut a, id, 7));
+                })
+            },
+            || {
+                asked.iter().for_each(|id| {
+                    black_box(table::change(&mut b, id, 7));
+                })
+            },
+        );
+        compare(
+            "withdraw and add",
+            N,
+            || {
+                for id in &asked {
+                    black_box(ours::withdraw(&mut a, id));
+                    black_box(ours::add(&mut a, id, 9));
+                }
+            },
+            || {
+                for id in &asked {
+                    black_box(table::withdraw(&mut b, id));
+                    black_box(table::add(&mut b, id, 9));
+                }
+            },
+        );
+        assert_eq!(a, b);
+        let (mut p, mut q) = (vec![0; 6000], vec![0; 6000]);
+        compare(
+            "write a plane",
+            1,
+            || {
+                black_box(ours::write_plane(&t, &mut p));
+            },
+            || {
+                black_box(plane::write(&t, &mut q));
+            },
+        );
+        assert_eq!(p, q);
+        let length = plane::write(&t, &mut q).value as usize;
+        compare(
+            "plane lookup",
+            N,
+            || {
+                asked.iter().for_each(|id| {
+                    black_box(ours::lookup(id, &q[..length]));
+                })
+            },
+            || {
+                asked.iter().for_each(|id| {
+                    black_box(plane::lookup(id, &q[..length]));
+                })
+            },
+        );
+        println!(
+            "{:<48} {:>10.2}",
+            "plane bytes a live word at the first refusal",
+            length as f64 / inside.len() as f64
+        );
+    }
+}
+
 fn main() {
     let mut rng = Rng::new(2026);
     println!(
@@ -174,4 +291,5 @@ fn main() {
     );
     identifiers(&mut rng);
     buckets(&mut rng);
+    tables(&mut rng);
 }
