@@ -240,23 +240,28 @@ fn damage(rng: &mut Rng, t: &mut Vec<u64>) {
 
 /// A call put to both, on tables that are equal: the same answer, and equal tables after it.
 fn call(rng: &mut Rng, cards: &[Vec<u8>], ours_t: &mut [u64], t: &mut [u64]) {
+    if !rng.one_in(24) {
+        return call_but_open(rng, cards, ours_t, t);
+    }
+    let (b1, b2) = if rng.one_in(2) {
+        (rng.below(60), rng.below(40))
+    } else {
+        some_shape(rng)
+    };
+    same(
+        "open",
+        (b1, b2),
+        ours::open(ours_t, b1, b2),
+        table::open(t, b1, b2),
+    );
+    same("table", (b1, b2), &*ours_t, &*t);
+}
+
+fn call_but_open(rng: &mut Rng, cards: &[Vec<u8>], ours_t: &mut [u64], t: &mut [u64]) {
     let id = card(rng, cards);
     let plan = rng.byte();
     match rng.below(24) {
-        0 => {
-            let (b1, b2) = if rng.one_in(2) {
-                (rng.below(60), rng.below(40))
-            } else {
-                some_shape(rng)
-            };
-            same(
-                "open",
-                (b1, b2),
-                ours::open(ours_t, b1, b2),
-                table::open(t, b1, b2),
-            );
-        }
-        1..=6 => same("query", &id, ours::query(ours_t, &id), table::query(t, &id)),
+        0..=6 => same("query", &id, ours::query(ours_t, &id), table::query(t, &id)),
         7..=12 => same(
             "change",
             &id,
@@ -353,6 +358,135 @@ fn planes(rng: &mut Rng, cases: u64) {
     println!("agree: {cases} planes written, {lookups} lookups in them, whole and damaged");
 }
 
+/// Long histories from opening: filled until they refuse, then changes, withdrawals, queries and adds mixed; whole tables compared
+/// after each call.
+fn histories(rng: &mut Rng, cases: u64) {
+    let mut refused = 0;
+    for case in 0..cases {
+        let (b1, b2) = if case % 20 == 0 {
+            (48, 32)
+        } else {
+            some_shape(rng)
+        };
+        let shape = Shape::new(b1, b2).expect("in range");
+        let cards = cards(rng, 6000);
+        let mut t = vec![0; shape.table_len()];
+        let mut ours_t = t.clone();
+        same(
+            "open",
+            (b1, b2),
+            ours::open(&mut ours_t, b1, b2),
+            table::open(&mut t, b1, b2),
+        );
+        let mut filling = true;
+        for _ in 0..2000 {
+            if filling {
+                let id = rng.pick::<Vec<u8>>(&cards);
+                let plan = rng.byte();
+                let answer = table::add(&mut t, id, plan);
+                same("add", id, ours::add(&mut ours_t, id, plan), answer);
+                same("table", id, &ours_t, &t);
+                if answer.cause == 8 {
+                    refused += 1;
+                    filling = false;
+                }
+            } else {
+                call_but_open(rng, &cards, &mut ours_t, &mut t);
+            }
+        }
+    }
+    println!(
+        "agree: {cases} histories of 2,000 calls, {refused} of them filled until the first refusal"
+    );
+}
+
+/// Every cut and every change of one byte of a small plane; outputs of 142 and 141 bytes; the longest plane.
+fn plane_edges(rng: &mut Rng) {
+    let cards = cards(rng, 60);
+    let mut t = vec![0; 280];
+    table::open(&mut t, 1, 1);
+    let mut out = vec![7; 142];
+    same(
+        "output of 142",
+        (),
+        ours::write_plane(&t, &mut out),
+        Answer::accepted(142),
+    );
+    same(
+        "output of 141",
+        (),
+        ours::write_plane(&t, &mut [7; 141]),
+        Answer::refused(9, 142),
+    );
+    let id = &cards[0];
+    let mut lookups = 0;
+    for at in 0..=out.len() {
+        same(
+            "cut",
+            at,
+            ours::lookup(id, &out[..at]),
+            plane::lookup(id, &out[..at]),
+        );
+    }
+    for at in 0..out.len() {
+        for byte in 0..=255 {
+            let mut damaged = out.clone();
+            damaged[at] = byte;
+            same(
+                "byte",
+                (at, byte),
+                ours::lookup(id, &damaged),
+                plane::lookup(id, &damaged),
+            );
+            lookups += 1;
+        }
+    }
+    // 48 and 32 buckets of bound 0: every word goes to the base list, which takes 64.
+    let shape = Shape::new(48, 32).expect("in range");
+    let mut t = vec![0; shape.table_len()];
+    table::open(&mut t, 48, 32);
+    for bucket in 0..80 {
+        t[4 + 74 * bucket + 73] = 0;
+    }
+    let mut ours_t = t.clone();
+    let mut count = 0;
+    for id in reference_cards(65) {
+        let answer = table::add(&mut t, &id, 9);
+        same("base add", &id, ours::add(&mut ours_t, &id, 9), answer);
+        same("table", &id, &ours_t, &t);
+        count += u64::from(answer.is_accepted());
+    }
+    same("64th and 65th base entry", (), count, 64);
+    let mut long = vec![0; 5930];
+    same(
+        "longest plane",
+        (),
+        ours::write_plane(&t, &mut long),
+        Answer::accepted(5930),
+    );
+    for _ in 0..20_000 {
+        let id = card(rng, &cards);
+        let mut damaged = long.clone();
+        let at = rng.below(5930) as usize;
+        damaged[at] = rng.byte();
+        same(
+            "lookup",
+            &id,
+            ours::lookup(&id, &damaged),
+            plane::lookup(&id, &damaged),
+        );
+        lookups += 1;
+    }
+    println!("agree: planes of 142 and 5,930 bytes, every cut and every byte of the small one, {lookups} lookups");
+}
+
+/// Identifiers that are all different.
+fn reference_cards(count: usize) -> Vec<Vec<u8>> {
+    (0..count)
+        .map(|i| format!("BUS-{i}").into_bytes())
+        .collect()
+}
+
 fn main() {
     let times: u64 = std::env::args()
         .nth(1)
@@ -362,4 +496,6 @@ fn main() {
     buckets(&mut rng, 2_000 * times);
     tables(&mut rng, 2_000 * times);
     planes(&mut rng, 400 * times);
+    plane_edges(&mut rng);
+    histories(&mut rng, 8 * times);
 }
