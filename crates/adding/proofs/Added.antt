@@ -2,16 +2,15 @@
 -- every mix S; then at 64 and 8.
 -- Assumes nothing.
 use Prim.Native.Nat.{ℕ, suc, _+_, _*_, _^_, _≤_, _<_}
-use native.Mathlib.Numerals.{add-one}
 use native.Mathlib.Omega.{arith}
 use mathlib.Core.Path.{_≡_, refl, sym, ap, ap₂, _∙_, subst}
-use mathlib.Core.Bool.{Bool, true, false, cond}
+use mathlib.Core.Bool.{Bool, true, false}
 use mathlib.Core.List.{List, [], _∷_, map}
-use mathlib.Core.Option.{Option, none, some}
+use mathlib.Core.Option.{none, some}
 use lib.Dec.{ltb, leb}
-use lib.ListN.{length, getD, set, drop, length-set}
+use lib.ListN.{length, getD, set, drop}
 use lib.Count.{ones-le}
-use borrow.Author.Tests.{leb-true, leb-false, le-ltb, lt-ltb}
+use borrow.Author.Tests.{leb-false, le-ltb, lt-ltb}
 use Rattle.answer.specs.declared.Answer.the-variants.{Accepted, Live, Full}
 use Rattle.lists.specs.Entries.{Entry}
 use Rattle.lists.proofs.Tests.{cond-true, cond-false, and-one, and-two}
@@ -30,10 +29,10 @@ use Rattle.concrete.specs.Test.{shapeTest}
 use Rattle.concrete.proofs.Numbers.{header-read, forth}
 use Rattle.table.specs.Ready.{Ready}
 use Rattle.table.proofs.Places.{shape-of, laid-of}
-use Rattle.adding.specs.Arrivals.{entriesOf, seconds, settledAt, storedAt, withFirst, allToSecond, Passed, Kept, FlatKept, entering}
-use Rattle.adding.proofs.Tables.{first-room, first-here, first-sound, first-stored, first-kept, numbers-table, numbers-kept}
+use Rattle.adding.specs.Arrivals.{seconds, settledAt, storedAt, withFirst, allToSecond, Passed, Kept, FlatKept, entering}
+use Rattle.adding.proofs.Tables.{first-room, first-here, first-sound, first-stored, numbers-table, numbers-kept}
 use Rattle.adding.proofs.Arrivals.{all-law, add-law}
-use Rattle.adding.proofs.Settled.{bucket-is, out-is, out-few, bucket-sound}
+use Rattle.adding.proofs.Settled.{bucket-is, out-is, out-few}
 
 pub passed-as : (n r : ℕ) (t : List ℕ) (U : Table) (done b : Bool) (u : List ℕ) → done ≡ b → Passed n r t U done u → Passed n r t U b u
 passed-as n r t U done b u y g = subst (λ (x : Bool). Passed n r t U x u) y g

@@ -7,10 +7,6 @@ use Rattle.table.proofs.Calls.{ready, call-word, call-refused}
 use borrow.Author.Needs.{needs}
 use Rattle.adding.proofs.add.Statement.{statement}
 use Rattle.adding.proofs.add.Tie as tie
-use Rattle.adding.proofs.add.Reads as reads
-use Rattle.adding.proofs.add.Lts as lts
-use Rattle.adding.proofs.add_word.Reads as add-word-reads
-use Rattle.table.proofs.admit.Reads as admit-reads
 
 admit-requires : tie.Need-admit-requires
 admit-requires c κs = search needs

@@ -7,10 +7,6 @@ use Rattle.adding.proofs.Added.{added-live, added-gone}
 use borrow.Author.Needs.{needs}
 use Rattle.adding.proofs.add_word.Statement.{statement}
 use Rattle.adding.proofs.add_word.Tie as tie
-use Rattle.adding.proofs.add_word.Reads as reads
-use Rattle.adding.proofs.add_word.Lts as lts
-use Rattle.adding.proofs.enter.Reads as enter-reads
-use Rattle.table.proofs.plan_in.Reads as plan-in-reads
 
 plan-in-requires : tie.Need-plan-in-requires
 plan-in-requires c κs = search needs

@@ -10,12 +10,6 @@ use Rattle.adding.proofs.Settled.{arrive-few, arrive-full, arrive-store
 use borrow.Author.Needs.{needs}
 use Rattle.adding.proofs.arrive_second.Statement.{statement}
 use Rattle.adding.proofs.arrive_second.Tie as tie
-use Rattle.adding.proofs.arrive_second.Reads as reads
-use Rattle.adding.proofs.arrive_second.Lts as lts
-use Rattle.adding.proofs.enter_base.Reads as enter-base-reads
-use Rattle.adding.proofs.settled_at.Reads as settled-at-reads
-use Rattle.adding.proofs.store_at.Reads as store-at-reads
-use Rattle.sound.proofs.second_place.Reads as second-place-reads
 
 abbrev word : tie.Start → Entry
 word s = record { word = s .args .v; plan = s .args .plan }

@@ -11,10 +11,6 @@ use Rattle.adding.proofs.Passing.{Carrying, seconds-next, seconds-lengt
 use borrow.Author.Needs.{needs}
 use Rattle.adding.proofs.carry.Statement.{statement}
 use Rattle.adding.proofs.carry.Tie as tie
-use Rattle.adding.proofs.carry.Reads as reads
-use Rattle.adding.proofs.carry.Lts as lts
-use Rattle.adding.proofs.arrive_second.Reads as arrive-second-reads
-use Rattle.identifier.proofs.second.Reads as second-reads
 
 abbrev Inv-loop : tie.InvT-loop
 Inv-loop t₀ vectors plans count i₀ t i =

@@ -15,12 +15,6 @@ use Rattle.adding.proofs.Added.{passed-as, enter-few, enter-full, enter
 use borrow.Author.Needs.{needs}
 use Rattle.adding.proofs.enter.Statement.{statement}
 use Rattle.adding.proofs.enter.Tie as tie
-use Rattle.adding.proofs.enter.Reads as reads
-use Rattle.adding.proofs.enter.Lts as lts
-use Rattle.adding.proofs.pass_on.Reads as pass-on-reads
-use Rattle.adding.proofs.settled_at.Reads as settled-at-reads
-use Rattle.adding.proofs.store_at.Reads as store-at-reads
-use Rattle.sound.proofs.first_place.Reads as first-place-reads
 
 abbrev word : tie.Start → Entry
 word s = record { word = s .args .w; plan = s .args .plan }

@@ -14,10 +14,6 @@ use Rattle.adding.proofs.Arrivals.{entries-length, insert-all-length}
 use borrow.Author.Needs.{needs}
 use Rattle.adding.proofs.enter_base.Statement.{statement}
 use Rattle.adding.proofs.enter_base.Tie as tie
-use Rattle.adding.proofs.enter_base.Reads as reads
-use Rattle.adding.proofs.enter_base.Lts as lts
-use Rattle.adding.proofs.insert_all.Reads as insert-all-reads
-use Rattle.sound.proofs.base_place.Reads as base-place-reads
 
 base-place-requires : tie.Need-base-place-requires
 base-place-requires c κs = shape 64 8 _ (c .before .before .pre .0)

@@ -10,9 +10,6 @@ use Rattle.adding.proofs.Base.{Inserting, inserting-starts, inserting-n
 use borrow.Author.Needs.{needs}
 use Rattle.adding.proofs.insert_all.Statement.{statement}
 use Rattle.adding.proofs.insert_all.Tie as tie
-use Rattle.adding.proofs.insert_all.Reads as reads
-use Rattle.adding.proofs.insert_all.Lts as lts
-use Rattle.base.proofs.insert.Reads as insert-reads
 
 abbrev Inv-loop : tie.InvT-loop
 Inv-loop pairs₀ count vectors plans more i₀ pairs i = (i ≤ more) × Inserting count (entriesFrom more vectors plans) pairs₀ pairs i

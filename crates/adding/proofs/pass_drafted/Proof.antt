@@ -11,12 +11,6 @@ use Rattle.adding.proofs.Passing.{draft-alike, drafted-alike, drafted, 
 use borrow.Author.Needs.{needs}
 use Rattle.adding.proofs.pass_drafted.Statement.{statement}
 use Rattle.adding.proofs.pass_drafted.Tie as tie
-use Rattle.adding.proofs.pass_drafted.Reads as reads
-use Rattle.adding.proofs.pass_drafted.Lts as lts
-use Rattle.adding.proofs.carry.Reads as carry-reads
-use Rattle.adding.proofs.take_base.Reads as take-base-reads
-use Rattle.adding.proofs.take_buckets.Reads as take-buckets-reads
-use Rattle.bucket.proofs.put.Reads as put-reads
 
 put-requires : tie.Need-put-requires
 put-requires c κs = search needs

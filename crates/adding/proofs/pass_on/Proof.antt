@@ -10,11 +10,6 @@ use Rattle.adding.proofs.Passing.{pass-none, pass-one}
 use borrow.Author.Needs.{needs}
 use Rattle.adding.proofs.pass_on.Statement.{statement}
 use Rattle.adding.proofs.pass_on.Tie as tie
-use Rattle.adding.proofs.pass_on.Reads as reads
-use Rattle.adding.proofs.pass_on.Lts as lts
-use Rattle.adding.proofs.arrive_second.Reads as arrive-second-reads
-use Rattle.adding.proofs.pass_drafted.Reads as pass-drafted-reads
-use Rattle.identifier.proofs.second.Reads as second-reads
 
 returns : tie.Need-returns
 returns c = pass-none 64 8 mixOf _ (c .before .before .pre .0) _ (c .if1 .taken)

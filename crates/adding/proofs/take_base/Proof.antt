@@ -9,10 +9,6 @@ use Rattle.adding.proofs.Tables.{count0, shape, long, place-le, last-is
 use borrow.Author.Needs.{needs}
 use Rattle.adding.proofs.take_base.Statement.{statement}
 use Rattle.adding.proofs.take_base.Tie as tie
-use Rattle.adding.proofs.take_base.Reads as reads
-use Rattle.adding.proofs.take_base.Lts as lts
-use Rattle.bucket.proofs.put.Reads as put-reads
-use Rattle.sound.proofs.base_place.Reads as base-place-reads
 
 base-place-requires : tie.Need-base-place-requires
 base-place-requires c κs = shape 64 8 _ (c .before .before .before .pre .one)

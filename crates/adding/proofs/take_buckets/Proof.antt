@@ -15,12 +15,6 @@ use Rattle.adding.proofs.Passing.{Taking, words-next, words-length, wor
 use borrow.Author.Needs.{needs}
 use Rattle.adding.proofs.take_buckets.Statement.{statement}
 use Rattle.adding.proofs.take_buckets.Tie as tie
-use Rattle.adding.proofs.take_buckets.Reads as reads
-use Rattle.adding.proofs.take_buckets.Lts as lts
-use Rattle.adding.proofs.store_at.Reads as store-at-reads
-use Rattle.identifier.proofs.second.Reads as second-reads
-use Rattle.sound.proofs.bucket_at.Reads as bucket-at-reads
-use Rattle.sound.proofs.second_place.Reads as second-place-reads
 
 abbrev Inv-loop : tie.InvT-loop
 Inv-loop t₀ from vectors count i₀ t i =
