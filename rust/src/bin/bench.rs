@@ -17,9 +17,19 @@ fn time(steps: u32, run: &mut dyn FnMut()) -> f64 {
 }
 
 /// Prints a line of the table.
-fn compare(name: &str, steps: u32, mut ours: impl FnMut(), mut reference: impl FnMut()) {
+fn compare(name: &str, steps: u32, ours: impl FnMut(), reference: impl FnMut()) {
+    compare_in(TURNS, name, steps, ours, reference);
+}
+
+fn compare_in(
+    turns: u32,
+    name: &str,
+    steps: u32,
+    mut ours: impl FnMut(),
+    mut reference: impl FnMut(),
+) {
     let (mut a, mut b) = (f64::INFINITY, f64::INFINITY);
-    for _ in 0..TURNS {
+    for _ in 0..turns {
         a = a.min(time(steps, &mut ours));
         b = b.min(time(steps, &mut reference));
     }
@@ -174,35 +184,76 @@ fn cards(rng: &mut Rng, count: usize) -> Vec<Vec<u8>> {
         .collect()
 }
 
-/// A table filled until the first refusal, and the identifiers in it.
-fn full_table(rng: &mut Rng, b1: u64, b2: u64) -> (Vec<u64>, Vec<Vec<u8>>) {
+/// A table filled until its base list has `base` entries and the next word would raise them, and the identifiers in it.
+fn filled_table(rng: &mut Rng, b1: u64, b2: u64, base: u64) -> (Vec<u64>, Vec<Vec<u8>>) {
     let shape = Shape::new(b1, b2).expect("in range");
     let mut t = vec![0; shape.table_len()];
     table::open(&mut t, b1, b2);
     let mut inside = Vec::new();
     for id in cards(rng, 8000) {
-        if shape
-            .add(
-                &mut t,
-                identifier::word(&id).expect("an identifier"),
-                rng.byte(),
-            )
-            .is_err()
-        {
+        let word = identifier::word(&id).expect("an identifier");
+        let mut next = t.clone();
+        if shape.add(&mut next, word, rng.byte()).is_ok() && next[table::BASE_COUNT] <= base {
+            t = next;
+            inside.push(id);
+        } else if t[table::BASE_COUNT] == base {
             break;
         }
-        inside.push(id);
     }
+    assert_eq!(t[table::BASE_COUNT], base);
     (t, inside)
+}
+
+/// Adds until the first refusal, through the call that checks the table; what it made of the table.
+fn fill(
+    ids: &[Vec<u8>],
+    b1: u64,
+    b2: u64,
+    add: impl Fn(&mut [u64], &[u8]) -> bool,
+) -> (u32, Vec<u64>) {
+    let mut t = vec![0; Shape::new(b1, b2).expect("in range").table_len()];
+    table::open(&mut t, b1, b2);
+    let taken = ids.iter().take_while(|id| add(&mut t, id)).count();
+    (taken as u32, t)
+}
+
+/// Adds to an empty table until the first refusal, and the size of the plane of what is in it then.
+fn filling(rng: &mut Rng, b1: u64, b2: u64) {
+    let ids = cards(rng, 8000);
+    let ours = || fill(&ids, b1, b2, |t, id| ours::add(t, id, 7).cause == 0);
+    let theirs = || fill(&ids, b1, b2, |t, id| table::add(t, id, 7).cause == 0);
+    let (taken, t) = ours();
+    let mut bytes = vec![0; 6000];
+    let length = plane::write(&t, &mut bytes).value;
+    assert_eq!((taken, t), theirs());
+    compare_in(
+        2,
+        "add, empty table to the first refusal",
+        taken,
+        || {
+            black_box(ours());
+        },
+        || {
+            black_box(theirs());
+        },
+    );
+    println!(
+        "{:<48} {:>10.2}",
+        "plane bytes a live word at the first refusal",
+        length as f64 / f64::from(taken)
+    );
 }
 
 fn tables(rng: &mut Rng) {
     const N: u32 = 50;
     for (b1, b2) in [(1, 1), (12, 8), (48, 32)] {
-        let (t, inside) = full_table(rng, b1, b2);
+        let (t, inside) = filled_table(rng, b1, b2, 64);
         let asked: Vec<&Vec<u8>> = (0..N).map(|_| rng.pick::<Vec<u8>>(&inside)).collect();
         let (mut a, mut b) = (t.clone(), t.clone());
-        println!("-- {b1} and {b2} buckets, {} live words", inside.len());
+        println!(
+            "-- {b1} and {b2} buckets, {} live words, 64 of them in the base list",
+            inside.len()
+        );
         compare(
             "query",
             N,
@@ -260,27 +311,33 @@ fn tables(rng: &mut Rng) {
             },
         );
         assert_eq!(p, q);
-        let length = plane::write(&t, &mut q).value as usize;
-        compare(
-            "plane lookup",
-            N,
-            || {
-                asked.iter().for_each(|id| {
-                    black_box(ours::lookup(id, &q[..length]));
-                })
-            },
-            || {
-                asked.iter().for_each(|id| {
-                    black_box(plane::lookup(id, &q[..length]));
-                })
-            },
-        );
-        println!(
-            "{:<48} {:>10.2}",
-            "plane bytes a live word at the first refusal",
-            length as f64 / inside.len() as f64
-        );
+        lookups(rng, &t, &inside, 64);
+        let (t, inside) = filled_table(rng, b1, b2, 0);
+        lookups(rng, &t, &inside, 0);
+        filling(rng, b1, b2);
     }
+}
+
+/// Lookups of live identifiers in the plane of `t`, which has `base` base records.
+fn lookups(rng: &mut Rng, t: &[u64], inside: &[Vec<u8>], base: u64) {
+    const N: u32 = 1000;
+    let mut bytes = vec![0; 6000];
+    let length = plane::write(t, &mut bytes).value as usize;
+    let asked: Vec<&Vec<u8>> = (0..N).map(|_| rng.pick::<Vec<u8>>(inside)).collect();
+    compare(
+        &format!("plane lookup, {base} base records"),
+        N,
+        || {
+            asked.iter().for_each(|id| {
+                black_box(ours::lookup(id, &bytes[..length]));
+            })
+        },
+        || {
+            asked.iter().for_each(|id| {
+                black_box(plane::lookup(id, &bytes[..length]));
+            })
+        },
+    );
 }
 
 fn main() {
