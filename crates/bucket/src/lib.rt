@@ -230,7 +230,7 @@ impl Bucket {
                     cols: next,
                     mark: mark ^ (mark & bits::power(j)),
                     sols,
-                    bound: self.bound,
+                    bound: self.bound, // never raised, also where the bucket is empty now
                 },
             };
         }
