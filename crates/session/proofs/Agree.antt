@@ -4,7 +4,7 @@ use mathlib.Core.Path.{_≡_, refl, ap, ap₂}
 use mathlib.Core.Bool.{Bool, true, false, cond}
 use mathlib.Core.List.{List, [], _∷_, _++_}
 use mathlib.Core.Option.{Option, none, some}
-use Prim.Native.Nat.{ℕ, suc}
+use Prim.Native.Nat.{ℕ, suc, _≤_}
 use native.Mathlib.Omega.{arith}
 use lib.Dec.{leb}
 use lib.ListN.{length, take, replicate, length-replicate}
@@ -12,19 +12,20 @@ use borrow.Author.Tests.{eq-eqb}
 use Rattle.lists.proofs.Tests.{cases}
 use Rattle.codec.specs.Bytes.{eqList}
 use Rattle.answer.specs.declared.Answer.the-variants.{Accepted, WrongBuckets}
-use Rattle.model.specs.Model.{State, Call}
+use Rattle.model.specs.Model.{State, Call, add, change}
 use Rattle.model.specs.Machine.{accepted}
 use Rattle.concrete.specs.Table.{openTable}
 use Rattle.concrete.specs.Layout.{inRange, lengthOf, numbersOf}
-use Rattle.concrete.specs.Calls.{rows, solutions, shaped, FlatSound, openCall}
+use Rattle.concrete.specs.Calls.{rows, solutions, openCall}
 use Rattle.concrete.specs.History.{PlanFits, flatState}
 use Rattle.concrete.proofs.Calls.{FlatStands}
 use Rattle.concrete.proofs.Statements.{refines, opening-stands, stands-sound, sound-stands}
 use Rattle.session.specs.declared.Number.{Number}
 use Rattle.session.specs.declared.Number.the-variants.{Of, Wrong}
 use Rattle.session.specs.Decimal.{numberTo}
-use Rattle.session.specs.Line.{lf, parted, Command, opening, ask, bad, openWord, addWord, setWord, delWord, getWord, mostBuckets, mostPlan, openWith, addWith, setWith, ofTwo, ofThree, ofFields, commandOf}
+use Rattle.session.specs.Line.{lf, parted, Command, opening, ask, bad, openWord, addWord, setWord, delWord, getWord, mostBuckets, mostPlan, openWith, planned, ofTwo, ofThree, ofFields, commandOf}
 use Rattle.session.specs.Parsed.{AtMost}
+use Rattle.session.specs.Buffer.{AllReady}
 use Rattle.session.specs.Run.{inputLimit, lineLimit, printed, Turn, obey, refuse, turn, outputFrom, outputOf, tables, output, states}
 use Rattle.session.proofs.Decimal.{number-most}
 
@@ -40,13 +41,9 @@ open-fits (Of b1) (Of b2) = tt
 open-fits (Of b1) Wrong = tt
 open-fits Wrong y = tt
 
-add-fits : (i : List ℕ) (x : Number) → AtMost mostPlan x → CommandFits (addWith i x)
-add-fits i (Of p) h = omega arith
-add-fits i Wrong h = tt
-
-set-fits : (i : List ℕ) (x : Number) → AtMost mostPlan x → CommandFits (setWith i x)
-set-fits i (Of p) h = omega arith
-set-fits i Wrong h = tt
+plan-fits : (c : ℕ → Call (List ℕ)) → ((p : ℕ) → p ≤ mostPlan → PlanFits (c p)) → (x : Number) → AtMost mostPlan x → CommandFits (planned c x)
+plan-fits c f (Of p) h = f p h
+plan-fits c f Wrong h = tt
 
 either : (t : Bool) (a b : Command) → CommandFits a → CommandFits b → CommandFits (cond t a b)
 either true a b h k = h
@@ -59,8 +56,8 @@ fields-fit (w ∷ []) = tt
 fields-fit (w ∷ x ∷ []) = either (eqList w delWord) _ _ tt (either (eqList w getWord) _ _ tt tt)
 fields-fit (w ∷ x ∷ y ∷ []) =
     either (eqList w openWord) _ _ (open-fits (numberTo mostBuckets x) (numberTo mostBuckets y))
-    (either (eqList w addWord) _ _ (add-fits x (numberTo mostPlan y) (number-most mostPlan y))
-    (either (eqList w setWord) _ _ (set-fits x (numberTo mostPlan y) (number-most mostPlan y)) tt))
+    (either (eqList w addWord) _ _ (plan-fits (add x) (λ p h. omega arith) (numberTo mostPlan y) (number-most mostPlan y))
+    (either (eqList w setWord) _ _ (plan-fits (change x) (λ p h. omega arith) (numberTo mostPlan y) (number-most mostPlan y)) tt))
 fields-fit (w ∷ x ∷ y ∷ z ∷ fs) = tt
 
 pub command-fits : (s : List ℕ) → CommandFits (commandOf s)
@@ -136,24 +133,19 @@ as-model s = from-alike none none tt (parted lf (take inputLimit s))
 
 -- ---- the table is sound at each line
 
--- what is open is sound
-abbrev pub Sound : Option (List ℕ) → Type 0
-Sound none = Unit {0}
-Sound (some t) = (shaped t ≡ true) × FlatSound t
-
 stateOf : Option (List ℕ) → Option State
 stateOf none = none
 stateOf (some t) = some (flatState t)
 
-sound-both : (m : Option (List ℕ)) → Sound m → BothStand m (stateOf m)
+ready-both : (m : Option (List ℕ)) → AllReady m → BothStand m (stateOf m)
 unfolding stateOf
-sound-both none h = tt
-sound-both (some t) h = sound-stands t (h .0) (h .1)
+ready-both none h = tt
+ready-both (some t) h = sound-stands t (h .shape) (h .sound)
 
-both-sound : (m : Option (List ℕ)) (k : Option State) → BothStand m k → Sound m
-both-sound none k h = tt
-both-sound (some t) none h = absurd h
-both-sound (some t) (some s) h = let r = stands-sound t s h in (r .0, r .2)
+both-ready : (m : Option (List ℕ)) (k : Option State) → BothStand m k → AllReady m
+both-ready none k h = tt
+both-ready (some t) none h = absurd h
+both-ready (some t) (some s) h = let r = stands-sound t s h in record { shape = r .0; sound = r .2 }
 
-pub sound-next : (m : Option (List ℕ)) → Sound m → (c : Command) → CommandFits c → Sound (obey tables m c .state)
-sound-next m h c f = both-sound (obey tables m c .state) (obey states (stateOf m) c .state) (obey-alike m (stateOf m) (sound-both m h) c f .1)
+pub ready-next : (m : Option (List ℕ)) → AllReady m → (s : List ℕ) → AllReady (turn tables m s .state)
+ready-next m h s = both-ready (turn tables m s .state) (turn states (stateOf m) s .state) (turn-alike m (stateOf m) (ready-both m h) s .1)

@@ -1,18 +1,20 @@
 -- A call put to a sound table: what its identifier is read as decides alone.
 -- Assumes nothing.
-use mathlib.Core.Path.{_≡_, refl, sym, _∙_}
+use mathlib.Core.Path.{_≡_, refl, sym, ap, _∙_}
 use mathlib.Core.List.{List, []}
 use Prim.Native.Nat.{ℕ}
 use Rattle.answer.specs.declared.Answer.{Answer}
 use Rattle.identifier.specs.Identifier.{readOf}
 use Rattle.identifier.specs.declared.Read.{Read}
 use Rattle.identifier.specs.declared.Read.the-variants.{Word, Refused}
-use Rattle.model.specs.Model.{Call}
 use Rattle.model.specs.Request.{subject, askOf}
 use Rattle.concrete.specs.Calls.{turnedDown, served, call}
 use Rattle.concrete.specs.History.{flatState}
 use Rattle.concrete.proofs.Statements.{stands-sound, sound-stands}
 use Rattle.table.specs.Ready.{Ready, admitted}
+use Rattle.session.specs.declared.Kind.{Kind}
+use Rattle.session.specs.declared.Kind.the-variants.{Add, Set, Del, Get}
+use Rattle.session.specs.Parsed.{callOf}
 use Rattle.table.proofs.Calls.{call-word, call-refused, admits}
 
 -- neither cause 4 nor cause 5 is met
@@ -20,12 +22,24 @@ admits-all : (t : List ℕ) → Ready t → (x : Read) → x ≡ admitted t x
 admits-all t h (Refused a) = refl
 admits-all t h (Word w) = sym (admits t w (h .shape) (stands-sound t (flatState t) (sound-stands t (h .shape) (h .sound)) .1))
 
-module _ (t : List ℕ) (h : Ready t) (c : Call (List ℕ)) (x : Read) (e : x ≡ readOf (subject c)) where
-  read : x ≡ admitted t (readOf (subject c))
-  read = e ∙ admits-all t h (readOf (subject c))
+subject-of : (k : Kind) (i : List ℕ) (p : ℕ) → i ≡ subject (callOf k i p)
+subject-of Add i p = refl
+subject-of Set i p = refl
+subject-of Del i p = refl
+subject-of Get i p = refl
 
-  pub asked-word : (w : ℕ) → x ≡ Word w → call t c ≡ served t w (askOf [] c)
-  asked-word = call-word t c x read
+nameless : (k : Kind) (i : List ℕ) (p : ℕ) → askOf [] (callOf k i p) ≡ callOf k [] p
+nameless Add i p = refl
+nameless Set i p = refl
+nameless Del i p = refl
+nameless Get i p = refl
 
-  pub asked-refused : (a : Answer) → x ≡ Refused a → call t c ≡ turnedDown a t
-  asked-refused = call-refused t c x read
+module _ (t : List ℕ) (h : Ready t) (k : Kind) (i : List ℕ) (p : ℕ) (x : Read) (e : x ≡ readOf i) where
+  read : x ≡ admitted t (readOf (subject (callOf k i p)))
+  read = e ∙ ap readOf (subject-of k i p) ∙ admits-all t h (readOf (subject (callOf k i p)))
+
+  pub asked-word : (w : ℕ) → x ≡ Word w → call t (callOf k i p) ≡ served t w (callOf k [] p)
+  asked-word w q = call-word t (callOf k i p) x read w q ∙ ap (served t w) (nameless k i p)
+
+  pub asked-refused : (a : Answer) → x ≡ Refused a → call t (callOf k i p) ≡ turnedDown a t
+  asked-refused = call-refused t (callOf k i p) x read

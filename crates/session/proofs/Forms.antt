@@ -10,11 +10,13 @@ use Rattle.codec.specs.Bytes.{eqList}
 use Rattle.codec.proofs.Part.{part-rest}
 use Rattle.session.specs.declared.Number.{Number}
 use Rattle.session.specs.declared.Number.the-variants.{Of, Wrong}
+use Rattle.session.specs.declared.Kind.{Kind}
+use Rattle.session.specs.declared.Kind.the-variants.{Add, Set, Del, Get}
 use Rattle.session.specs.declared.Parsed.{Parsed}
-use Rattle.session.specs.declared.Parsed.the-variants.{Del, Get, Bad}
+use Rattle.session.specs.declared.Parsed.the-variants.{Ask, Bad}
 use Rattle.session.specs.Decimal.{numberTo}
-use Rattle.session.specs.Line.{Command, openWord, addWord, setWord, delWord, getWord, mostBuckets, mostPlan, openWith, addWith, setWith, ofTwo, ofThree}
-use Rattle.session.specs.Parsed.{between, meant, AtMost, Within, openForm, addForm, setForm}
+use Rattle.session.specs.Line.{Command, openWord, addWord, setWord, delWord, getWord, mostBuckets, mostPlan, openWith, planned, ofTwo, ofThree}
+use Rattle.session.specs.Parsed.{between, meant, AtMost, Within, openForm, askForm, callOf}
 use Rattle.session.proofs.Decimal.{number-most}
 
 -- r stands for the command k, in the line s
@@ -29,25 +31,21 @@ open-stands s (Of b1) (Of b2) h k = (refl, (h, k))
 open-stands s (Of b1) Wrong h k = (refl, tt)
 open-stands s Wrong y h k = (refl, tt)
 
-module _ (s : List ℕ) (start end : ℕ) (h : start ≤ end) (k : end ≤ length s) where
-  add-stands : (x : Number) → AtMost mostPlan x → Stands s (addForm start end x) (addWith (between start end s) x)
-  add-stands (Of p) l = (refl, (h, k, l))
-  add-stands Wrong l = (refl, tt)
-
-  set-stands : (x : Number) → AtMost mostPlan x → Stands s (setForm start end x) (setWith (between start end s) x)
-  set-stands (Of p) l = (refl, (h, k, l))
-  set-stands Wrong l = (refl, tt)
+ask-stands : (s : List ℕ) (k : Kind) (start end : ℕ) → start ≤ end → end ≤ length s → (x : Number) → AtMost mostPlan x
+    → Stands s (askForm k start end x) (planned (callOf k (between start end s)) x)
+ask-stands s k start end h l (Of p) m = (refl, (h, l, m))
+ask-stands s k start end h l Wrong m = (refl, tt)
 
 -- ---- two fields
 
 module _ (s : List ℕ) (a : ℕ) (h : a < length s) where
-  pub two-del : eqList (take a s) delWord ≡ true → Stands s (Del (a + 1) (length s)) (ofTwo (take a s) (drop (a + 1) s))
+  pub two-del : eqList (take a s) delWord ≡ true → Stands s (Ask Del (a + 1) (length s) 0) (ofTwo (take a s) (drop (a + 1) s))
   unfolding ofTwo
-  two-del e = (rw (e, rest (a + 1) s (omega arith)), (omega arith, omega arith))
+  two-del e = (rw (e, rest (a + 1) s (omega arith)), (omega arith, omega arith, omega arith))
 
-  pub two-get : eqList (take a s) delWord ≡ false → eqList (take a s) getWord ≡ true → Stands s (Get (a + 1) (length s)) (ofTwo (take a s) (drop (a + 1) s))
+  pub two-get : eqList (take a s) delWord ≡ false → eqList (take a s) getWord ≡ true → Stands s (Ask Get (a + 1) (length s) 0) (ofTwo (take a s) (drop (a + 1) s))
   unfolding ofTwo
-  two-get e f = (rw (e, f, rest (a + 1) s (omega arith)), (omega arith, omega arith))
+  two-get e f = (rw (e, f, rest (a + 1) s (omega arith)), (omega arith, omega arith, omega arith))
 
   pub two-bad : eqList (take a s) delWord ≡ false → eqList (take a s) getWord ≡ false → Stands s Bad (ofTwo (take a s) (drop (a + 1) s))
   unfolding ofTwo
@@ -62,15 +60,15 @@ module _ (s : List ℕ) (a b : ℕ) (h : a < b) (k : b < length s) (r : Parsed) 
   unfolding ofThree
   three-open x e o f g = rw (e, o, f, g, rest (b + 1) s (omega arith)) (open-stands s (numberTo mostBuckets (between (a + 1) b s)) (numberTo mostBuckets (drop (b + 1) s)) (number-most mostBuckets (between (a + 1) b s)) (number-most mostBuckets (drop (b + 1) s)))
 
-  pub three-add : eqList (take a s) openWord ≡ false → eqList (take a s) addWord ≡ true → r ≡ addForm (a + 1) b y → y ≡ numberTo mostPlan (between (b + 1) (length s) s)
+  pub three-add : eqList (take a s) openWord ≡ false → eqList (take a s) addWord ≡ true → r ≡ askForm Add (a + 1) b y → y ≡ numberTo mostPlan (between (b + 1) (length s) s)
       → Stands s r (ofThree (take a s) (between (a + 1) b s) (drop (b + 1) s))
   unfolding ofThree
-  three-add e f o g = rw (e, f, o, g, rest (b + 1) s (omega arith)) (add-stands s (a + 1) b (omega arith) (omega arith) (numberTo mostPlan (drop (b + 1) s)) (number-most mostPlan (drop (b + 1) s)))
+  three-add e f o g = rw (e, f, o, g, rest (b + 1) s (omega arith)) (ask-stands s Add (a + 1) b (omega arith) (omega arith) (numberTo mostPlan (drop (b + 1) s)) (number-most mostPlan (drop (b + 1) s)))
 
-  pub three-set : eqList (take a s) openWord ≡ false → eqList (take a s) addWord ≡ false → eqList (take a s) setWord ≡ true → r ≡ setForm (a + 1) b y
+  pub three-set : eqList (take a s) openWord ≡ false → eqList (take a s) addWord ≡ false → eqList (take a s) setWord ≡ true → r ≡ askForm Set (a + 1) b y
       → y ≡ numberTo mostPlan (between (b + 1) (length s) s) → Stands s r (ofThree (take a s) (between (a + 1) b s) (drop (b + 1) s))
   unfolding ofThree
-  three-set e f i o g = rw (e, f, i, o, g, rest (b + 1) s (omega arith)) (set-stands s (a + 1) b (omega arith) (omega arith) (numberTo mostPlan (drop (b + 1) s)) (number-most mostPlan (drop (b + 1) s)))
+  three-set e f i o g = rw (e, f, i, o, g, rest (b + 1) s (omega arith)) (ask-stands s Set (a + 1) b (omega arith) (omega arith) (numberTo mostPlan (drop (b + 1) s)) (number-most mostPlan (drop (b + 1) s)))
 
 pub three-bad : (s w x y : List ℕ) → eqList w openWord ≡ false → eqList w addWord ≡ false → eqList w setWord ≡ false → Stands s Bad (ofThree w x y)
 unfolding ofThree

@@ -7,3 +7,5 @@ pub mod Agree
 pub mod Session
 pub mod Asked
 pub mod Opening
+pub mod Turns
+pub mod Running

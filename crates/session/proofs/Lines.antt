@@ -13,17 +13,14 @@ use borrow.Author.Tests.{le-leb, lt-leb}
 use Rattle.answer.specs.declared.Answer.{Answer}
 use Rattle.answer.specs.Numbers.{numberOf, valueOf}
 use Rattle.model.specs.Machine.{accepted}
-use Rattle.session.specs.Decimal.{decimal, mostDigits}
+use Rattle.session.specs.Decimal.{decimal}
 use Rattle.session.specs.Line.{lf, placeOf, parted, Command, opening, ask, bad, commandOf}
 use Rattle.session.specs.Parsed.{between}
-use Rattle.session.specs.Run.{lineLimit, badLine, okStart, noStart, printed, Desk, refuse, obey, turn, outputFrom}
+use Rattle.session.specs.Run.{lineLimit, mostPrinted, badLine, okStart, noStart, printed, Desk, refuse, obey, turn, outputFrom}
 use Rattle.session.proofs.Parted.{parted-some, parted-from, parted-last}
 use Rattle.session.proofs.Printed.{decimal-most}
 
--- ---- the longest line that is printed: `ok `, 20 digits and LF
-
-abbrev pub mostPrinted : ℕ
-mostPrinted = length okStart + (mostDigits + 1)
+-- ---- the longest line that is printed
 
 printed-most : (a : Answer) → length (printed a) ≤ mostPrinted
 unfolding printed

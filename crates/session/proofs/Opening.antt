@@ -1,27 +1,45 @@
--- An opening in the first numbers of a buffer for the longest table.
+-- What is open, in the first numbers of a buffer for the longest table.
 -- Assumes nothing.
-use mathlib.Core.Path.{_≡_, sym, ap, _∙_}
+use mathlib.Core.Path.{_≡_, sym, ap, _∙_, subst}
 use mathlib.Core.Bool.{true, false}
 use mathlib.Core.List.{List, _++_}
-use Prim.Native.Nat.{ℕ, _+_, _≤_}
+use mathlib.Core.Option.{Option, none, some}
+use Prim.Native.Nat.{ℕ, _+_, _≤_, _<_}
 use native.Mathlib.Omega.{arith}
 use lib.ListN.{length, take, drop}
-use lib.Seq.{length-take-le}
-use Rattle.codec.specs.Parts.{written}
-use Rattle.codec.proofs.Part.{written-fits}
+use lib.Seq.{length-take-le, take-append-le, take-all}
+use borrow.Author.Tests.{eq-eqb, ne-eqb}
 use Rattle.answer.specs.declared.Answer.{Answer}
 use Rattle.answer.specs.declared.Answer.the-variants.{WrongBuckets}
 use Rattle.concrete.specs.Layout.{inRange, lengthOf}
 use Rattle.concrete.specs.Calls.{rows, solutions, Outcome, openCall}
 use Rattle.sound.proofs.Shape.{range}
+use Rattle.table.specs.Ready.{Ready}
 use Rattle.table.proofs.Opened.{accepted}
 use Rattle.session.specs.Run.{tables}
-use Rattle.session.specs.Buffer.{openedIn}
+use Rattle.session.specs.Buffer.{heldIn, AllReady, Holds}
 use Rattle.session.proofs.Agree.{open-is}
 
 -- the numbers of the longest table
 abbrev pub longest : ℕ
 longest = 6052
+
+-- ---- what is open
+
+pub held-none : (n : ℕ) (t : List ℕ) → n ≡ 0 → heldIn n t ≡ none
+held-none n t e = rw (eq-eqb n 0 e)
+
+pub held-some : (n : ℕ) (t : List ℕ) → (n ≡ 0 → ⊥) → heldIn n t ≡ some (take n t)
+held-some n t h = rw (ne-eqb n 0 h)
+
+-- the first numbers were lent and came back as u
+pub held-part : (n : ℕ) (t u : List ℕ) → (n ≡ 0 → ⊥) → length u ≡ n → heldIn n (u ++ drop n t) ≡ some u
+held-part n t u h e = held-some n (u ++ drop n t) h ∙ ap some (take-append-le n u (drop n t) (omega arith) ∙ take-all n u (omega arith))
+
+pub held-ready : (n : ℕ) (t : List ℕ) → (n ≡ 0 → ⊥) → Holds n t → Ready (take n t)
+held-ready n t h b = subst AllReady (held-some n t h) (b .ready)
+
+-- ---- an opening
 
 module _ (b1 b2 n : ℕ) (t : List ℕ) (i : inRange b1 b2 ≡ true) (e : n ≡ lengthOf rows solutions b1 b2) (l : length t ≡ longest) where
   pub part-fits : n ≤ length t
@@ -30,17 +48,9 @@ module _ (b1 b2 n : ℕ) (t : List ℕ) (i : inRange b1 b2 ≡ true) (e : n ≡ 
   pub part-length : length (take n t) ≡ n
   part-length = length-take-le n t part-fits
 
-  -- the part was lent to the opening and came back as u
-  pub opened-part : (r : Answer) (u : List ℕ) → r ≡ openCall b1 b2 (take n t) .answer → u ≡ openCall b1 b2 (take n t) .table → length u ≡ length (take n t)
-      → (r ≡ tables .answer b1 b2) × (u ++ drop n t ≡ openedIn b1 b2 t)
-  opened-part r u a b k =
-      let same : openCall b1 b2 (take n t) ≡ openCall b1 b2 _ = accepted b1 b2 (take n t) i (part-length ∙ e) ∙ sym (open-is b1 b2 .0 i) in
-      let m : 0 + length u ≡ n = omega (arith, part-length) in
-      let f : 0 + length u ≤ length t = omega (arith, part-fits) in
-      let table : u ≡ tables .opened b1 b2 = b ∙ ap (λ (o : Outcome). o .table) same in (
-        a ∙ ap (λ (o : Outcome). o .answer) same,
-        rw i (sym (rw m at (written-fits 0 u t f)) ∙ ap (λ (p : List ℕ). written 0 p t) table),
-      )
+  -- the part was lent to the opening
+  pub opened-part : openCall b1 b2 (take n t) ≡ record { answer = tables .answer b1 b2; table = tables .opened b1 b2 }
+  opened-part = accepted b1 b2 (take n t) i (part-length ∙ e) ∙ sym (open-is b1 b2 .0 i)
 
-pub refused-part : (b1 b2 : ℕ) (t : List ℕ) → inRange b1 b2 ≡ false → (WrongBuckets ≡ tables .answer b1 b2) × (t ≡ openedIn b1 b2 t)
-refused-part b1 b2 t f = (sym (ap (λ (o : Outcome). o .answer) (open-is b1 b2 .1 f)), rw f)
+  pub part-some : n ≡ 0 → ⊥
+  part-some z = let h = range b1 b2 i in omega arith

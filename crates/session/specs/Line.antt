@@ -53,15 +53,10 @@ openWith (Of b1) (Of b2) = opening b1 b2
 openWith (Of b1) Wrong = bad
 openWith Wrong n = bad
 
--- `add ID PLAN`
-abbrev pub addWith : List ℕ → Number → Command
-addWith i (Of p) = ask (add i p)
-addWith i Wrong = bad
-
--- `set ID PLAN`
-abbrev pub setWith : List ℕ → Number → Command
-setWith i (Of p) = ask (change i p)
-setWith i Wrong = bad
+-- `add ID PLAN`, `set ID PLAN`: c is the call but for its plan
+abbrev pub planned : (ℕ → Call (List ℕ)) → Number → Command
+planned c (Of p) = ask (c p)
+planned c Wrong = bad
 
 -- the words `open`, `add`, `set`, `del`, `get`
 abbrev pub openWord : List ℕ
@@ -87,8 +82,8 @@ ofTwo w i = cond (eqList w delWord) (ask (withdraw i)) (cond (eqList w getWord) 
 unfoldable pub ofThree : List ℕ → List ℕ → List ℕ → Command
 ofThree w x y =
     cond (eqList w openWord) (openWith (numberTo mostBuckets x) (numberTo mostBuckets y))
-    (cond (eqList w addWord) (addWith x (numberTo mostPlan y))
-    (cond (eqList w setWord) (setWith x (numberTo mostPlan y))
+    (cond (eqList w addWord) (planned (add x) (numberTo mostPlan y))
+    (cond (eqList w setWord) (planned (change x) (numberTo mostPlan y))
     bad))
 
 -- a line of these fields

@@ -3,24 +3,30 @@
 use Prim.Native.Nat.{ℕ, _-_, _≤_}
 use mathlib.Core.List.{List}
 use Rattle.codec.specs.Parts.{partAt}
-use Rattle.model.specs.Model.{add, change, withdraw, query}
+use Rattle.model.specs.Model.{Call, add, change, withdraw, query}
+use Rattle.session.specs.declared.Kind.{Kind}
+use Rattle.session.specs.declared.Kind.the-variants.{Add, Set, Del, Get}
 use Rattle.session.specs.declared.Number.{Number}
 use Rattle.session.specs.declared.Number.the-variants.{Of, Wrong}
 use Rattle.session.specs.declared.Parsed.{Parsed}
-use Rattle.session.specs.declared.Parsed.the-variants.{Open, Add, Set, Del, Get, Bad}
+use Rattle.session.specs.declared.Parsed.the-variants.{Open, Ask, Bad}
 use Rattle.session.specs.Line.{Command, opening, ask, bad, mostBuckets, mostPlan}
 
 -- the bytes of the line s from index start to before end
 abbrev pub between : ℕ → ℕ → List ℕ → List ℕ
 between start end s = partAt (end - start) start s
 
+-- the call of a kind
+abbrev pub callOf : Kind → List ℕ → ℕ → Call (List ℕ)
+callOf Add i p = add i p
+callOf Set i p = change i p
+callOf Del i p = withdraw i
+callOf Get i p = query i
+
 -- what the line s asks for by its parsed form
 abbrev pub meant : List ℕ → Parsed → Command
 meant s (Open b1 b2) = opening b1 b2
-meant s (Add start end plan) = ask (add (between start end s) plan)
-meant s (Set start end plan) = ask (change (between start end s) plan)
-meant s (Del start end) = ask (withdraw (between start end s))
-meant s (Get start end) = ask (query (between start end s))
+meant s (Ask k start end plan) = ask (callOf k (between start end s) plan)
 meant s Bad = bad
 
 -- a number is at most limit
@@ -31,10 +37,7 @@ AtMost limit Wrong = Unit {0}
 -- the identifier lies in the n bytes of a line, and the numbers are at most their limits
 abbrev pub Within : ℕ → Parsed → Type 0
 Within n (Open b1 b2) = (b1 ≤ mostBuckets) × (b2 ≤ mostBuckets)
-Within n (Add start end plan) = (start ≤ end) × (end ≤ n) × (plan ≤ mostPlan)
-Within n (Set start end plan) = (start ≤ end) × (end ≤ n) × (plan ≤ mostPlan)
-Within n (Del start end) = (start ≤ end) × (end ≤ n)
-Within n (Get start end) = (start ≤ end) × (end ≤ n)
+Within n (Ask k start end plan) = (start ≤ end) × (end ≤ n) × (plan ≤ mostPlan)
 Within n Bad = Unit {0}
 
 -- `open` with what its two fields say
@@ -43,12 +46,7 @@ openForm (Of b1) (Of b2) = Open b1 b2
 openForm (Of b1) Wrong = Bad
 openForm Wrong n = Bad
 
--- `add` with what its last field says
-abbrev pub addForm : ℕ → ℕ → Number → Parsed
-addForm start end (Of p) = Add start end p
-addForm start end Wrong = Bad
-
--- `set` with what its last field says
-abbrev pub setForm : ℕ → ℕ → Number → Parsed
-setForm start end (Of p) = Set start end p
-setForm start end Wrong = Bad
+-- `add` or `set` with what its last field says
+abbrev pub askForm : Kind → ℕ → ℕ → Number → Parsed
+askForm k start end (Of p) = Ask k start end p
+askForm k start end Wrong = Bad

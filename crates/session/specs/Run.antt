@@ -1,6 +1,6 @@
 -- What the line program prints; document 01, "The line program".
 -- Assumes nothing.
-use Prim.Native.Nat.{ℕ, suc}
+use Prim.Native.Nat.{ℕ, suc, _+_}
 use mathlib.Core.Bool.{cond}
 use mathlib.Core.List.{List, [], _∷_, _++_}
 use mathlib.Core.Option.{Option, none, some}
@@ -15,7 +15,7 @@ use Rattle.model.specs.Request.{serve}
 use Rattle.model.specs.Machine.{Machine, accepted}
 use Rattle.concrete.specs.Layout.{inRange, lengthOf}
 use Rattle.concrete.specs.Calls.{rows, solutions, openCall, call}
-use Rattle.session.specs.Decimal.{decimal}
+use Rattle.session.specs.Decimal.{mostDigits, decimal}
 use Rattle.session.specs.Line.{lf, space, parted, Command, opening, ask, bad, commandOf}
 
 -- the first 64 KiB count
@@ -41,6 +41,10 @@ noStart = 0x6e ∷ 0x6f ∷ space ∷ []
 -- an answer printed: `ok N`, the number returned, or `no N`, the cause
 unfoldable pub printed : Answer → List ℕ
 printed a = cond (accepted a) (okStart ++ (decimal (valueOf a) ++ (lf ∷ []))) (noStart ++ (decimal (numberOf a) ++ (lf ∷ [])))
+
+-- the longest line that is printed: `ok `, the digits of a number and LF
+abbrev pub mostPrinted : ℕ
+mostPrinted = length okStart + (mostDigits + 1)
 
 -- what takes openings and calls: the answer to an opening, what an accepted one leaves, and the calls put to that
 pub record Desk (T : Type 0) : Type 0 where

@@ -8,18 +8,18 @@ use identifier::Identifier;
 use identifier::Read;
 use sound::Table;
 ghost use mathlib.Core.Path.{_≡_};
-ghost use Prim.Native.Nat.{_+_, _^_, _≤_, _<_};
+ghost use Prim.Native.Nat.{_+_, _*_, _^_, _≤_, _<_};
 ghost use mathlib.Core.List.{_∷_, [], _++_};
+ghost use mathlib.Core.Option.{none};
 ghost use lib.ListN.{length, take, drop};
 ghost use Rattle.codec.specs.Parts.{written};
-ghost use Rattle.model.specs.Model.{change, withdraw, query};
-ghost use Rattle.concrete.specs.Calls.{call};
+ghost use Rattle.concrete.specs.Calls.{served, call};
 ghost use Rattle.table.specs.Ready.{Ready};
 ghost use Rattle.session.specs.Decimal.{grown, numberTo, digitOf, decimal};
-ghost use Rattle.session.specs.Line.{lf, placeOf, ofTwo, ofThree, commandOf};
-ghost use Rattle.session.specs.Parsed.{between, meant, Within, openForm, addForm, setForm};
-ghost use Rattle.session.specs.Run.{badLine, printed, tables};
-ghost use Rattle.session.specs.Buffer.{openedIn};
+ghost use Rattle.session.specs.Line.{lf, placeOf, parted, ofTwo, ofThree, opening, ask, commandOf};
+ghost use Rattle.session.specs.Parsed.{between, callOf, meant, Within, openForm, askForm};
+ghost use Rattle.session.specs.Run.{inputLimit, mostPrinted, badLine, printed, obey, turn, outputFrom, tables, output};
+ghost use Rattle.session.specs.Buffer.{heldIn, Holds, Did, Printed};
 
 // What a field is read as.
 pub enum Number {
@@ -28,13 +28,23 @@ pub enum Number {
     Wrong,
 }
 
-// What a line asks for. An identifier is the bytes from start to before end.
+// Which call a line asks for.
+pub enum Kind {
+    Add,
+    Set,
+    Del,
+    Get,
+}
+
+// What a line asks for. The identifier of a call is the bytes from start to before end; `del` and `get` have plan 0.
 pub enum Parsed {
     Open(u64, u64),
-    Add { start: usize, end: usize, plan: u64 },
-    Set { start: usize, end: usize, plan: u64 },
-    Del { start: usize, end: usize },
-    Get { start: usize, end: usize },
+    Ask {
+        kind: Kind,
+        start: usize,
+        end: usize,
+        plan: u64,
+    },
     Bad,
 }
 
@@ -133,22 +143,17 @@ pub(crate) fn open_form(x: Number, y: Number) -> Parsed
     }
 }
 
-// `add` with what its last field says.
-pub(crate) fn add_form(start: usize, end: usize, x: Number) -> Parsed
-    ensures { λ r. ⌜ r ≡ addForm start end x ⌝ }
+// `add` or `set` with what its last field says.
+pub(crate) fn ask_form(kind: Kind, start: usize, end: usize, x: Number) -> Parsed
+    ensures { λ r. ⌜ r ≡ askForm kind start end x ⌝ }
 {
     match x {
-        Number::Of(plan) => Parsed::Add { start, end, plan },
-        Number::Wrong => Parsed::Bad,
-    }
-}
-
-// `set` with what its last field says.
-pub(crate) fn set_form(start: usize, end: usize, x: Number) -> Parsed
-    ensures { λ r. ⌜ r ≡ setForm start end x ⌝ }
-{
-    match x {
-        Number::Of(plan) => Parsed::Set { start, end, plan },
+        Number::Of(plan) => Parsed::Ask {
+            kind,
+            start,
+            end,
+            plan,
+        },
         Number::Wrong => Parsed::Bad,
     }
 }
@@ -162,10 +167,20 @@ pub(crate) fn two_fields(s: &[u8], a: usize) -> Parsed
     let end = s.len();
     let word = &s[..a];
     if codec::same(word, b"del") {
-        return Parsed::Del { start, end };
+        return Parsed::Ask {
+            kind: Kind::Del,
+            start,
+            end,
+            plan: 0,
+        };
     }
     if codec::same(word, b"get") {
-        return Parsed::Get { start, end };
+        return Parsed::Ask {
+            kind: Kind::Get,
+            start,
+            end,
+            plan: 0,
+        };
     }
     Parsed::Bad
 }
@@ -183,10 +198,10 @@ pub(crate) fn three_fields(s: &[u8], a: usize, b: usize) -> Parsed
         return open_form(read_number(&s[start..b], 999), read_number(last, 999));
     }
     if codec::same(word, b"add") {
-        return add_form(start, b, read_number(last, 255));
+        return ask_form(Kind::Add, start, b, read_number(last, 255));
     }
     if codec::same(word, b"set") {
-        return set_form(start, b, read_number(last, 255));
+        return ask_form(Kind::Set, start, b, read_number(last, 255));
     }
     Parsed::Bad
 }
@@ -242,50 +257,160 @@ pub(crate) fn put_bad(out: &mut [u8], at: usize) -> usize
     at + 4
 }
 
-// `get` put to a sound table.
-pub(crate) fn ask_get(t: &[u64], id: &[u8]) -> Answer
+// A call put to a sound table by its word.
+pub(crate) fn serve(t: &mut [u64], w: u64, kind: Kind, plan: u64) -> Answer
     requires { ⌜ Ready (now t) ⌝ }
-    ensures { λ r. ⌜ (r ≡ call (now (t .entry)) (query (now (id .entry))) .answer) × (now (t .exit) ≡ call (now (t .entry)) (query (now (id .entry))) .table) ⌝ }
+    ensures { λ r. ⌜ (r ≡ served (now (t .entry)) w (callOf kind [] plan) .answer) × (now (t .exit) ≡ served (now (t .entry)) w (callOf kind [] plan) .table) ⌝ }
+{
+    match kind {
+        Kind::Add => adding::add_word(t, w, plan),
+        Kind::Set => table::change_word(t, w, plan),
+        Kind::Del => table::withdraw_word(t, w),
+        Kind::Get => table::query_word(t, w),
+    }
+}
+
+// A call put to a sound table.
+pub(crate) fn ask(t: &mut [u64], id: &[u8], kind: Kind, plan: u64) -> Answer
+    requires { ⌜ Ready (now t) ⌝ }
+    ensures { λ r. ⌜ (r ≡ call (now (t .entry)) (callOf kind (now (id .entry)) plan) .answer) × (now (t .exit) ≡ call (now (t .entry)) (callOf kind (now (id .entry)) plan) .table) ⌝ }
 {
     let read = Identifier::read(id);
     match read {
-        Read::Word(w) => table::query_word(t, w),
+        Read::Word(w) => serve(t, w, kind, plan),
         Read::Refused(a) => a,
     }
 }
 
-// `set` put to a sound table.
-pub(crate) fn ask_set(t: &mut [u64], id: &[u8], plan: u64) -> Answer
-    requires { ⌜ Ready (now t) ⌝ }
-    ensures { λ r. ⌜ (r ≡ call (now (t .entry)) (change (now (id .entry)) plan) .answer) × (now (t .exit) ≡ call (now (t .entry)) (change (now (id .entry)) plan) .table) ⌝ }
-{
-    let read = Identifier::read(id);
-    match read {
-        Read::Word(w) => table::change_word(t, w, plan),
-        Read::Refused(a) => a,
-    }
+// How far a run has come: the length of the table that is open, 0 if none is, and the number of bytes printed.
+pub(crate) struct Progress {
+    held: usize,
+    printed: usize,
 }
 
-// `del` put to a sound table.
-pub(crate) fn ask_del(t: &mut [u64], id: &[u8]) -> Answer
-    requires { ⌜ Ready (now t) ⌝ }
-    ensures { λ r. ⌜ (r ≡ call (now (t .entry)) (withdraw (now (id .entry))) .answer) × (now (t .exit) ≡ call (now (t .entry)) (withdraw (now (id .entry))) .table) ⌝ }
-{
-    let read = Identifier::read(id);
-    match read {
-        Read::Word(w) => table::withdraw_word(t, w),
-        Read::Refused(a) => a,
-    }
-}
-
-// `open` in a buffer for the longest table.
-pub(crate) fn ask_open(t: &mut [u64], b1: u64, b2: u64) -> Answer
-    requires { do ⌜ length (now t) ≡ (← ⟦Table::LONGEST⟧) ⌝ }
-    ensures { λ r. ⌜ (r ≡ tables .answer b1 b2) × (now (t .exit) ≡ openedIn b1 b2 (now (t .entry))) ⌝ }
+// `open`, in a buffer for the longest table.
+pub(crate) fn open_line(
+    t: &mut [u64],
+    held: usize,
+    b1: u64,
+    b2: u64,
+    out: &mut [u8],
+    at: usize,
+) -> Progress
+    requires { do ⌜ (length (now t) ≡ (← ⟦Table::LONGEST⟧)) × (at < 2 ^ 31) × (held ≤ length (now t)) ⌝ }
+    ensures { λ r. ⌜ Did (obey tables (heldIn held (now (t .entry))) (opening b1 b2)) at (now (out .entry)) r (now (t .exit)) (now (out .exit)) ⌝ }
 {
     if sound::in_range(b1, b2) {
         let n = sound::length_of(b1, b2);
-        return table::open(&mut t[..n], b1, b2);
+        let a = table::open(&mut t[..n], b1, b2);
+        return Progress {
+            held: n,
+            printed: put_answer(out, at, a),
+        };
     }
-    Answer::WrongBuckets
+    Progress {
+        held,
+        printed: put_answer(out, at, Answer::WrongBuckets),
+    }
+}
+
+// Any other call.
+pub(crate) fn ask_line(
+    t: &mut [u64],
+    held: usize,
+    id: &[u8],
+    kind: Kind,
+    plan: u64,
+    out: &mut [u8],
+    at: usize,
+) -> Progress
+    requires { ⌜ Holds held (now t) × (at < 2 ^ 31) ⌝ }
+    ensures { λ r. ⌜ Did (obey tables (heldIn held (now (t .entry))) (ask (callOf kind (now (id .entry)) plan))) at (now (out .entry)) r (now (t .exit)) (now (out .exit)) ⌝ }
+{
+    if held == 0 {
+        return Progress {
+            held,
+            printed: put_bad(out, at),
+        };
+    }
+    let a = ask(&mut t[..held], id, kind, plan);
+    Progress {
+        held,
+        printed: put_answer(out, at, a),
+    }
+}
+
+// A line by its parsed form.
+pub(crate) fn obey(
+    t: &mut [u64],
+    held: usize,
+    s: &[u8],
+    p: Parsed,
+    out: &mut [u8],
+    at: usize,
+) -> Progress
+    requires { do ⌜ (length (now t) ≡ (← ⟦Table::LONGEST⟧)) × Holds held (now t) × (at < 2 ^ 31) × Within (length (now s)) p ⌝ }
+    ensures { λ r. ⌜ Did (obey tables (heldIn held (now (t .entry))) (meant (now (s .entry)) p)) at (now (out .entry)) r (now (t .exit)) (now (out .exit)) ⌝ }
+{
+    match p {
+        Parsed::Open(b1, b2) => open_line(t, held, b1, b2, out, at),
+        Parsed::Ask {
+            kind,
+            start,
+            end,
+            plan,
+        } => ask_line(t, held, &s[start..end], kind, plan, out, at),
+        Parsed::Bad => Progress {
+            held,
+            printed: put_bad(out, at),
+        },
+    }
+}
+
+// A line that had its LF.
+pub(crate) fn turn(t: &mut [u64], held: usize, s: &[u8], out: &mut [u8], at: usize) -> Progress
+    requires { do ⌜ (length (now t) ≡ (← ⟦Table::LONGEST⟧)) × Holds held (now t) × (at < 2 ^ 31) ⌝ }
+    ensures { λ r. ⌜ Did (turn tables (heldIn held (now (t .entry))) (now (s .entry))) at (now (out .entry)) r (now (t .exit)) (now (out .exit)) ⌝ }
+{
+    if s.len() < 64 {
+        return obey(t, held, s, parse(s), out, at);
+    }
+    Progress {
+        held,
+        printed: put_bad(out, at),
+    }
+}
+
+// The lines of an input one after the other, with no table open before. The number of bytes printed.
+pub(crate) fn run_lines(t: &mut [u64], s: &[u8], out: &mut [u8]) -> usize
+    requires { do ⌜ (length (now t) ≡ (← ⟦Table::LONGEST⟧)) × (length (now s) ≤ inputLimit) ⌝ }
+    ensures { λ r. ⌜ Printed (outputFrom tables none (parted lf (now (s .entry)))) (mostPrinted * length (now (s .entry))) (now (out .entry)) r (now (out .exit)) ⌝ }
+{
+    let mut held: usize = 0;
+    let mut at: usize = 0;
+    let mut start: usize = 0;
+    let mut end = place(s, 10, 0);
+    while end < s.len() {
+        let next = turn(t, held, &s[start..end], out, at);
+        held = next.held;
+        at = next.printed;
+        start = end + 1;
+        end = place(s, 10, start);
+    }
+    if start < s.len() {
+        return put_bad(out, at);
+    }
+    at
+}
+
+// The line program: what it prints for an input goes to out, as much as fits. The number of bytes printed, at most 24 for each byte that
+// is read.
+pub fn run(input: &[u8], out: &mut [u8]) -> usize
+    ensures { λ r. ⌜ Printed (output (now (input .entry))) (mostPrinted * inputLimit) (now (out .entry)) r (now (out .exit)) ⌝ }
+{
+    let mut t = [0u64; Table::LONGEST];
+    if input.len() <= 65536 {
+        return run_lines(&mut t, input, out);
+    }
+    run_lines(&mut t, &input[..65536], out)
 }

@@ -68,16 +68,16 @@ same-requires-2 c κs = search needs
 read-number-requires-3 : tie.Need-read-number-requires-3
 read-number-requires-3 c κs = search needs
 
-add-form-requires : tie.Need-add-form-requires
-add-form-requires c κs = search needs
+ask-form-requires : tie.Need-ask-form-requires
+ask-form-requires c κs = search needs
 
 returns-2 : tie.Need-returns-2
 returns-2 c =
     let second = c .before .before in
     let first = second .before .before .before in
     let args = first .before .before .before .before .before .before .args in
-    three-add (args .s .now) (args .a) (args .b) (omega arith) (omega arith) (c .add-form .result) (c .before .read-number3 .result)
-    (sym (first .before .same .ensures) ∙ first .if1 .left) (sym (second .before .same2 .ensures) ∙ second .if2 .taken) (c .add-form .ensures) (c .before .read-number3 .ensures)
+    three-add (args .s .now) (args .a) (args .b) (omega arith) (omega arith) (c .ask-form .result) (c .before .read-number3 .result)
+    (sym (first .before .same .ensures) ∙ first .if1 .left) (sym (second .before .same2 .ensures) ∙ second .if2 .taken) (c .ask-form .ensures) (c .before .read-number3 .ensures)
 
 slice-aggregate-same-3 : tie.Need-slice-aggregate-same-3
 slice-aggregate-same-3 c = search needs
@@ -88,8 +88,8 @@ same-requires-3 c κs = search needs
 read-number-requires-4 : tie.Need-read-number-requires-4
 read-number-requires-4 c κs = search needs
 
-set-form-requires : tie.Need-set-form-requires
-set-form-requires c κs = search needs
+ask-form-requires-2 : tie.Need-ask-form-requires-2
+ask-form-requires-2 c κs = search needs
 
 returns-3 : tie.Need-returns-3
 returns-3 c =
@@ -97,9 +97,9 @@ returns-3 c =
     let second = third .before .before .before in
     let first = second .before .before .before in
     let args = first .before .before .before .before .before .before .args in
-    three-set (args .s .now) (args .a) (args .b) (omega arith) (omega arith) (c .set-form .result) (c .before .read-number4 .result)
+    three-set (args .s .now) (args .a) (args .b) (omega arith) (omega arith) (c .ask-form2 .result) (c .before .read-number4 .result)
     (sym (first .before .same .ensures) ∙ first .if1 .left) (sym (second .before .same2 .ensures) ∙ second .if2 .left)
-    (sym (third .before .same3 .ensures) ∙ third .if3 .taken) (c .set-form .ensures) (c .before .read-number4 .ensures)
+    (sym (third .before .same3 .ensures) ∙ third .if3 .taken) (c .ask-form2 .ensures) (c .before .read-number4 .ensures)
 
 returns-4 : tie.Need-returns-4
 returns-4 c =
@@ -131,11 +131,11 @@ three-fields-spec =
     slice-aggregate-same-2
     same-requires-2
     read-number-requires-3
-    add-form-requires
+    ask-form-requires
     returns-2
     slice-aggregate-same-3
     same-requires-3
     read-number-requires-4
-    set-form-requires
+    ask-form-requires-2
     returns-3
     returns-4)

@@ -1,11 +1,10 @@
--- `session::ask_set` meets its contract.
+-- `session::ask` meets its contract.
 -- Assumes nothing.
 use mathlib.Core.Path.{refl}
-use Rattle.model.specs.Model.{change}
 use Rattle.session.proofs.Asked.{asked-word, asked-refused}
 use borrow.Author.Needs.{needs}
-use Rattle.session.proofs.ask_set.Statement.{statement}
-use Rattle.session.proofs.ask_set.Tie as tie
+use Rattle.session.proofs.ask.Statement.{statement}
+use Rattle.session.proofs.ask.Tie as tie
 
 read-requires : tie.Need-read-requires
 read-requires c κs = search needs
@@ -13,8 +12,8 @@ read-requires c κs = search needs
 enum-known-read : tie.Need-enum-known-read
 enum-known-read c = search needs
 
-change-word-requires : tie.Need-change-word-requires
-change-word-requires c κs = search needs
+serve-requires : tie.Need-serve-requires
+serve-requires c κs = search needs
 
 enum-known-read-2 : tie.Need-enum-known-read-2
 enum-known-read-2 c = search needs
@@ -29,7 +28,7 @@ returns c =
     let d = m .before .before in
     let start = d .before .before .before in
     let a = start .args in
-    rw (asked-word (a .t .now) (start .pre) (change (a .id .now) (a .plan)) (d .read .result) (d .read .ensures) (m .read2 .given .0 .0) (m .read2 .given .1)) (done .change-word .ensures)
+    rw (asked-word (a .t .now) (start .pre) (a .kind) (a .id .now) (a .plan) (d .read .result) (d .read .ensures) (m .read2 .given .0 .0) (m .read2 .given .1)) (done .serve .ensures)
 
 returns-2 : tie.Need-returns-2
 returns-2 c =
@@ -37,15 +36,15 @@ returns-2 c =
     let d = m .before .before in
     let start = d .before .before .before in
     let a = start .args in
-    rw (asked-refused (a .t .now) (start .pre) (change (a .id .now) (a .plan)) (d .read .result) (d .read .ensures) (m .read3 .given .0 .0) (m .read3 .given .1)) (refl, refl)
+    rw (asked-refused (a .t .now) (start .pre) (a .kind) (a .id .now) (a .plan) (d .read .result) (d .read .ensures) (m .read3 .given .0 .0) (m .read3 .given .1)) (refl, refl)
 
-pub ask-set-spec : {M : Type 1} → statement M
-ask-set-spec =
+pub ask-spec : {M : Type 1} → statement M
+ask-spec =
     tie.close
     (tie.spec
     read-requires
     enum-known-read
-    change-word-requires
+    serve-requires
     enum-known-read-2
     same-length
     returns

@@ -1,0 +1,14 @@
+-- `lines::output_buffer` meets its contract.
+-- Assumes nothing.
+use mathlib.Core.Path.{sym}
+use Prim.Native.Nat.{ℕ}
+use lib.ListN.{length-replicate}
+use borrow.Author.Needs.{needs}
+use Rattle.lines.proofs.output_buffer.Statement.{statement}
+use Rattle.lines.proofs.output_buffer.Tie as tie
+
+returns : tie.Need-returns
+returns c = sym (length-replicate {A = ℕ} 1572864 0)
+
+pub output-buffer-spec : {M : Type 1} → statement M
+output-buffer-spec = tie.close (tie.spec returns)

@@ -1,0 +1,40 @@
+-- `lines::write_output` meets its contract.
+-- Assumes nothing.
+use mathlib.Core.Path.{sym}
+use lib.Seq.{length-take-le}
+use borrow.Author.Needs.{needs}
+use Rattle.lines.proofs.write_output.Statement.{statement}
+use Rattle.lines.proofs.write_output.Tie as tie
+
+output-buffer-requires : tie.Need-output-buffer-requires
+output-buffer-requires c κs = search needs
+
+slice-aggregate-run : tie.Need-slice-aggregate-run
+slice-aggregate-run c = search needs
+
+run-requires : tie.Need-run-requires
+run-requires c κs = search needs
+
+array-share-prefix-out : tie.Need-array-share-prefix-out
+array-share-prefix-out c = search needs
+
+slice-aggregate-write-all : tie.Need-slice-aggregate-write-all
+slice-aggregate-write-all c = let r = c .before .before .run in sym (length-take-le (r .result) (r .last .1 .0) (search needs))
+
+write-all-requires : tie.Need-write-all-requires
+write-all-requires c κs = search needs
+
+returns : tie.Need-returns
+returns c = search needs
+
+pub write-output-spec : {M : Type 1} → statement M
+write-output-spec =
+    tie.close
+    (tie.spec
+    output-buffer-requires
+    slice-aggregate-run
+    run-requires
+    array-share-prefix-out
+    slice-aggregate-write-all
+    write-all-requires
+    returns)
