@@ -1,6 +1,6 @@
-// Entries for other languages over hash, codec and identifier: a program made without this code is compared with them.
+// Entries for other languages over hash, codec, identifier, bucket, eliminate and session: a program made without this code is compared with them.
 // Definition: specs/Probe.antt.
-// Cites answer, codec, hash and identifier. Nothing cites it.
+// Cites answer, codec, hash, identifier, bucket, eliminate and session. Nothing cites it.
 use bucket::Bucket;
 use identifier::Identifier;
 use identifier::Read;
@@ -12,6 +12,9 @@ ghost use Rattle.hash.specs.Mix.{mixOf, unmixOf};
 ghost use Rattle.hash.specs.Fnv.{fnvOf};
 ghost use Rattle.identifier.specs.Identifier.{readOf};
 ghost use Rattle.bucket.specs.Bucket.{add, withdraw};
+ghost use Prim.Native.Nat.{_*_};
+ghost use Rattle.session.specs.Run.{inputLimit, mostPrinted, output};
+ghost use Rattle.session.specs.Buffer.{Printed};
 ghost use Rattle.probe.specs.Steps.{probed, probedRow, probedMatrix};
 ghost use Rattle.probe.specs.Probe.{wordAnswer};
 
@@ -140,4 +143,12 @@ pub extern "C" fn probe_matrix(part: &[u64], i: usize) -> u64
         }
     }
     0
+}
+
+// The line program on an input: what it prints goes to out, as much as fits. The number of bytes printed.
+#[no_mangle]
+pub extern "C" fn probe_lines(input: &[u8], out: &mut [u8]) -> usize
+    ensures { λ r. ⌜ Printed (output (now (input .entry))) (mostPrinted * inputLimit) (now (out .entry)) r (now (out .exit)) ⌝ }
+{
+    session::run(input, out)
 }
