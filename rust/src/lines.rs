@@ -14,65 +14,87 @@
 //! - A refused open prints `no 3` and keeps the earlier table, if any; before
 //!   an accepted one every call but open prints `bad`.
 //! - Every line printed ends with LF.
+//! - The table is the program's own and always sound: it is not tested again at
+//!   each line. The answers are those of the calls that do test it.
 
-use crate::answer::Answer;
+use crate::answer::{Answer, BUCKET_NUMBERS};
+use crate::identifier;
 use crate::table::{self, Shape};
+use std::io::Write;
 
 pub const INPUT_MAX: usize = 64 * 1024;
 pub const LINE_MAX: usize = 64;
 const BUCKETS_MAX: u64 = 999;
 const PLAN_MAX: u64 = 255;
 
+/// The table that an accepted open left, and its shape.
+struct Opened {
+    shape: Shape,
+    table: Vec<u64>,
+}
+
 /// Runs the line program on the whole input and returns its whole output.
 pub fn run(input: &[u8]) -> Vec<u8> {
     let read = &input[..input.len().min(INPUT_MAX)];
-    let mut table = None;
+    let mut opened = None;
     let mut output = Vec::new();
     for line in read.split_inclusive(|&byte| byte == b'\n') {
-        let printed = match call(&mut table, line) {
-            Some(answer) if answer.is_accepted() => format!("ok {}\n", answer.value),
-            Some(answer) => format!("no {}\n", answer.cause),
-            None => "bad\n".to_string(),
-        };
-        output.extend(printed.into_bytes());
+        match call(&mut opened, line) {
+            Some(answer) if answer.is_accepted() => writeln!(output, "ok {}", answer.value),
+            Some(answer) => writeln!(output, "no {}", answer.cause),
+            None => writeln!(output, "bad"),
+        }
+        .expect("a vector takes every byte");
     }
     output
 }
 
 /// The answer to one line, or nothing if it is a bad one.
-fn call(table: &mut Option<Vec<u64>>, line: &[u8]) -> Option<Answer> {
+fn call(opened: &mut Option<Opened>, line: &[u8]) -> Option<Answer> {
     if line.len() > LINE_MAX {
         return None;
     }
     let line = line.strip_suffix(b"\n")?;
-    let fields: Vec<&[u8]> = line.split(|&byte| byte == b' ').collect();
-    match fields[..] {
-        [b"open", buckets1, buckets2] => {
+    let mut parts = line.split(|&byte| byte == b' ');
+    let fields = (parts.next()?, parts.next(), parts.next(), parts.next());
+    let answer = match fields {
+        (b"open", Some(buckets1), Some(buckets2), None) => {
             let buckets1 = number(buckets1, BUCKETS_MAX)?;
             let buckets2 = number(buckets2, BUCKETS_MAX)?;
-            Some(open(table, buckets1, buckets2))
+            return Some(open(opened, buckets1, buckets2));
         }
-        [b"add", id, plan] => {
+        (b"add", Some(id), Some(plan), None) => {
             let plan = number(plan, PLAN_MAX)? as u8;
-            Some(table::add(table.as_mut()?, id, plan))
+            let Opened { shape, table } = opened.as_mut()?;
+            identifier::word(id).and_then(|word| shape.add(table, word, plan))
         }
-        [b"set", id, plan] => {
+        (b"set", Some(id), Some(plan), None) => {
             let plan = number(plan, PLAN_MAX)? as u8;
-            Some(table::change(table.as_mut()?, id, plan))
+            let Opened { shape, table } = opened.as_mut()?;
+            identifier::word(id).and_then(|word| shape.change(table, word, plan))
         }
-        [b"del", id] => Some(table::withdraw(table.as_mut()?, id)),
-        [b"get", id] => Some(table::query(table.as_ref()?, id)),
-        _ => None,
-    }
+        (b"del", Some(id), None, None) => {
+            let Opened { shape, table } = opened.as_mut()?;
+            identifier::word(id).and_then(|word| shape.withdraw(table, word))
+        }
+        (b"get", Some(id), None, None) => {
+            let Opened { shape, table } = opened.as_ref()?;
+            identifier::word(id).and_then(|word| shape.query(table, word))
+        }
+        _ => return None,
+    };
+    Some(answer.into())
 }
 
 /// Opens a new table; the earlier one goes only if that is accepted.
-fn open(table: &mut Option<Vec<u64>>, buckets1: u64, buckets2: u64) -> Answer {
-    let len = Shape::new(buckets1, buckets2).map_or(0, |shape| shape.table_len());
-    let mut fresh = vec![0; len];
-    let answer = table::open(&mut fresh, buckets1, buckets2);
+fn open(opened: &mut Option<Opened>, buckets1: u64, buckets2: u64) -> Answer {
+    let Some(shape) = Shape::new(buckets1, buckets2) else {
+        return Answer::refused(BUCKET_NUMBERS, 0);
+    };
+    let mut table = vec![0; shape.table_len()];
+    let answer = table::open(&mut table, buckets1, buckets2);
     if answer.is_accepted() {
-        *table = Some(fresh);
+        *opened = Some(Opened { shape, table });
     }
     answer
 }
