@@ -1,0 +1,30 @@
+//! The proved functions and this program, which shares no code with them, answer alike on random input, well-formed and damaged.
+//! `agree long` takes many more cases. It stops at the first difference, and fails if an answer never occurred.
+
+mod compare;
+mod parts;
+mod planes;
+mod random;
+mod tables;
+
+use reference::rng::Rng;
+
+fn main() {
+    let arguments: Vec<String> = std::env::args().skip(1).collect();
+    let long = match arguments.iter().map(String::as_str).collect::<Vec<_>>()[..] {
+        [] => false,
+        ["long"] => true,
+        _ => {
+            eprintln!("agree [long]");
+            std::process::exit(2);
+        }
+    };
+    let times = if long { 10 } else { 1 };
+    let mut rng = Rng::new(20261115);
+    parts::identifiers(&mut rng, 300_000 * times);
+    parts::buckets(&mut rng, 2_000 * times);
+    tables::tables(&mut rng, 2_000 * times);
+    planes::planes(&mut rng, 400 * times);
+    planes::edges(&mut rng);
+    tables::histories(&mut rng, 8 * times);
+}

@@ -1,0 +1,130 @@
+//! Calls on tables, sound ones and damaged ones, and short histories.
+
+use crate::compare::{same_all, Seen};
+use crate::random::{card, cards, damage, some_shape, some_table};
+use reference::ours;
+use reference::rng::Rng;
+use reference::table::{self, Shape};
+
+/// A call put to both, on tables that are equal: the same answer, and equal tables after it.
+fn call(rng: &mut Rng, seen: &mut Seen, cards: &[Vec<u8>], ours_t: &mut [u64], t: &mut [u64]) {
+    if !rng.one_in(24) {
+        return call_but_open(rng, seen, cards, ours_t, t);
+    }
+    let (b1, b2) = if rng.one_in(2) {
+        (rng.below(60), rng.below(40))
+    } else {
+        some_shape(rng)
+    };
+    seen.same(
+        "open",
+        (b1, b2),
+        ours::open(ours_t, b1, b2),
+        table::open(t, b1, b2),
+    );
+    same_all("table", (b1, b2), ours_t, t);
+}
+
+fn call_but_open(
+    rng: &mut Rng,
+    seen: &mut Seen,
+    cards: &[Vec<u8>],
+    ours_t: &mut [u64],
+    t: &mut [u64],
+) {
+    let id = card(rng, cards);
+    let plan = rng.byte();
+    match rng.below(24) {
+        0..=6 => seen.same("query", &id, ours::query(ours_t, &id), table::query(t, &id)),
+        7..=12 => seen.same(
+            "change",
+            &id,
+            ours::change(ours_t, &id, plan),
+            table::change(t, &id, plan),
+        ),
+        13..=15 => seen.same(
+            "withdraw",
+            &id,
+            ours::withdraw(ours_t, &id),
+            table::withdraw(t, &id),
+        ),
+        _ => seen.same(
+            "add",
+            &id,
+            ours::add(ours_t, &id, plan),
+            table::add(t, &id, plan),
+        ),
+    }
+    same_all("table", &id, ours_t, t);
+}
+
+/// Calls on tables, sound ones and damaged ones, whole tables compared after each.
+pub fn tables(rng: &mut Rng, cases: u64) {
+    let mut seen = Seen::none();
+    let mut calls = 0;
+    for _ in 0..cases {
+        let cards = cards(rng, 400);
+        let mut t = some_table(rng, &cards);
+        let mut ours_t = t.clone();
+        for _ in 0..rng.below(60) {
+            call(rng, &mut seen, &cards, &mut ours_t, &mut t);
+            calls += 1;
+            if rng.one_in(2) {
+                let mut damaged = t.clone();
+                damage(rng, &mut damaged);
+                call(rng, &mut seen, &cards, &mut damaged.clone(), &mut damaged);
+                calls += 1;
+            }
+        }
+    }
+    seen.print(
+        &format!("{calls} calls on {cases} tables, sound and damaged"),
+        &[0, 1, 2, 3, 4, 5, 6, 7, 8],
+    );
+}
+
+/// Long histories from opening: filled until they refuse, then changes, withdrawals, queries and adds mixed; whole tables compared
+/// after each call.
+pub fn histories(rng: &mut Rng, cases: u64) {
+    let mut seen = Seen::none();
+    let mut refused = 0;
+    for case in 0..cases {
+        let (b1, b2) = if case % 20 == 0 {
+            (48, 32)
+        } else {
+            some_shape(rng)
+        };
+        let shape = Shape::new(b1, b2).expect("in range");
+        let cards = cards(rng, 80 * (shape.buckets() + 1));
+        let mut t = vec![0; shape.table_len()];
+        let mut ours_t = t.clone();
+        seen.same(
+            "open",
+            (b1, b2),
+            ours::open(&mut ours_t, b1, b2),
+            table::open(&mut t, b1, b2),
+        );
+        let mut filling = true;
+        for _ in 0..2000 {
+            if filling {
+                let id = rng.pick::<Vec<u8>>(&cards);
+                let plan = rng.byte();
+                let answer = table::add(&mut t, id, plan);
+                seen.same("add", id, ours::add(&mut ours_t, id, plan), answer);
+                same_all("table", id, &ours_t, &t);
+                if answer.cause == 8 {
+                    refused += 1;
+                    filling = false;
+                }
+            } else {
+                call_but_open(rng, &mut seen, &cards, &mut ours_t, &mut t);
+            }
+        }
+    }
+    seen.print(
+        &format!(
+            "{cases} histories of 2,000 calls, {refused} of them filled until the first refusal"
+        ),
+        &[0, 1, 2, 6, 7, 8],
+    );
+}
