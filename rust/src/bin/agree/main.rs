@@ -2,6 +2,7 @@
 //! `agree long` takes many more cases. It stops at the first difference, and fails if an answer never occurred.
 
 mod compare;
+mod histories;
 mod parts;
 mod planes;
 mod random;
@@ -27,4 +28,5 @@ fn main() {
     planes::planes(&mut rng, 400 * times);
     planes::edges(&mut rng);
     tables::histories(&mut rng, 8 * times);
+    histories::long(&mut rng, long);
 }

@@ -1,0 +1,222 @@
+//! Long lists of calls from one opening, with the plane written and read in between. Beside the two programs a plain map of the live
+//! words' plans, which settles every answer but whether the base list is full.
+
+use crate::compare::{differ, same, same_all, Seen};
+use crate::random::{any_identifier, cards, known_card};
+use reference::rng::Rng;
+use reference::table::{self, Shape, BASE_COUNT, LIVE_COUNT};
+use reference::{identifier, ours, plane, Answer};
+use std::collections::BTreeMap;
+
+const CALLS: u64 = 100_000;
+/// Calls between two planes.
+const INTERVAL: u64 = 1_000;
+
+#[derive(Clone, Copy, PartialEq)]
+enum Call {
+    Add,
+    Change,
+    Withdraw,
+    Query,
+}
+
+impl Call {
+    /// Of 16 calls, `adds` are adds and `withdrawals` withdrawals.
+    fn any(rng: &mut Rng, adds: u64, withdrawals: u64) -> Call {
+        match rng.below(16) {
+            kind if kind < adds => Call::Add,
+            kind if kind < adds + withdrawals => Call::Withdraw,
+            _ if rng.one_in(2) => Call::Change,
+            _ => Call::Query,
+        }
+    }
+}
+
+/// Both tables of a history, equal after each call, and the live words' plans.
+struct History {
+    shape: Shape,
+    ours_t: Vec<u64>,
+    t: Vec<u64>,
+    live: BTreeMap<u64, u8>,
+    cards: Vec<Vec<u8>>,
+    seen: Seen,
+}
+
+impl History {
+    fn open(rng: &mut Rng, shape: Shape) -> History {
+        let (b1, b2) = (shape.buckets1, shape.buckets2);
+        let earlier: Vec<u64> = (0..shape.table_len()).map(|_| rng.next()).collect();
+        let mut history = History {
+            shape,
+            ours_t: earlier.clone(),
+            t: earlier,
+            live: BTreeMap::new(),
+            // More than the table can hold.
+            cards: cards(rng, 80 * (shape.buckets() + 1)),
+            seen: Seen::none(),
+        };
+        history.seen.same(
+            "open",
+            (b1, b2),
+            ours::open(&mut history.ours_t, b1, b2),
+            table::open(&mut history.t, b1, b2),
+        );
+        history
+    }
+
+    fn plan(&self, id: &[u8]) -> Option<u8> {
+        let word = identifier::word(id).ok()?;
+        self.live.get(&word).copied()
+    }
+
+    /// An identifier for a call: mostly a card with which it can be accepted, of the first `pool` cards; at times one not allowed.
+    fn identifier(&self, rng: &mut Rng, pool: usize, live: bool) -> Vec<u8> {
+        let id = any_identifier(rng);
+        if identifier::word(&id).is_err() && rng.one_in(8) {
+            return id;
+        }
+        let wanted = live != rng.one_in(8);
+        let mut id = known_card(rng, &self.cards[..pool]);
+        for _ in 0..8 {
+            if self.plan(&id).is_some() != wanted {
+                id = known_card(rng, &self.cards[..pool]);
+            }
+        }
+        id
+    }
+
+    /// One call put to both and to the map. The reference does not test its table, which is sound.
+    fn call(&mut self, rng: &mut Rng, call: Call, pool: usize) {
+        let id = self.identifier(rng, pool, call != Call::Add);
+        let plan = rng.byte();
+        let word = identifier::word(&id);
+        let (shape, t, ours_t) = (self.shape, &mut self.t, &mut self.ours_t);
+        let (ours, reference) = match call {
+            Call::Add => (
+                ours::add(ours_t, &id, plan),
+                word.and_then(|word| shape.add(t, word, plan)),
+            ),
+            Call::Change => (
+                ours::change(ours_t, &id, plan),
+                word.and_then(|word| shape.change(t, word, plan)),
+            ),
+            Call::Withdraw => (
+                ours::withdraw(ours_t, &id),
+                word.and_then(|word| shape.withdraw(t, word)),
+            ),
+            Call::Query => (
+                ours::query(ours_t, &id),
+                word.and_then(|word| shape.query(t, word)),
+            ),
+        };
+        self.seen.same("call", &id, ours, reference.into());
+        same_all("table", &id, &self.ours_t, &self.t);
+
+        let Ok(word) = word else {
+            return;
+        };
+        let expected = match (call, self.plan(&id)) {
+            (Call::Add, Some(held)) => Answer::refused(6, held.into()),
+            (Call::Add, None) if ours.cause == 8 => Answer::refused(8, 0),
+            (Call::Add, None) => Answer::accepted(self.live.len() as u64 + 1),
+            (_, Some(held)) => Answer::accepted(held.into()),
+            (_, None) => Answer::refused(7, 0),
+        };
+        same("answer by the map", &id, ours, expected);
+        if ours.is_accepted() {
+            match call {
+                Call::Add | Call::Change => {
+                    self.live.insert(word, plan);
+                }
+                Call::Withdraw => {
+                    self.live.remove(&word);
+                }
+                Call::Query => {}
+            }
+        }
+        let count = self.live.len() as u64;
+        same("live count", &id, self.ours_t[LIVE_COUNT], count);
+    }
+
+    /// An opening that is refused: by its numbers, or because the table has another length.
+    fn refused_open(&mut self, rng: &mut Rng) {
+        let (b1, b2) = (self.shape.buckets1, self.shape.buckets2);
+        let (b1, b2) = match rng.below(4) {
+            0 => (0, b2),
+            1 => (b1, 33 + rng.below(1000)),
+            2 => (49 + rng.next() % (u64::MAX - 49), b2),
+            _ if b1 < 48 => (b1 + 1, b2),
+            _ => (b1 - 1, b2),
+        };
+        self.seen.same(
+            "open",
+            (b1, b2),
+            ours::open(&mut self.ours_t, b1, b2),
+            table::open(&mut self.t, b1, b2),
+        );
+        same_all("table", (b1, b2), &self.ours_t, &self.t);
+    }
+
+    /// The plane of both, looked up for every card: a live one gives its plan.
+    fn plane(&mut self) {
+        if table::check(&self.t) != Ok(self.shape) {
+            differ("table", self.t.len(), "not sound by the reference");
+        }
+        let (mut ours_out, mut out) = ([0xa5; 6000], [0xa5; 6000]);
+        let answer = plane::write(&self.t, &mut out);
+        let ours = ours::write_plane(&self.ours_t, &mut ours_out);
+        self.seen.same("write", self.t.len(), ours, answer);
+        same_all("plane", self.t.len(), &ours_out, &out);
+        let plane = &out[..answer.value as usize];
+        for id in &self.cards {
+            let word = identifier::word(id).expect("a card");
+            let read = ours::lookup(id, plane);
+            same("lookup", id, read, plane::lookup(id, plane));
+            if let Some(&plan) = self.live.get(&word) {
+                same("plan", id, read, Answer::accepted(plan.into()));
+            }
+        }
+    }
+}
+
+fn history(rng: &mut Rng, b1: u64, b2: u64) {
+    let mut history = History::open(rng, Shape::new(b1, b2).expect("in range"));
+    let cards = history.cards.len();
+    // Times of growth, of as many adds as withdrawals, of shrinking, with more and more cards.
+    const TIMES: u64 = 20;
+    let mut most = 0;
+    for time in 1..=TIMES {
+        let pool = cards * time as usize / TIMES as usize;
+        let (adds, withdrawals) = *rng.pick(&[(10, 1), (8, 2), (5, 4), (2, 9)]);
+        for call in 1..=CALLS / TIMES {
+            if rng.one_in(200) {
+                history.refused_open(rng);
+            } else {
+                let call = Call::any(rng, adds, withdrawals);
+                history.call(rng, call, pool);
+            }
+            if call % INTERVAL == 0 {
+                history.plane();
+            }
+            most = most.max(history.live.len());
+        }
+    }
+    let (live, base) = (history.t[LIVE_COUNT], history.t[BASE_COUNT]);
+    // No call finds the table unsound; 4 comes from openings of another length.
+    history.seen.print(
+        &format!("{CALLS} calls from one opening of {b1} and {b2} buckets, {most} live at most, {live} at the end, {base} of them in the base list"),
+        &[0, 1, 2, 3, 4, 6, 7, 8],
+    );
+}
+
+/// A history at each of several bucket numbers; of the larger ones only if `all`.
+pub fn long(rng: &mut Rng, all: bool) {
+    for (b1, b2) in [(1, 1), (2, 1), (4, 2)] {
+        history(rng, b1, b2);
+    }
+    if all {
+        for (b1, b2) in [(1, 3), (8, 4), (16, 8), (24, 16), (48, 32)] {
+            history(rng, b1, b2);
+        }
+    }
+}
