@@ -340,6 +340,89 @@ fn lookups(rng: &mut Rng, t: &[u64], inside: &[Vec<u8>], base: u64) {
     );
 }
 
+/// Opening and withdrawing by themselves.
+fn opening_and_withdrawing(rng: &mut Rng) {
+    const N: u32 = 50;
+    for (b1, b2) in [(1, 1), (12, 8), (48, 32)] {
+        let (t, mut inside) = filled_table(rng, b1, b2, 64);
+        while inside.len() > N as usize {
+            inside.swap_remove(rng.below(inside.len() as u64) as usize);
+        }
+        println!("-- {b1} and {b2} buckets");
+        let (mut a, mut b) = (t.clone(), t.clone());
+        compare(
+            "open",
+            N,
+            || {
+                for _ in 0..N {
+                    black_box(ours::open(black_box(&mut a), b1, b2));
+                }
+            },
+            || {
+                for _ in 0..N {
+                    black_box(table::open(black_box(&mut b), b1, b2));
+                }
+            },
+        );
+        assert_eq!(a, b);
+        compare(
+            "withdraw",
+            N,
+            || {
+                a.copy_from_slice(&t);
+                inside.iter().for_each(|id| {
+                    black_box(ours::withdraw(&mut a, id));
+                })
+            },
+            || {
+                b.copy_from_slice(&t);
+                inside.iter().for_each(|id| {
+                    black_box(table::withdraw(&mut b, id));
+                })
+            },
+        );
+        assert_eq!(a, b);
+    }
+}
+
+/// How many bytes the plane takes for each live word when an add is refused for the first time.
+fn plane_sizes(rng: &mut Rng) {
+    const FILLS: u32 = 20;
+    println!();
+    println!("at the first refusal, mean of {FILLS} random fills");
+    println!(
+        "{:<20} {:>12} {:>12} {:>16} {:>10} {:>10}",
+        "buckets", "live words", "plane bytes", "bytes a word", "least", "most"
+    );
+    for (b1, b2) in [(1, 1), (2, 1), (4, 2), (8, 4), (16, 8), (24, 16), (48, 32)] {
+        let shape = Shape::new(b1, b2).expect("in range");
+        let (mut words, mut bytes) = (0, 0);
+        let mut each = Vec::new();
+        for _ in 0..FILLS {
+            let mut t = vec![0; shape.table_len()];
+            table::open(&mut t, b1, b2);
+            while shape.add(&mut t, rng.next(), rng.byte()).is_ok() {}
+            let written = ours::write_plane(&t, &mut [0; 6000]);
+            assert!(written.is_accepted());
+            let live = t[table::LIVE_COUNT];
+            words += live;
+            bytes += written.value;
+            each.push(written.value as f64 / live as f64);
+        }
+        let fills = f64::from(FILLS);
+        println!(
+            "{:<20} {:>12.1} {:>12.1} {:>16.3} {:>10.3} {:>10.3}",
+            format!("{b1} and {b2}"),
+            words as f64 / fills,
+            bytes as f64 / fills,
+            each.iter().sum::<f64>() / fills,
+            each.iter().copied().fold(f64::INFINITY, f64::min),
+            each.iter().copied().fold(0.0, f64::max),
+        );
+    }
+    println!("{:<20} {:>42}", "source document 003", "1.23 to 1.29");
+}
+
 fn main() {
     let mut rng = Rng::new(2026);
     println!(
@@ -349,4 +432,6 @@ fn main() {
     identifiers(&mut rng);
     buckets(&mut rng);
     tables(&mut rng);
+    opening_and_withdrawing(&mut rng);
+    plane_sizes(&mut rng);
 }
