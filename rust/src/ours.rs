@@ -9,6 +9,7 @@ extern "C" {
     fn probe_withdraw(part: *mut u64, len: usize, k: u64) -> u64;
     fn probe_row(part: *const u64, len: usize, k: u64) -> u64;
     fn probe_matrix(part: *const u64, len: usize, i: usize) -> u64;
+    fn probe_lines(input: *const u8, input_len: usize, out: *mut u8, out_len: usize) -> usize;
     fn limgoshi_open(t: *mut u64, len: usize, b1: u64, b2: u64, value: *mut u64) -> u64;
     fn limgoshi_query(
         t: *const u64,
@@ -140,4 +141,18 @@ pub fn write_plane(t: &[u64], out: &mut [u8]) -> Answer {
     answered(|value| unsafe {
         limgoshi_write_plane(t.as_ptr(), t.len(), out.as_mut_ptr(), out.len(), value)
     })
+}
+
+/// What the line program prints for an input: as much as fits is written to `out`; the length of the whole is returned.
+pub fn lines_into(input: &[u8], out: &mut [u8]) -> usize {
+    unsafe { probe_lines(input.as_ptr(), input.len(), out.as_mut_ptr(), out.len()) }
+}
+
+/// What the line program prints for an input.
+pub fn lines(input: &[u8]) -> Vec<u8> {
+    // At most 24 bytes for each byte that counts.
+    let mut out = vec![0; 24 * input.len().min(1 << 16)];
+    let length = lines_into(input, &mut out);
+    out.truncate(length);
+    out
 }

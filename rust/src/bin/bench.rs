@@ -4,7 +4,7 @@
 use reference::bucket::Bucket;
 use reference::rng::Rng;
 use reference::table::{self, Shape};
-use reference::{identifier, ours, plane};
+use reference::{identifier, lines, ours, plane};
 use std::hint::black_box;
 use std::time::Instant;
 
@@ -385,6 +385,52 @@ fn opening_and_withdrawing(rng: &mut Rng) {
     }
 }
 
+/// 64 KiB of lines after the opening of 48 and 32 buckets.
+fn full_input(mut line: impl FnMut() -> String) -> Vec<u8> {
+    let mut input = b"open 48 32\n".to_vec();
+    while input.len() < lines::INPUT_MAX {
+        input.extend((line() + "\n").bytes());
+    }
+    input.truncate(lines::INPUT_MAX);
+    input
+}
+
+/// The line program on the longest input: adds of new identifiers, which fill the table; all calls mixed; openings.
+fn line_program(rng: &mut Rng) {
+    println!("-- 64 KiB through the line program, 48 and 32 buckets: milliseconds");
+    let mut next = 0;
+    let adds = full_input(|| {
+        next += 1;
+        format!("add {next:X} {}", next % 256)
+    });
+    let mixed = full_input(|| {
+        let (id, plan) = (rng.below(3000), rng.byte());
+        match rng.below(10) {
+            0..=4 => format!("add {id:X} {plan}"),
+            5 => format!("del {id:X}"),
+            6..=7 => format!("set {id:X} {plan}"),
+            _ => format!("get {id:X}"),
+        }
+    });
+    let openings = full_input(|| "open 48 32".to_string());
+    for (name, input) in [("adds", adds), ("mixed", mixed), ("openings", openings)] {
+        assert_eq!(ours::lines(&input), lines::run(&input));
+        let mut out = vec![0; 24 * lines::INPUT_MAX];
+        let count = input.iter().filter(|&&byte| byte == b'\n').count();
+        // A million steps: nanoseconds a step are milliseconds in all.
+        compare(
+            &format!("{name}, {count} lines"),
+            1_000_000,
+            || {
+                black_box(ours::lines_into(black_box(&input), &mut out));
+            },
+            || {
+                black_box(lines::run(black_box(&input)));
+            },
+        );
+    }
+}
+
 /// How many bytes the plane takes for each live word when an add is refused for the first time.
 fn plane_sizes(rng: &mut Rng) {
     const FILLS: u32 = 20;
@@ -433,5 +479,6 @@ fn main() {
     buckets(&mut rng);
     tables(&mut rng);
     opening_and_withdrawing(&mut rng);
+    line_program(&mut rng);
     plane_sizes(&mut rng);
 }

@@ -3,6 +3,7 @@
 
 mod compare;
 mod histories;
+mod lines;
 mod parts;
 mod planes;
 mod random;
@@ -29,4 +30,5 @@ fn main() {
     planes::edges(&mut rng);
     tables::histories(&mut rng, 8 * times);
     histories::long(&mut rng, long);
+    lines::lines(&mut rng, 100 * times);
 }
