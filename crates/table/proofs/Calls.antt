@@ -3,7 +3,7 @@
 use Prim.Native.Nat.{ℕ, _-_, _^_, _≤_, _<_}
 use native.Mathlib.Nat.{sub-zero}
 use native.Mathlib.Omega.{arith}
-use mathlib.Core.Path.{_≡_, refl, sym, ap, ap₂, _∙_}
+use mathlib.Core.Path.{_≡_, refl, sym, ap, _∙_}
 use mathlib.Core.Bool.{true, false}
 use mathlib.Core.List.{List, []}
 use mathlib.Core.Option.{Option, none, some}
@@ -19,7 +19,7 @@ use Rattle.identifier.specs.declared.Read.the-variants.{Word, Refused}
 use Rattle.model.specs.Model.{Call, add, change, withdraw, query}
 use Rattle.model.specs.Request.{subject, askOf}
 use Rattle.concrete.specs.Table.{Table, touch}
-use Rattle.concrete.specs.Layout.{numbersOf}
+use Rattle.concrete.specs.Layout.{numbersOf, tableFrom}
 use Rattle.concrete.specs.Calls.{rows, solutions, tableOf, planIn, shaped, sound, Outcome, turnedDown, queried, replaced, served, callRead, call}
 use Rattle.concrete.specs.History.{flatState}
 use Rattle.concrete.proofs.Calls.{stands-look, sound-stands-flat, sound-exactly}
@@ -30,7 +30,7 @@ use Rattle.table.specs.declared.Edit.{Edit}
 use Rattle.table.specs.declared.Edit.the-variants.{Change, Withdraw}
 use Rattle.table.specs.Ready.{Ready, admitted}
 use Rattle.table.specs.Edit.{onBucket, onBase, touched, leaving, asked}
-use Rattle.table.proofs.Touched.{touch-count, count-kept}
+use Rattle.table.proofs.Touched.{touch-count}
 
 -- ---- a word that is live, or not
 
@@ -65,19 +65,21 @@ module _ (t : List ℕ) (w : ℕ) (i : List ℕ) (f : Found) (e : f ≡ foundOf 
     query-live = ap (queried t) live
 
     pub edit-live : (d : Edit) (ys : List ℕ) → ys ≡ numbersOf (touched d w (tableOf t))
-        → served t w (asked d i) ≡ record { answer = Accepted p; table = set ys 3 (getD ys 3 0 - leaving d) }
+        → served t w (asked d i) ≡ record { answer = Accepted p; table = set ys 3 (getD t 3 0 - leaving d) }
+    unfolding tableFrom
     edit-live d ys y =
         edit-served t w i d ∙ ap (replaced t (edited d w (tableOf t))) live
         ∙ ap {B = Outcome} (λ l. record { answer = Accepted p; table = l })
         (touch-count rows solutions mixOf (tableOf t) w (onBucket d) (onBase d) (tableOf t .count - leaving d)
-        ∙ sym (ap₂ (λ (l : List ℕ) (c : ℕ). set l 3 (c - leaving d)) y (ap (λ (l : List ℕ). getD l 3 0) y ∙ count-kept rows solutions mixOf (tableOf t) w (onBucket d) (onBase d) (tableOf t .count))))
+        ∙ ap (λ (l : List ℕ). set l 3 (tableOf t .count - leaving d)) (sym y))
 
     -- the live count is not 0
-    pub counted : Ready t → w < 2 ^ rows → (d : Edit) (ys : List ℕ) → ys ≡ numbersOf (touched d w (tableOf t)) → leaving d ≤ getD ys 3 0
-    counted h b d ys y =
+    pub counted : Ready t → w < 2 ^ rows → (d : Edit) → leaving d ≤ getD t 3 0
+    unfolding tableFrom
+    counted h b d =
         let st = sound-stands-flat t (h .shape) (h .sound) in
         let k = remove-length w p (flatState t .live) (sym (stands-look t (flatState t) st w b) ∙ live) in
-        omega (arith, leaving-le d, ap (λ (l : List ℕ). getD l 3 0) y, count-kept rows solutions mixOf (tableOf t) w (onBucket d) (onBase d) (tableOf t .count), st .stands .counted)
+        omega (arith, leaving-le d, st .stands .counted)
 
   module _ (l : f ≡ Nothing) where
     pub gone : planIn t w ≡ none

@@ -211,8 +211,9 @@ pub(crate) fn edit_word(t: &mut [u64], w: u64, edit: Edit) -> Answer
     let found = plan_in(t, w);
     match found {
         Found::Plan(p) => {
+            let live = t[Table::LIVE_COUNT_AT] - leaving(edit);
             touch(t, w, edit);
-            t[Table::LIVE_COUNT_AT] = t[Table::LIVE_COUNT_AT] - leaving(edit);
+            t[Table::LIVE_COUNT_AT] = live;
             Answer::Accepted(p)
         }
         Found::Nothing => Answer::NotLive,

@@ -2,18 +2,12 @@
 -- Assumes nothing.
 use mathlib.Core.Path.{refl}
 use mathlib.Core.List.{[]}
-use Prim.Native.Nat.{_<_}
 use native.Mathlib.Omega.{arith}
-use lib.ListN.{length}
 use borrow.Author.Needs.{needs}
 use Rattle.table.proofs.Places.{long}
 use Rattle.table.proofs.Calls.{edit-live, edit-gone, counted}
 use Rattle.table.proofs.edit_word.Statement.{statement}
 use Rattle.table.proofs.edit_word.Tie as tie
-
--- the live count is in the table
-within : (c : tie.After-touch) → 3 < length (c .touch .last .0)
-within c = omega (arith, c .touch .kept .0, long (c .before .before .before .before .before .before .before .before .pre))
 
 plan-in-requires : tie.Need-plan-in-requires
 plan-in-requires c κs = search needs
@@ -21,26 +15,27 @@ plan-in-requires c κs = search needs
 enum-known-found : tie.Need-enum-known-found
 enum-known-found c = search needs
 
-touch-requires : tie.Need-touch-requires
-touch-requires c κs = search needs
-
-slice-read-t : tie.Need-slice-read-t
-slice-read-t c = within (c .before .before .before)
+slice-read-live : tie.Need-slice-read-live
+slice-read-live c = omega (arith, long (c .before .before .before .before .before .before .before .pre))
 
 leaving-requires : tie.Need-leaving-requires
 leaving-requires c κs = search needs
 
-sub-t : tie.Need-sub-t
-sub-t c =
-    let done = c .before .before .before .before in
-    let m = done .before .before .before in
+sub-live : tie.Need-sub-live
+sub-live c =
+    let m = c .before .before .before in
     let r = m .before .before in
     let s = r .before .before .before in
     rw (c .leaving .ensures)
-    (counted (s .args .t .now) (s .args .w) [] (r .plan-in .result) (r .plan-in .ensures) (m .found .given .0 .0) (m .found .given .1) (s .pre) (s .fits .w .fits) (s .args .edit) (done .touch .last .0) (done .touch .ensures))
+    (counted (s .args .t .now) (s .args .w) [] (r .plan-in .result) (r .plan-in .ensures) (m .found .given .0 .0) (m .found .given .1) (s .pre) (s .fits .w .fits) (s .args .edit))
+
+touch-requires : tie.Need-touch-requires
+touch-requires c κs = search needs
 
 slice-write-t : tie.Need-slice-write-t
-slice-write-t c = within (c .before .before .before .before)
+slice-write-t c =
+    let done = c .before .before in
+    omega (arith, done .touch .kept .0, long (done .before .before .before .before .before .before .before .before .before .before .pre))
 
 enum-told : tie.Need-enum-told
 enum-told c = search needs
@@ -50,11 +45,12 @@ same-length c = search needs
 
 returns : tie.Need-returns
 returns c =
-    let done = c .before .before .before .before in
-    let m = done .before .before .before in
+    let done = c .before .before in
+    let l = done .before .before in
+    let m = l .before .before .before in
     let r = m .before .before in
     let a = r .before .before .before .args in
-    rw (edit-live (a .t .now) (a .w) [] (r .plan-in .result) (r .plan-in .ensures) (m .found .given .0 .0) (m .found .given .1) (a .edit) (done .touch .last .0) (done .touch .ensures), c .leaving .ensures)
+    rw (edit-live (a .t .now) (a .w) [] (r .plan-in .result) (r .plan-in .ensures) (m .found .given .0 .0) (m .found .given .1) (a .edit) (done .touch .last .0) (done .touch .ensures), l .leaving .ensures)
     (refl, refl)
 
 same-length-2 : tie.Need-same-length-2
@@ -72,10 +68,10 @@ edit-word-spec =
     (tie.spec
     plan-in-requires
     enum-known-found
-    touch-requires
-    slice-read-t
+    slice-read-live
     leaving-requires
-    sub-t
+    sub-live
+    touch-requires
     slice-write-t
     enum-told
     same-length
