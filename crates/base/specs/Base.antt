@@ -2,9 +2,10 @@
 -- Assumes nothing.
 use Prim.Native.Nat.{ℕ, suc, _≤_}
 use mathlib.Core.Path.{_≡_}
-use mathlib.Core.Bool.{Bool, cond}
+use mathlib.Core.Bool.{Bool, true, false, cond}
 use mathlib.Core.List.{List, [], _∷_, _++_}
 use mathlib.Core.Option.{Option, none, some}
+use lib.Dec.{eqb, ltb}
 use lib.ListN.{take, drop}
 use Rattle.lists.specs.Entries.{Entry}
 use Rattle.model.specs.Model.{baseLimit}
@@ -21,6 +22,11 @@ pub record Pairs (count : ℕ) (xs : List ℕ) : Type 0 where
 abbrev pub foundOf : Option ℕ → Found
 foundOf (some p) = Plan p
 foundOf none = Nothing
+
+-- the test of a word x: larger than v, or equal to it
+abbrev pub hits : Bool → ℕ → ℕ → Bool
+hits true v x = ltb v x
+hits false v x = eqb v x
 
 -- how many entries stand before the first whose word passes the test
 abbrev pub before : (ℕ → Bool) → List Entry → ℕ

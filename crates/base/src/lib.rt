@@ -5,12 +5,11 @@
 ghost use mathlib.Core.Path.{_≡_};
 ghost use mathlib.Core.List.{[], _∷_, _++_};
 ghost use Prim.Native.Nat.{_*_, _<_, _≤_};
-ghost use lib.Dec.{eqb, ltb};
 ghost use lib.ListN.{length};
 ghost use Rattle.lists.specs.Entries.{find, insert, update, remove};
 ghost use Rattle.model.specs.Model.{baseLimit};
 ghost use Rattle.concrete.specs.Layout.{pairsFrom, basePairs};
-ghost use Rattle.base.specs.Base.{Pairs, before, putAt, foundOf};
+ghost use Rattle.base.specs.Base.{Pairs, hits, before, putAt, foundOf};
 
 // The plan of a word, if it has an entry.
 pub enum Found {
@@ -18,29 +17,24 @@ pub enum Found {
     Nothing,
 }
 
-// How many of the first `count` pairs stand before the first whose w' is v.
-pub(crate) fn before_equal(pairs: &[u64], count: usize, v: u64) -> usize
-    requires { ⌜ 2 * count ≤ length (now pairs) ⌝ }
-    ensures { λ r. ⌜ r ≡ before (eqb v) (pairsFrom count (now (pairs .entry))) ⌝ }
+// Whether x is larger than v, or equal to it.
+fn hits(larger: bool, v: u64, x: u64) -> bool
+    ensures { λ r. ⌜ r ≡ hits larger v x ⌝ }
 {
-    let mut i: usize = 0;
-    while i < count {
-        if v == pairs[2 * i] {
-            return i;
-        }
-        i += 1;
+    if larger {
+        return v < x;
     }
-    count
+    v == x
 }
 
-// How many of the first `count` pairs stand before the first whose w' is larger than v.
-pub(crate) fn before_larger(pairs: &[u64], count: usize, v: u64) -> usize
+// How many of the first `count` pairs stand before the first whose w' is larger than v, or equal to it.
+pub(crate) fn first_hit(pairs: &[u64], count: usize, larger: bool, v: u64) -> usize
     requires { ⌜ 2 * count ≤ length (now pairs) ⌝ }
-    ensures { λ r. ⌜ r ≡ before (ltb v) (pairsFrom count (now (pairs .entry))) ⌝ }
+    ensures { λ r. ⌜ r ≡ before (hits larger v) (pairsFrom count (now (pairs .entry))) ⌝ }
 {
     let mut i: usize = 0;
     while i < count {
-        if v < pairs[2 * i] {
+        if hits(larger, v, pairs[2 * i]) {
             return i;
         }
         i += 1;
@@ -85,7 +79,7 @@ pub fn find(pairs: &[u64], count: usize, v: u64) -> Found
     requires { ⌜ Pairs count (now pairs) ⌝ }
     ensures { λ r. ⌜ r ≡ foundOf (find v (pairsFrom count (now (pairs .entry)))) ⌝ }
 {
-    let i = before_equal(pairs, count, v);
+    let i = first_hit(pairs, count, false, v);
     if i < count {
         return Found::Plan(pairs[2 * i + 1]);
     }
@@ -97,7 +91,7 @@ pub fn update(pairs: &mut [u64], count: usize, v: u64, plan: u64)
     requires { ⌜ Pairs count (now pairs) ⌝ }
     ensures { λ _. ⌜ now (pairs .exit) ≡ basePairs (update (record { word = v; plan = plan }) (pairsFrom count (now (pairs .entry)))) ⌝ }
 {
-    let i = before_equal(pairs, count, v);
+    let i = first_hit(pairs, count, false, v);
     if i < count {
         pairs[2 * i + 1] = plan;
     }
@@ -108,7 +102,7 @@ pub fn remove(pairs: &mut [u64], count: usize, v: u64) -> usize
     requires { ⌜ Pairs count (now pairs) ⌝ }
     ensures { λ r. ⌜ (r ≡ length (remove v (pairsFrom count (now (pairs .entry))))) × (now (pairs .exit) ≡ basePairs (remove v (pairsFrom count (now (pairs .entry))))) ⌝ }
 {
-    let i = before_equal(pairs, count, v);
+    let i = first_hit(pairs, count, false, v);
     if i < count {
         let at = 2 * i;
         take_out(pairs, at);
@@ -123,7 +117,7 @@ pub fn insert(pairs: &mut [u64], count: usize, v: u64, plan: u64)
     requires { ⌜ Pairs count (now pairs) × (count < baseLimit) ⌝ }
     ensures { λ _. ⌜ now (pairs .exit) ≡ basePairs (insert (record { word = v; plan = plan }) (pairsFrom count (now (pairs .entry)))) ⌝ }
 {
-    let at = 2 * before_larger(pairs, count, v);
+    let at = 2 * first_hit(pairs, count, true, v);
     put_in(pairs, at, plan);
     put_in(pairs, at, v);
 }

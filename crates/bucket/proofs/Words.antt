@@ -1,18 +1,15 @@
--- A bucket and its words: there and back, and the steps keep how many there are; at every number of rows and of solution words.
+-- A bucket and its words, there and back, at every number of rows and of solution words.
 -- Assumes nothing.
 use mathlib.Core.Path.{_≡_, sym, ap, _∙_, subst}
-use mathlib.Core.Bool.{Bool, true, false}
-use mathlib.Core.List.{List, [], _∷_, _++_, append-assoc, append-nil}
+use mathlib.Core.List.{List, _∷_, _++_, append-assoc}
 use Prim.Native.Nat.{ℕ, suc, _+_, _≤_}
 use native.Mathlib.Numerals.{add-one}
 use native.Mathlib.Omega.{arith}
-use lib.Dec.{ltb}
-use lib.ListN.{length, getD, take, drop, length-append, length-drop, length-set, length-replicate, take-append-drop, drop-of-length-le}
+use lib.ListN.{length, getD, take, drop, length-append, length-drop, length-replicate, take-append-drop}
 use lib.Seq.{length-take-le, drop-cons, drop-drop, take-at, getD-at, drop-append-add, getD-append-add}
-use Rattle.gf2.proofs.Inverse.{length-colStep, length-units}
-use Rattle.gf2.proofs.Loops.{length-solStep}
+use Rattle.gf2.proofs.Inverse.{length-units}
 use Rattle.bucket.specs.declared.Bucket.{Bucket}
-use Rattle.bucket.specs.Bucket.{emptyBucket, tried, freeRow, add, addAt, live, rowOf, change, changeAt, withdraw, withdrawAt}
+use Rattle.bucket.specs.Bucket.{emptyBucket}
 use Rattle.bucket.specs.Words.{bucketWords, wordsOf, bucketFrom, Shaped}
 
 module _ (n r : ℕ) (b : Bucket) (h : Shaped n r b) where
@@ -43,9 +40,6 @@ module _ (n r : ℕ) (b : Bucket) (h : Shaped n r b) where
     unfolding bucketFrom
     from-words = rw (spread, take-at (b .cols) after-cols n (h .cols), getD-at (b .cols) (b .mark) (b .sols ++ b .bound ∷ rest) 0 n (h .cols), drop-cols 1, take-at (b .sols) (b .bound ∷ rest) r (h .sols), bound-at)
 
-  pub from-stored : bucketFrom n r (wordsOf b) ≡ b
-  from-stored = ap (bucketFrom n r) (sym (append-nil (wordsOf b))) ∙ from-words []
-
 -- what was loaded is what is stored
 pub words-from : (n r : ℕ) (xs : List ℕ) → bucketWords n r ≤ length xs → wordsOf (bucketFrom n r xs) ++ drop (bucketWords n r) xs ≡ xs
 unfolding wordsOf bucketFrom
@@ -61,13 +55,6 @@ words-from n r xs h =
     at : (i : ℕ) → i + 1 ≤ length xs → getD xs i 0 ∷ drop (i + 1) xs ≡ drop i xs
     at i l = rw (add-one, drop-cons xs i 0 (omega arith))
 
-pub words-loaded : (n r : ℕ) (xs : List ℕ) → length xs ≡ bucketWords n r → wordsOf (bucketFrom n r xs) ≡ xs
-words-loaded n r xs h =
-    sym (append-nil (wordsOf (bucketFrom n r xs))) ∙ ap (λ (l : List ℕ). wordsOf (bucketFrom n r xs) ++ l) (sym (drop-of-length-le xs {i = bucketWords n r} (omega arith)))
-    ∙ words-from n r xs (omega arith)
-
--- ---- the steps keep the numbers of columns and of solution words
-
 pub from-shaped : (n r : ℕ) (xs : List ℕ) → bucketWords n r ≤ length xs → Shaped n r (bucketFrom n r xs)
 unfolding bucketFrom
 from-shaped n r xs h = record {
@@ -78,25 +65,3 @@ from-shaped n r xs h = record {
 pub empty-shaped : (n r : ℕ) → Shaped n r (emptyBucket n r)
 unfolding emptyBucket
 empty-shaped n r = record { cols = length-units n; sols = length-replicate r 0 }
-
-tried-shaped : (n r : ℕ) (d : Bool) (after before : Bucket) → Shaped n r after → Shaped n r before → Shaped n r (tried d after before .bucket)
-tried-shaped n r true after before h g = h
-tried-shaped n r false after before h g = g
-
-module _ (n r : ℕ) (b : Bucket) (h : Shaped n r b) where
-  pub add-shaped : (w k plan : ℕ) → Shaped n r (add w k plan b .bucket)
-  unfolding add addAt
-  add-shaped w k plan =
-      tried-shaped n r (ltb (freeRow w k b) w) (addAt (freeRow w k b) k plan b) b
-      (record { cols = length-colStep _ _ (b .cols) ∙ h .cols; sols = length-solStep _ _ (b .sols) ∙ h .sols }) h
-
-  pub change-shaped : (w k plan : ℕ) → Shaped n r (change w k plan b .bucket)
-  unfolding change changeAt
-  change-shaped w k plan =
-      tried-shaped n r (live w k b) (changeAt (rowOf w k b) k plan b) b (record { cols = h .cols; sols = length-solStep _ _ (b .sols) ∙ h .sols }) h
-
-  pub withdraw-shaped : (w k : ℕ) → Shaped n r (withdraw w k b .bucket)
-  unfolding withdraw withdrawAt
-  withdraw-shaped w k =
-      tried-shaped n r (live w k b) (withdrawAt w (rowOf w k b) k b) b
-      (record { cols = simp length-set (length-colStep _ _ (b .cols) ∙ h .cols); sols = h .sols }) h

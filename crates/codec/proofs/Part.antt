@@ -1,14 +1,13 @@
 -- Laws of a written part: what it leaves of the rest, what is read back, and how parts that are written one after the other join.
 -- Assumes nothing.
-use mathlib.Core.Path.{_≡_, refl, sym, ap, _∙_}
+use mathlib.Core.Path.{_≡_, refl, ap, _∙_}
 use mathlib.Core.List.{List, [], _∷_, _++_}
-use Prim.Native.Nat.{ℕ, zero, suc, _+_, _-_, _≤_, _<_}
+use Prim.Native.Nat.{ℕ, zero, suc, _+_, _≤_, _<_}
 use native.Mathlib.Nat.{le-of-lt, zero-add, suc-add, le-of-suc-le-suc, not-suc-le-zero}
 use native.Mathlib.Numerals.{add-one}
 use native.Mathlib.Omega.{arith}
 use lib.ListN.{length, getD, take, drop, set, length-drop, drop-of-length-le}
-use lib.Seq.{length-take-le, take-all, take-nil, take-suc, drop-drop, getD-take, getD-drop}
-use borrow.Rule.Slice.PartMut.{putMid}
+use lib.Seq.{length-take-le, take-all, take-nil, take-suc, getD-take, getD-drop}
 use Rattle.codec.specs.Parts.{partAt, written}
 
 -- ---- a part
@@ -76,35 +75,6 @@ written-cut (suc a) n p (y ∷ t) h = ap (λ (l : List ℕ). y ∷ l) (written-c
 
 -- ---- parts of it
 
-pub drop-written : (e a : ℕ) (p t : List ℕ) → a + length p ≤ e → drop e (written a p t) ≡ drop e t
-unfolding written
-drop-written e zero [] t h = refl
-drop-written e zero (x ∷ p) [] h = refl
-drop-written zero zero (x ∷ p) (y ∷ t) h = absurd (not-suc-le-zero (rw zero-add at h))
-drop-written (suc e) zero (x ∷ p) (y ∷ t) h = drop-written e zero p t (omega arith)
-drop-written e (suc a) p [] h = refl
-drop-written zero (suc a) p (y ∷ t) h = absurd (not-suc-le-zero (rw suc-add at h))
-drop-written (suc e) (suc a) p (y ∷ t) h = drop-written e a p t (omega arith)
-
-pub take-written : (k a : ℕ) (p t : List ℕ) → k ≤ a → take k (written a p t) ≡ take k t
-unfolding written
-take-written zero a p t h = refl
-take-written (suc k) zero p t h = absurd (not-suc-le-zero h)
-take-written (suc k) (suc a) p [] h = refl
-take-written (suc k) (suc a) p (y ∷ t) h = ap (λ (l : List ℕ). y ∷ l) (take-written k a p t (le-of-suc-le-suc h))
-
--- another part, which lies after it
-pub part-after : (m e a : ℕ) (p t : List ℕ) → a + length p ≤ e → partAt m e (written a p t) ≡ partAt m e t
-part-after m e a p t h = ap (take m) (drop-written e a p t h)
-
--- another part, which lies before it
-pub part-before : (m e a : ℕ) (p t : List ℕ) → e + m ≤ a → partAt m e (written a p t) ≡ partAt m e t
-unfolding written
-part-before m zero a p t h = take-written m a p t (omega arith)
-part-before m (suc e) zero p t h = absurd (not-suc-le-zero (rw suc-add at h))
-part-before m (suc e) (suc a) p [] h = refl
-part-before m (suc e) (suc a) p (y ∷ t) h = part-before m e a p t (omega arith)
-
 -- the part itself
 pub part-same : (a : ℕ) (p t : List ℕ) → a + length p ≤ length t → partAt (length p) a (written a p t) ≡ p
 unfolding written
@@ -113,15 +83,6 @@ part-same zero (x ∷ p) [] h = absurd (not-suc-le-zero (rw zero-add at h))
 part-same zero (x ∷ p) (y ∷ t) h = ap (λ (l : List ℕ). x ∷ l) (part-same zero p t (omega arith))
 part-same (suc a) p [] h = absurd (not-suc-le-zero (rw suc-add at h))
 part-same (suc a) p (y ∷ t) h = part-same a p t (omega arith)
-
--- what is there already
-pub written-same : (n a : ℕ) (t : List ℕ) → written a (partAt n a t) t ≡ t
-unfolding written
-written-same zero zero t = refl
-written-same (suc n) zero [] = refl
-written-same (suc n) zero (y ∷ t) = ap (λ (l : List ℕ). y ∷ l) (written-same n zero t)
-written-same n (suc a) [] = refl
-written-same n (suc a) (y ∷ t) = ap (λ (l : List ℕ). y ∷ l) (written-same n a t)
 
 -- ---- one after the other
 
@@ -150,11 +111,3 @@ pub take-next : (a i : ℕ) (p t : List ℕ) → i < length p → written a (tak
 take-next a i p t h =
     let e : length (take i p) ≡ i = length-take-le i p (le-of-lt h) in
     rw (add-one i, take-suc p i 0, written-more a (getD p i 0) (take i p) t, e)
-
--- ---- a part that was lent
-
--- the n elements from a on were lent and came back as p
-pub part-back : (a n : ℕ) (p t : List ℕ) → a + n ≤ length t → length p ≡ n → putMid a n t p ≡ written a p t
-part-back a n p t h e =
-    let fits : a + length p ≤ length t = omega arith in
-    ap (λ (l : List ℕ). take a t ++ (p ++ l)) (drop-drop n a t ∙ ap (λ (k : ℕ). drop (a + k) t) (sym e)) ∙ sym (written-fits a p t fits)

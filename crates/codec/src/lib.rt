@@ -52,33 +52,27 @@ pub fn get_u64(s: &[u8], at: usize) -> u64
     number(s, at, 8)
 }
 
-// Writes the n lowest bytes of x from index at on.
-fn put_low(d: &mut [u8], at: usize, n: usize, x: u64)
-    requires { ⌜ at + n ≤ length (now d) ⌝ }
-    ensures { λ _. ⌜ now (d .exit) ≡ written at (toBytes n x) (now (d .entry)) ⌝ }
+// The 8 bytes of x.
+fn bytes(x: u64) -> [u8; 8]
+    ensures { λ r. ⌜ r ≡ toBytes 8 x ⌝ }
 {
-    let mut left = x;
-    let mut i = 0;
-    while i < n {
-        d[at + i] = low(left);
-        left = left >> 8;
-        i += 1;
-    }
-}
-
-// Writes x as 8 bytes from index at on, as many as fit.
-pub fn put_u64(d: &mut [u8], at: usize, x: u64)
-    ensures { λ _. ⌜ now (d .exit) ≡ written at (toBytes 8 x) (now (d .entry)) ⌝ }
-{
-    if d.len() <= at {
-        return;
-    }
-    let left = d.len() - at;
-    if left < 8 {
-        put_low(d, at, left, x);
-        return;
-    }
-    put_low(d, at, 8, x);
+    let x1 = x >> 8;
+    let x2 = x1 >> 8;
+    let x3 = x2 >> 8;
+    let x4 = x3 >> 8;
+    let x5 = x4 >> 8;
+    let x6 = x5 >> 8;
+    let x7 = x6 >> 8;
+    [
+        low(x),
+        low(x1),
+        low(x2),
+        low(x3),
+        low(x4),
+        low(x5),
+        low(x6),
+        low(x7),
+    ]
 }
 
 // Writes the first n bytes of s from index at on.
@@ -106,6 +100,13 @@ pub fn put_bytes(d: &mut [u8], at: usize, s: &[u8])
         return;
     }
     put_first(d, at, s, s.len());
+}
+
+// Writes x as 8 bytes from index at on, as many as fit.
+pub fn put_u64(d: &mut [u8], at: usize, x: u64)
+    ensures { λ _. ⌜ now (d .exit) ≡ written at (toBytes 8 x) (now (d .entry)) ⌝ }
+{
+    put_bytes(d, at, &bytes(x));
 }
 
 // Whether the bytes of p stand at index at of s.

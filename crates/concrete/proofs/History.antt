@@ -4,7 +4,7 @@ use Prim.Native.Nat.{ℕ, _+_, _^_, _<_}
 use native.Mathlib.Omega.{arith}
 use mathlib.Core.Path.{_≡_, refl, sym, ap, _∙_, subst, subst⁻¹}
 use mathlib.Core.Bool.{true, false, true≢false}
-use mathlib.Core.Logic.{_⊎_, ⊎-elim, _↔_}
+use mathlib.Core.Logic.{⊎-elim, _↔_}
 use mathlib.Core.Option.{Option, none, some}
 use mathlib.Core.List.{List, map, List·Permᴰ}
 use lib.Dec.{eqb, ltb}
@@ -50,7 +50,7 @@ compares = record { one = λ t u s q e h g. sym (stands-shows t s h) ∙ e ∙ s
 
 -- ---- opening
 
-open-cases : (b1 b2 : ℕ) (t : List ℕ) → openCall b1 b2 t .answer ≡ Accepted 0 → (inRange b1 b2 ≡ true) × (openCall b1 b2 t .table ≡ numbersOf (T.openTable rows solutions b1 b2))
+pub open-cases : (b1 b2 : ℕ) (t : List ℕ) → openCall b1 b2 t .answer ≡ Accepted 0 → (inRange b1 b2 ≡ true) × (openCall b1 b2 t .table ≡ numbersOf (T.openTable rows solutions b1 b2))
 unfolding openCall
 open-cases b1 b2 t =
     by-test (λ (o : Outcome). o .answer ≡ Accepted 0 → (inRange b1 b2 ≡ true) × (o .table ≡ numbersOf (T.openTable rows solutions b1 b2))) (inRange b1 b2)

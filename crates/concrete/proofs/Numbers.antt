@@ -3,16 +3,12 @@
 use Prim.Native.Nat.{ℕ, zero, suc, _+_, _-_, _*_, _≤_, _<_}
 use native.Mathlib.Nat.{add-mul, not-suc-le-zero, le-of-suc-le-suc}
 use native.Mathlib.Omega.{arith}
-use mathlib.Core.Path.{_≡_, refl, sym, ap, ap₂, _∙_, subst, subst⁻¹}
+use mathlib.Core.Path.{_≡_, refl, sym, ap, ap₂, _∙_, subst}
 use mathlib.Core.List.{List, [], _∷_, _++_, append-assoc}
-use lib.Dec.{eqb}
 use lib.ListN.{length, getD, set, take, drop, replicate, length-append, length-drop, length-set, length-replicate}
-use lib.Seq.{take-append-add, drop-append-add, take-at, drop-at, getD-take, getD-drop, take-take, take-nil, drop-drop, getD-set-same, getD-set-other}
-use borrow.Author.Tests.{eqb-true, eqb-false}
+use lib.Seq.{take-append-add, drop-append-add, take-at, drop-at, getD-take, getD-drop, take-take, take-nil, drop-drop}
 use Rattle.lists.specs.Entries.{Entry}
-use Rattle.lists.proofs.Tests.{cases}
 use Rattle.bucket.specs.declared.Bucket.{Bucket}
-use Rattle.bucket.specs.Bucket.{emptyBucket}
 use Rattle.bucket.specs.Words.{bucketWords, wordsOf, bucketFrom, Shaped}
 use Rattle.bucket.proofs.Words.{length-words, from-words, words-from}
 use Rattle.model.specs.Model.{baseLimit}
@@ -89,14 +85,6 @@ module _ (n r : ℕ) where
     pub unused : (i : ℕ) → getD (unusedIn n r xs) i 0 ≡ 0
 
   -- ---- one level
-
-  pub set-shaped : (bs : List Bucket) (i : ℕ) (b : Bucket) → AllShaped bs → Shaped n r b → AllShaped (set bs i b)
-  set-shaped bs i b f h j l =
-      let k : j < length bs = subst (λ (m : ℕ). j < m) (length-set bs i b) l in
-      cases (eqb j i)
-      (λ t. let e = eqb-true j i t in
-      subst⁻¹ (Shaped n r) (ap (nth n r (set bs i b)) e ∙ getD-set-same bs i b (emptyBucket n r) (subst (λ (m : ℕ). m < length bs) e k)) h)
-      (λ t. subst⁻¹ (Shaped n r) (getD-set-other bs i j b (emptyBucket n r) (eqb-false j i t)) (f j k))
 
   module _ (b : Bucket) (bs : List Bucket) (f : AllShaped (b ∷ bs)) where
     head : Shaped n r b

@@ -17,7 +17,7 @@ use Rattle.answer.specs.Numbers.{numberOf}
 use Rattle.identifier.specs.Identifier.{readOf}
 use Rattle.identifier.specs.declared.Read.the-variants.{Word, Refused}
 use Rattle.bucket.specs.declared.Bucket.{Bucket}
-use Rattle.bucket.specs.Words.{bucketWords, wordsOf, bucketFrom, Shaped}
+use Rattle.bucket.specs.Words.{bucketWords, wordsOf, bucketFrom}
 use Rattle.model.specs.Levels.{firstLevel, secondLevel, passed, due}
 use Rattle.model.specs.Model.{State, Call, add, query, opened, wouldLeave, base}
 use Rattle.model.specs.Request.{subject}
@@ -25,14 +25,14 @@ use Rattle.model.specs.Machine.{accepted, after, answers, Alike, Refines}
 use Rattle.model.specs.History.{addsIn, withdrawalsIn, told}
 use Rattle.model.proofs.Statements as Model
 use Rattle.concrete.specs.Table.{Table, bounds, nth, addedTo}
-use Rattle.concrete.specs.Layout.{basePairs, numbersOf, bucketPlace}
+use Rattle.concrete.specs.Layout.{numbersOf, bucketPlace}
 use Rattle.concrete.specs.Content.{entriesOf}
 use Rattle.concrete.specs.AtOnce.{addedAtOnce}
 use Rattle.concrete.specs.Sound.{SoundTable}
 use Rattle.concrete.specs.Calls.{rows, solutions, tableOf, planIn, shaped, sound, FlatSound, turnedDown, openCall, queried, served, call}
 use Rattle.concrete.specs.History.{Put, tables, states, Opened, acceptedCalls, flatState, Same}
 use Rattle.concrete.proofs.Numbers as Numbers
-use Rattle.concrete.proofs.Numbers.{AllShaped, ShapedTable}
+use Rattle.concrete.proofs.Numbers.{ShapedTable}
 use Rattle.concrete.proofs.AtOnce as AtOnce
 use Rattle.concrete.proofs.Calls as Calls
 use Rattle.concrete.proofs.Calls.{FlatStands}
@@ -47,10 +47,6 @@ numbers-table T h = Numbers.back rows solutions T (Calls.sound-shaped T h)
 -- and sound numbers are those of their table: nothing else is kept
 pub table-numbers : (t : List ℕ) → shaped t ≡ true → FlatSound t → numbersOf (tableOf t) ≡ t
 table-numbers t k h = Numbers.forth rows solutions t (Calls.sound-laid t k h)
-
--- a sound table has the lengths that the laws below ask for
-pub table-shaped : (t : List ℕ) → FlatSound t → ShapedTable rows solutions (tableOf t)
-table-shaped t h = Calls.sound-shaped (tableOf t) (h .table)
 
 -- the header: buckets of level 1, of level 2, base count, live count
 pub header-read : (t : List ℕ) → (length (tableOf t .level1) ≡ getD t 0 0) × (length (tableOf t .level2) ≡ getD t 1 0) × (length (tableOf t .base) ≡ getD t 2 0) × (tableOf t .count ≡ getD t 3 0)
@@ -86,20 +82,6 @@ module _ (T : Table) (h : ShapedTable rows solutions T) where
       ≡ take (bucketPlace rows solutions (length (T .level1) + i)) (numbersOf T)
       ++ (wordsOf b ++ drop (bucketPlace rows solutions (length (T .level1) + i) + bucketWords rows solutions) (numbersOf T))
   write-second = Numbers.write-second rows solutions T h
-
-  -- "64 base pairs, unused ones 0": the base list replaced
-  pub write-base : (es : List Entry)
-      → numbersOf (record { level1 = T .level1; level2 = T .level2; base = es; count = T .count })
-      ≡ set (take (bucketPlace rows solutions (length (T .level1) + length (T .level2))) (numbersOf T) ++ basePairs es) 2 (length es)
-  write-base = Numbers.write-base rows solutions T h
-
--- a level keeps its lengths where a bucket of the right lengths is written
-pub set-shaped : (bs : List Bucket) (i : ℕ) (b : Bucket) → AllShaped rows solutions bs → Shaped rows solutions b → AllShaped rows solutions (set bs i b)
-set-shaped = Numbers.set-shaped rows solutions
-
--- the live count replaced
-pub write-count : (T : Table) (c : ℕ) → numbersOf (record { level1 = T .level1; level2 = T .level2; base = T .base; count = c }) ≡ set (numbersOf T) 3 c
-write-count = Numbers.write-count rows solutions
 
 -- ---- "An add goes to the place its word is due .. each withdrawn and added with its plan one level further"
 

@@ -1,16 +1,15 @@
 -- Each outcome of reading bytes as an identifier is given if and only if it is the first that document 01's order of causes meets.
 -- Assumes nothing.
 use mathlib.Core.Path.{_≡_, sym, ap, _∙_, subst}
-use mathlib.Core.Logic.{_↔_, _⊎_, inl, inr, ⊎-elim}
+use mathlib.Core.Logic.{_↔_}
 use mathlib.Core.Bool.{Bool, true, false, cond, true≢false}
 use mathlib.Core.List.{List, [], _∷_}
 use Prim.Native.Nat.{ℕ, zero, suc, _≤_, _<_, zero-le, suc-le-suc}
 use native.Mathlib.Nat.{le-refl, le-antisymm, lt-irrefl, lt-of-lt-of-le, not-suc-le-zero, le-of-suc-le-suc}
 use native.Mathlib.Omega.{arith}
-use lib.Arith.{lt-one}
-use lib.Dec.{leb, ltb}
+use lib.Dec.{ltb}
 use lib.ListN.{length, getD}
-use borrow.Author.Tests.{lt-ltb, le-ltb, ltb-true, ltb-false, le-leb, lt-leb, leb-false}
+use borrow.Author.Tests.{lt-ltb, le-ltb, ltb-true, ltb-false}
 use Rattle.answer.specs.declared.Answer.the-variants.{WrongLength, WrongByte}
 use Rattle.identifier.specs.Identifier.{sized, allowed, wordOf, firstRefused, readOf}
 use Rattle.identifier.specs.declared.Read.the-variants.{Word, Refused}
@@ -104,10 +103,3 @@ module _ (s : List ℕ) where
         let q : firstRefused s ≡ length s = first-one s (firstRefused s) (length s) (first-refused s) all in
         accepted (p .0) (rw q (le-refl (length s))) ∙ ap Word (sym (p .2)),
   )
-
--- the number of bytes is wrong exactly if it is 0 or over 20
-pub sized-wrong : (n : ℕ) → (sized n ≡ false) ↔ ((n ≡ 0) ⊎ (20 < n))
-sized-wrong n = (
-  λ e. by-test (leb 1 n) (λ l. inr (leb-false n 20 (rw l at e))) (λ l. inl (lt-one (leb-false 1 n l))),
-  ⊎-elim (λ z. rw z) (λ l. rw (le-leb 1 n (omega arith), lt-leb n 20 l)),
-)

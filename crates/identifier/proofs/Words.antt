@@ -7,7 +7,7 @@ use Prim.Native.Nat.{ℕ, _^_, _<_}
 use lib.ListN.{length-map}
 use Rattle.hash.specs.Mix.{mixOf, unmixOf}
 use Rattle.hash.specs.Fnv.{fnvOf}
-use Rattle.hash.proofs.Inverse.{mix-lt, unmix-mix, mix-unmix, unmix-lt, mix-one-to-one}
+use Rattle.hash.proofs.Inverse.{mix-lt, unmix-mix, mix-one-to-one}
 use Rattle.identifier.specs.Identifier.{folded, wordOf, firstRefused, readOf, onlyCase}
 use Rattle.identifier.specs.Place.{secondOf, firstOf}
 use Rattle.identifier.proofs.Folding.{allowed-folded, fold-twice, case-folded}
@@ -45,15 +45,9 @@ word-lt s = mix-lt (fnvOf (map folded s))
 pub second-lt : (w : ℕ) → secondOf w < 2 ^ 64
 second-lt w = mix-lt (mixOf w)
 
-pub first-lt : (v : ℕ) → firstOf v < 2 ^ 64
-first-lt v = unmix-lt (unmixOf v)
-
 -- the vector at level 2 determines the word
 pub first-second : (w : ℕ) → w < 2 ^ 64 → firstOf (secondOf w) ≡ w
 first-second w h = ap unmixOf (unmix-mix (mixOf w) (mix-lt w)) ∙ unmix-mix w h
-
-pub second-first : (v : ℕ) → v < 2 ^ 64 → secondOf (firstOf v) ≡ v
-second-first v h = ap mixOf (mix-unmix (unmixOf v) (unmix-lt v)) ∙ mix-unmix v h
 
 pub second-one-to-one : (v w : ℕ) → v < 2 ^ 64 → w < 2 ^ 64 → secondOf v ≡ secondOf w → v ≡ w
 second-one-to-one v w hv hw e = mix-one-to-one v w hv hw (mix-one-to-one (mixOf v) (mixOf w) (mix-lt v) (mix-lt w) e)

@@ -85,19 +85,6 @@ tabulate-out f zero i h = refl
 tabulate-out f (suc n) zero h = absurd (not-suc-le-zero h)
 tabulate-out f (suc n) (suc i) h = tabulate-out (λ j. f (suc j)) n i (le-of-suc-le-suc h)
 
-split-cond : {A : Type 0} (b c : Bool) → (b ≡ false → c ≡ true) → (x : A) {xs : List A} (ys zs : List A) → List·Permᴰ xs (ys ++ zs)
-    → List·Permᴰ (cond c (x ∷ xs) xs) (cond (b && c) (x ∷ ys) ys ++ cond (not b) (x ∷ zs) zs)
-split-cond true true h x ys zs s = List·Permᴰ·cons refl s
-split-cond true false h x ys zs s = s
-split-cond false true h x ys zs s = List·Permᴰ·trans (List·Permᴰ·cons refl s) (Permᴰ·symm (Permᴰ·middle x ys zs))
-split-cond false false h x ys zs s = absurd (false≢true (h refl))
-
--- what passes c is what passes b and c, and what does not pass b, where that passes c
-module _ {A : Type 0} (b c : A → Bool) (h : (x : A) → b x ≡ false → c x ≡ true) where
-  pub keep-split : (xs : List A) → List·Permᴰ (keep c xs) (keep (λ x. b x && c x) xs ++ keep (λ x. not (b x)) xs)
-  keep-split [] = List·Permᴰ·nil
-  keep-split (x ∷ xs) = split-cond (b x) (c x) (h x) x (keep (λ y. b y && c y) xs) (keep (λ y. not (b y)) xs) (keep-split xs)
-
 -- ---- keep and map
 
 map-cond : {A B : Type 0} (f : A → B) (b : Bool) (x : A) (xs : List A) → cond b (f x ∷ map f xs) (map f xs) ≡ map f (cond b (x ∷ xs) xs)

@@ -13,9 +13,9 @@ use Rattle.lists.proofs.Tests.{cases}
 use Rattle.lists.proofs.Keep.{length-sub, tabulate-at}
 use Rattle.bucket.specs.Bucket.{largestBound}
 use Rattle.model.specs.Levels.{Level, lower, passed}
-use Rattle.model.specs.Model.{baseLimit, State, opened, base, lifted}
+use Rattle.model.specs.Model.{baseLimit, State, base, lifted}
 use Rattle.model.proofs.Levels.{AllFree, lower-largest, free-part, passed-sub}
-use Rattle.model.proofs.Valid.{Valid, valid-opened, valid-settled}
+use Rattle.model.proofs.Valid.{Valid}
 
 -- bounds under which the words vs are free are not above those that the words ws, some of them, leave from the largest
 raised : (L : Level) (n : ℕ) (bounds : List ℕ) {ws vs : List ℕ} → ((i : ℕ) → i < n → getD bounds i 0 ≤ largestBound) → length bounds ≡ n
@@ -42,6 +42,3 @@ module _ (L1 L2 : Level) (s : State) (v : Valid L1 L2 s) where
   -- so it never overfills the base list, and leaves a valid state
   pub lift-fits : length (base L1 L2 (lifted L1 L2 s)) ≤ baseLimit
   lift-fits = le-trans (length-sub lift-base) (v .fits)
-
-  pub valid-lifted : Valid L1 L2 (lifted L1 L2 s)
-  valid-lifted = valid-settled L1 L2 (opened (s .buckets1) (s .buckets2)) (valid-opened L1 L2 (s .buckets1) (s .buckets2)) (s .live) (v .ascending) lift-fits

@@ -17,7 +17,7 @@ use Rattle.answer.specs.declared.Answer.the-variants.{Full}
 use Rattle.model.specs.Levels.{Level, firstLevel, secondLevel, passed, due, lower}
 use Rattle.model.specs.Model.{State, Call, addOf, change, withdraw, query, Outcome, opened, wouldLeave, base, step, lifted}
 use Rattle.model.specs.Request.{byWord, serve}
-use Rattle.model.specs.Machine.{Machine, accepted, after, answers, acceptedOf, AllAccepted, Alike, Refines, Compares}
+use Rattle.model.specs.Machine.{Machine, accepted, after, answers, AllAccepted, Alike, Refines, Compares}
 use Rattle.model.specs.History.{wordModel, model, acceptedCalls, addsIn, withdrawalsIn, told}
 use Rattle.model.proofs.Levels as Levels
 use Rattle.model.proofs.Steps as Steps
@@ -112,10 +112,6 @@ module _ {T S C : Type 0} (M : Machine T C) (N : Machine S C) (Stands : T → S 
   -- state that the model comes to
   pub settles : (t : T) (s : S) → Stands t s → (cs : List C) → (answers M t cs ≡ answers N s cs) × Stands (after M t cs) (after N s cs)
   settles t s h cs = (Refine.answers-after M N Stands refines t s h cs, Refine.stands-after M N Stands refines t s h cs)
-
-  -- and the calls that the table accepts are those that the model accepts
-  pub accepts-alike : (t : T) (s : S) → Stands t s → (cs : List C) → acceptedOf M t cs ≡ acceptedOf N s cs
-  accepts-alike = Refine.accepted-after M N Stands refines
 
   -- statement 3, the claim about lists: t and u are as openings left them, ds and es any calls, refused ones included. Where the two
   -- tables are then the same in bucket numbers, live words, plans and bounds (Same), each further call of every list gets the same

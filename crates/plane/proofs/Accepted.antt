@@ -27,9 +27,9 @@ use Rattle.plane.specs.Fits.{Fits}
 use Rattle.plane.specs.Write.{seenOf, planeOf, putFront, Written, turnedDown, inFront, writeCall, shownTo}
 use Rattle.plane.proofs.Scan.{both}
 use Rattle.plane.proofs.Round.{plane-length, written-right, written-read}
-use Rattle.plane.proofs.Shown.{Words, plane-fits, shown}
+use Rattle.plane.proofs.Shown.{Words, Sols, narrow, plane-fits, shown}
 
-module _ (t : List ℕ) (w : Words t) (k : shaped t ≡ true) (h : FlatSound t) where
+module _ (t : List ℕ) (w : Sols (tableOf t)) (k : shaped t ≡ true) (h : FlatSound t) where
   in-range : inRange (getD t 0 0) (getD t 1 0) ≡ true
   unfolding shapeTest
   in-range = both (inRange (getD t 0 0) (getD t 1 0)) _ (both (leb header (length t)) _ k .1) .0
@@ -61,7 +61,7 @@ pub known : (t : List ℕ) → Words t → shaped t ≡ true → sound t ≡ tru
 unfolding shapeTest
 known t w k q =
     let h : FlatSound t = sound-exactly t k w .0 q in
-    let f : Fits solutions (planeOf (tableOf t)) = fits t w k h in
+    let f : Fits solutions (planeOf (tableOf t)) = fits t (narrow rows solutions t w) k h in
     let r = header-read t in
     let c = both (inRange (getD t 0 0) (getD t 1 0)) _ (both (leb header (length t)) _ k .1) in
     let d = both (leb 1 (getD t 0 0) && leb (getD t 0 0) mostBuckets1) _ (c .0) in

@@ -7,4 +7,5 @@ pub mod Shown
 pub mod Put
 pub mod Through
 pub mod Accepted
+pub mod Bounded
 pub mod Statements

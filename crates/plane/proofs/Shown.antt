@@ -90,11 +90,15 @@ mem-every : {A : Type 0} (P : A → Type 0) (xs : List A) → ((x : A) → List�
 mem-every P [] h = tt
 mem-every P (x ∷ xs) h = (h x (List·Memᴰ·head refl), mem-every P xs (λ y m. h y (List·Memᴰ·tail m)))
 
-module _ (n r : ℕ) where
-  -- the solution words of a bucket
-  abbrev Narrow : Bucket → Type 0
-  Narrow b = Every (Below wordBytes) (b .sols)
+-- the solution words of a bucket
+abbrev pub Narrow : Bucket → Type 0
+Narrow b = Every (Below wordBytes) (b .sols)
 
+-- the solution words of a table
+abbrev pub Sols : Table → Type 0
+Sols T = Every Narrow (T .level1) × Every Narrow (T .level2)
+
+module _ (n r : ℕ) where
   level-narrow : (m : ℕ) (xs : List ℕ) → Words xs → Every Narrow (levelFrom n r m xs)
   unfolding bucketFrom
   level-narrow zero xs h = tt
@@ -106,23 +110,21 @@ module _ (n r : ℕ) where
       let b0 = s 0 (zero-lt-suc (length bs)) in
       (record { low = b0 .low; wide = b0 .wide; words = w .0 }, level-fits bs (λ i l. s (suc i) (suc-le-suc l)) (w .1))
 
-  module _ (xs : List ℕ) (w : Words xs) where
-    narrow1 : Every Narrow (tableFrom n r xs .level1)
-    unfolding tableFrom
-    narrow1 = level-narrow (getD xs 0 0) (drop (bucketPlace n r 0) xs) (words-drop (bucketPlace n r 0) xs w)
+  pub narrow : (xs : List ℕ) → Words xs → Sols (tableFrom n r xs)
+  unfolding tableFrom
+  narrow xs w = (
+    level-narrow (getD xs 0 0) (drop (bucketPlace n r 0) xs) (words-drop (bucketPlace n r 0) xs w),
+    level-narrow (getD xs 1 0) (drop (bucketPlace n r (getD xs 0 0)) xs) (words-drop (bucketPlace n r (getD xs 0 0)) xs w),
+  )
 
-    narrow2 : Every Narrow (tableFrom n r xs .level2)
-    unfolding tableFrom
-    narrow2 = level-narrow (getD xs 1 0) (drop (bucketPlace n r (getD xs 0 0)) xs) (words-drop (bucketPlace n r (getD xs 0 0)) xs w)
-
-    pub plane-fits : (U : ℕ → ℕ) → 2 ^ n ≤ 256 ^ wordBytes → 2 ^ r ≤ 256 ^ 1 → inRange (getD xs 0 0) (getD xs 1 0) ≡ true
-        → SoundTable n r mixOf U (tableFrom n r xs) → Fits r (planeOf (tableFrom n r xs))
-    plane-fits U hn hr g h =
-        let t : Table = tableFrom n r xs in
-        record {
-          range = rw (length-map (t .level1) seenOf, length-map (t .level2) seenOf, header-read n r xs .0, header-read n r xs .1) g;
-          few = h .fits;
-          buckets = every-append (FitsBucket r) (map seenOf (t .level1)) (map seenOf (t .level2)) (level-fits (t .level1) (h .level1 .buckets) narrow1) (level-fits (t .level2) (h .level2 .buckets) narrow2);
-          entries = mem-every FitsEntry (t .base) (λ e m. record { word = lt-of-lt-of-le (h .base-words e m .0) hn; plan = lt-of-lt-of-le (h .base-plans e m) hr });
-          ascending = h .ascending;
-        }
+  pub plane-fits : (xs : List ℕ) → Sols (tableFrom n r xs) → (U : ℕ → ℕ) → 2 ^ n ≤ 256 ^ wordBytes → 2 ^ r ≤ 256 ^ 1 → inRange (getD xs 0 0) (getD xs 1 0) ≡ true
+      → SoundTable n r mixOf U (tableFrom n r xs) → Fits r (planeOf (tableFrom n r xs))
+  plane-fits xs w U hn hr g h =
+      let t : Table = tableFrom n r xs in
+      record {
+        range = rw (length-map (t .level1) seenOf, length-map (t .level2) seenOf, header-read n r xs .0, header-read n r xs .1) g;
+        few = h .fits;
+        buckets = every-append (FitsBucket r) (map seenOf (t .level1)) (map seenOf (t .level2)) (level-fits (t .level1) (h .level1 .buckets) (w .0)) (level-fits (t .level2) (h .level2 .buckets) (w .1));
+        entries = mem-every FitsEntry (t .base) (λ e m. record { word = lt-of-lt-of-le (h .base-words e m .0) hn; plan = lt-of-lt-of-le (h .base-plans e m) hr });
+        ascending = h .ascending;
+      }

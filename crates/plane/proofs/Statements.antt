@@ -16,7 +16,7 @@ use Rattle.model.specs.Model.{baseLimit}
 use Rattle.model.specs.History.{told}
 use Rattle.model.specs.Machine.{after}
 use Rattle.concrete.specs.Layout.{mostBuckets1, mostBuckets2}
-use Rattle.concrete.specs.Calls.{rows, solutions, tableOf, planIn}
+use Rattle.concrete.specs.Calls.{rows, solutions, tableOf, planIn, FlatSound}
 use Rattle.concrete.specs.History.{Put, tables, Opened, acceptedCalls}
 use Rattle.concrete.proofs.Statements.{sound-exactly, always-sound, plan}
 use Rattle.plane.specs.declared.Wrong.the-variants.{Nowhere}
@@ -27,7 +27,8 @@ use Rattle.plane.specs.Write.{planeOf, putFront, writeCall, shownTo}
 use Rattle.plane.proofs.Round.{plane-length, written-right, written-read}
 use Rattle.plane.proofs.Exact.{AllBytes, read-written, read-fits}
 use Rattle.plane.proofs.Accepted.{shows, was-shaped, was-sound, was-written}
-use Rattle.plane.proofs.Shown.{Words, live-shown}
+use Rattle.plane.proofs.Shown.{Words, Sols, narrow, live-shown}
+use Rattle.plane.proofs.Bounded.{after-sols}
 
 -- ---- "The plane", at every number r of solution words
 
@@ -52,23 +53,32 @@ shortest = refl
 pub longest : planeLength solutions (mostBuckets1 + mostBuckets2) baseLimit ≡ 5930
 longest = refl
 
--- ---- statement 2, the plane's half. A table has numbers of 64 bits
+-- ---- statement 2, the plane's half
 
-module _ (t out : List ℕ) (n : ℕ) (e : writeCall t out .answer ≡ Accepted n) (w : Words t) where
-  -- written from a table and read again, the plane gives for each identifier, live or not, the answer of the table's own XOR words or base list
-  pub statement-2 : (id : List ℕ) → lookupCall id (take n (writeCall t out .output)) ≡ shownTo (tableOf t) (readOf id)
-  statement-2 id =
-      let k = was-shaped t out n e .0 in
-      ap (lookupCall id) (was-written t out n e) ∙ shows t w k (sound-exactly t k w .0 (was-sound t out n e .0)) id
+module _ (t out : List ℕ) (n : ℕ) (e : writeCall t out .answer ≡ Accepted n) where
+  gives : Sols (tableOf t) → FlatSound t → (id : List ℕ) → lookupCall id (take n (writeCall t out .output)) ≡ shownTo (tableOf t) (readOf id)
+  gives s h id = ap (lookupCall id) (was-written t out n e) ∙ shows t s (was-shaped t out n e .0) h id
 
-  -- so a live identifier gets its word's plan
-  pub live-plan : (id : List ℕ) (v p : ℕ) → readOf id ≡ Word v → planIn t v ≡ some p → lookupCall id (take n (writeCall t out .output)) ≡ Accepted p
-  live-plan id v p i e = statement-2 id ∙ ap (shownTo (tableOf t)) i ∙ ap Accepted (live-shown rows solutions (tableOf t) v p e)
+  module _ (w : Words t) where
+    -- written from a table, whose numbers have 64 bits, and read again, the plane gives for each identifier, live or not, the answer of
+    -- the table's own XOR words or base list
+    pub statement-2 : (id : List ℕ) → lookupCall id (take n (writeCall t out .output)) ≡ shownTo (tableOf t) (readOf id)
+    statement-2 = gives (narrow rows solutions t w) (sound-exactly t (was-shaped t out n e .0) w .0 (was-sound t out n e .0))
 
--- after any list of calls every live identifier gets its word's last accepted plan from the plane
-pub last-plan : (t : List ℕ) (o : Opened t) (ps : List Put) (out : List ℕ) (n : ℕ) → Words (after tables t ps) → writeCall (after tables t ps) out .answer ≡ Accepted n
-    → (id : List ℕ) (v p : ℕ) → readOf id ≡ Word v → told v (acceptedCalls t ps) ≡ some p → lookupCall id (take n (writeCall (after tables t ps) out .output)) ≡ Accepted p
-last-plan t o ps out n w e id v p i h = live-plan (after tables t ps) out n e w id v p i (plan t o ps v (rw (read-word id v .0 i .2) (word-lt id)) ∙ h)
+    -- so a live identifier gets its word's plan
+    pub live-plan : (id : List ℕ) (v p : ℕ) → readOf id ≡ Word v → planIn t v ≡ some p → lookupCall id (take n (writeCall t out .output)) ≡ Accepted p
+    live-plan id v p i h = statement-2 id ∙ ap (shownTo (tableOf t)) i ∙ ap Accepted (live-shown rows solutions (tableOf t) v p h)
+
+-- after any list of calls
+module _ (t : List ℕ) (o : Opened t) (ps : List Put) (out : List ℕ) (n : ℕ) (e : writeCall (after tables t ps) out .answer ≡ Accepted n) where
+  pub list-gives : (id : List ℕ) → lookupCall id (take n (writeCall (after tables t ps) out .output)) ≡ shownTo (tableOf (after tables t ps)) (readOf id)
+  list-gives = gives (after tables t ps) out n e (after-sols t o ps) (always-sound t o ps .2)
+
+  -- every live identifier gets its word's last accepted plan from the plane
+  pub last-plan : (id : List ℕ) (v p : ℕ) → readOf id ≡ Word v → told v (acceptedCalls t ps) ≡ some p → lookupCall id (take n (writeCall (after tables t ps) out .output)) ≡ Accepted p
+  last-plan id v p i h =
+      list-gives id ∙ ap (shownTo (tableOf (after tables t ps))) i
+      ∙ ap Accepted (live-shown rows solutions (tableOf (after tables t ps)) v p (plan t o ps v (rw (read-word id v .0 i .2) (word-lt id)) ∙ h))
 
 -- in a list of calls the writer meets no cause but 9
 pub list-writes : (t : List ℕ) → Opened t → (ps : List Put) (out : List ℕ)

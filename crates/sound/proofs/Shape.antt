@@ -3,7 +3,7 @@
 use Prim.Native.Nat.{ℕ, suc, _+_, _*_, _≤_, _<_}
 use native.Mathlib.Nat.{mod-lt, mul-le-mul-right}
 use native.Mathlib.Omega.{arith}
-use mathlib.Core.Path.{_≡_, sym, ap, _∙_}
+use mathlib.Core.Path.{_≡_, ap, _∙_}
 use mathlib.Core.Bool.{true, _&&_}
 use mathlib.Core.List.{List}
 use lib.Dec.{leb}
@@ -13,7 +13,7 @@ use borrow.Author.Tests.{eqb-true, leb-true}
 use Rattle.lists.proofs.Tests.{and-one, and-two}
 use Rattle.bucket.specs.Words.{bucketWords, bucketFrom}
 use Rattle.concrete.specs.Table.{nth, index, bucketOf}
-use Rattle.concrete.specs.Layout.{mostBuckets1, mostBuckets2, inRange, header, baseNumbers, bucketPlace, lengthOf, tableFrom}
+use Rattle.concrete.specs.Layout.{mostBuckets1, mostBuckets2, inRange, header, bucketPlace, lengthOf, tableFrom}
 use Rattle.concrete.specs.Test.{shapeTest}
 use Rattle.concrete.proofs.Numbers.{header-read, read-first, read-second}
 
@@ -59,10 +59,6 @@ module _ (n r : ℕ) (xs : List ℕ) where
   bound-is p = getD-drop p xs (n + 1 + r) 0
 
   module _ (s : Shape) where
-    -- the base list is the rest
-    pub base-in : bucketPlace n r (b1 + b2) + baseNumbers ≡ length xs
-    base-in = sym (s .size)
-
     -- the words of bucket i are in the table
     pub bucket-in : (i : ℕ) → i < b1 + b2 → bucketPlace n r i + bucketWords n r ≤ length xs
     bucket-in i l =

@@ -1,8 +1,9 @@
 -- The calls: what each does where its word is live or not, and where a cause before that is met.
 -- Assumes nothing.
 use Prim.Native.Nat.{ℕ, _-_, _^_, _≤_, _<_}
+use native.Mathlib.Nat.{sub-zero}
 use native.Mathlib.Omega.{arith}
-use mathlib.Core.Path.{_≡_, refl, sym, ap, ap₂, _∙_}
+use mathlib.Core.Path.{_≡_, refl, sym, ap, _∙_}
 use mathlib.Core.Bool.{true, false}
 use mathlib.Core.List.{List, []}
 use mathlib.Core.Option.{Option, none, some}
@@ -17,18 +18,19 @@ use Rattle.identifier.specs.declared.Read.{Read}
 use Rattle.identifier.specs.declared.Read.the-variants.{Word, Refused}
 use Rattle.model.specs.Model.{Call, add, change, withdraw, query}
 use Rattle.model.specs.Request.{subject, askOf}
-use Rattle.concrete.specs.Table.{changedIn, withdrawnFrom}
-use Rattle.concrete.specs.Layout.{numbersOf}
+use Rattle.concrete.specs.Table.{Table, touch}
+use Rattle.concrete.specs.Layout.{numbersOf, tableFrom}
 use Rattle.concrete.specs.Calls.{rows, solutions, tableOf, planIn, shaped, sound, Outcome, turnedDown, queried, replaced, served, callRead, call}
 use Rattle.concrete.specs.History.{flatState}
 use Rattle.concrete.proofs.Calls.{stands-look, sound-stands-flat, sound-exactly}
 use Rattle.base.specs.declared.Found.{Found}
 use Rattle.base.specs.declared.Found.the-variants.{Plan, Nothing}
 use Rattle.base.specs.Base.{foundOf}
+use Rattle.table.specs.declared.Edit.{Edit}
 use Rattle.table.specs.declared.Edit.the-variants.{Change, Withdraw}
 use Rattle.table.specs.Ready.{Ready, admitted}
-use Rattle.table.specs.Edit.{onBucket, onBase, touched}
-use Rattle.table.proofs.Touched.{touch-count, count-kept}
+use Rattle.table.specs.Edit.{onBucket, onBase, touched, leaving, asked}
+use Rattle.table.proofs.Touched.{touch-count}
 
 -- ---- a word that is live, or not
 
@@ -40,6 +42,19 @@ found-none : (o : Option ℕ) → foundOf o ≡ Nothing → o ≡ none
 found-none (some q) e = absurd (let z : _≡_ {A = ℕ} 0 1 = cc in omega arith)
 found-none none e = refl
 
+-- the table after an edit, with the live count
+abbrev edited : Edit → ℕ → Table → Table
+edited d w T = touch rows solutions mixOf T w (onBucket d) (onBase d) (T .count - leaving d)
+
+edit-served : (t : List ℕ) (w : ℕ) (i : List ℕ) (d : Edit) → served t w (asked d i) ≡ replaced t (edited d w (tableOf t)) (planIn t w)
+unfolding served
+edit-served t w i (Change q) = ap (λ (c : ℕ). replaced t (touch rows solutions mixOf (tableOf t) w (onBucket (Change q)) (onBase (Change q)) c) (planIn t w)) (sym (sub-zero (tableOf t .count)))
+edit-served t w i Withdraw = refl
+
+leaving-le : (d : Edit) → leaving d ≤ 1
+leaving-le (Change q) = omega arith
+leaving-le Withdraw = omega arith
+
 module _ (t : List ℕ) (w : ℕ) (i : List ℕ) (f : Found) (e : f ≡ foundOf (planIn t w)) where
   module _ (p : ℕ) (l : f ≡ Plan p) where
     pub live : planIn t w ≡ some p
@@ -49,24 +64,22 @@ module _ (t : List ℕ) (w : ℕ) (i : List ℕ) (f : Found) (e : f ≡ foundOf 
     unfolding served
     query-live = ap (queried t) live
 
-    pub change-live : (q : ℕ) → served t w (change i q) ≡ record { answer = Accepted p; table = numbersOf (touched (Change q) w (tableOf t)) }
-    unfolding served
-    change-live q = ap (replaced t (changedIn rows solutions mixOf (tableOf t) w q)) live
-
-    pub withdraw-live : (ys : List ℕ) → ys ≡ numbersOf (touched Withdraw w (tableOf t)) → served t w (withdraw i) ≡ record { answer = Accepted p; table = set ys 3 (getD ys 3 0 - 1) }
-    unfolding served
-    withdraw-live ys y =
-        ap (replaced t (withdrawnFrom rows solutions mixOf (tableOf t) w)) live
+    pub edit-live : (d : Edit) (ys : List ℕ) → ys ≡ numbersOf (touched d w (tableOf t))
+        → served t w (asked d i) ≡ record { answer = Accepted p; table = set ys 3 (getD t 3 0 - leaving d) }
+    unfolding tableFrom
+    edit-live d ys y =
+        edit-served t w i d ∙ ap (replaced t (edited d w (tableOf t))) live
         ∙ ap {B = Outcome} (λ l. record { answer = Accepted p; table = l })
-        (touch-count rows solutions mixOf (tableOf t) w (onBucket Withdraw) (onBase Withdraw) (tableOf t .count - 1)
-        ∙ sym (ap₂ (λ (l : List ℕ) (c : ℕ). set l 3 (c - 1)) y (ap (λ (l : List ℕ). getD l 3 0) y ∙ count-kept rows solutions mixOf (tableOf t) w (onBucket Withdraw) (onBase Withdraw) (tableOf t .count))))
+        (touch-count rows solutions mixOf (tableOf t) w (onBucket d) (onBase d) (tableOf t .count - leaving d)
+        ∙ ap (λ (l : List ℕ). set l 3 (tableOf t .count - leaving d)) (sym y))
 
     -- the live count is not 0
-    pub counted : Ready t → w < 2 ^ rows → (ys : List ℕ) → ys ≡ numbersOf (touched Withdraw w (tableOf t)) → 1 ≤ getD ys 3 0
-    counted h b ys y =
+    pub counted : Ready t → w < 2 ^ rows → (d : Edit) → leaving d ≤ getD t 3 0
+    unfolding tableFrom
+    counted h b d =
         let st = sound-stands-flat t (h .shape) (h .sound) in
         let k = remove-length w p (flatState t .live) (sym (stands-look t (flatState t) st w b) ∙ live) in
-        omega (arith, ap (λ (l : List ℕ). getD l 3 0) y, count-kept rows solutions mixOf (tableOf t) w (onBucket Withdraw) (onBase Withdraw) (tableOf t .count), st .stands .counted)
+        omega (arith, leaving-le d, st .stands .counted)
 
   module _ (l : f ≡ Nothing) where
     pub gone : planIn t w ≡ none
@@ -76,13 +89,8 @@ module _ (t : List ℕ) (w : ℕ) (i : List ℕ) (f : Found) (e : f ≡ foundOf 
     unfolding served
     query-gone = ap (queried t) gone
 
-    pub change-gone : (q : ℕ) → served t w (change i q) ≡ turnedDown NotLive t
-    unfolding served
-    change-gone q = ap (replaced t (changedIn rows solutions mixOf (tableOf t) w q)) gone
-
-    pub withdraw-gone : served t w (withdraw i) ≡ turnedDown NotLive t
-    unfolding served
-    withdraw-gone = ap (replaced t (withdrawnFrom rows solutions mixOf (tableOf t) w)) gone
+    pub edit-gone : (d : Edit) → served t w (asked d i) ≡ turnedDown NotLive t
+    edit-gone d = edit-served t w i d ∙ ap (replaced t (edited d w (tableOf t))) gone
 
 -- ---- the causes before that
 
@@ -110,6 +118,15 @@ module _ (t : List ℕ) (c : Call (List ℕ)) (x : Read) (e : x ≡ admitted t (
   pub call-refused : (a : Answer) → x ≡ Refused a → call t c ≡ turnedDown a t
   unfolding call
   call-refused a q = after-admitted t c (readOf (subject c)) ∙ ap (after t c) (sym e ∙ q)
+
+-- the same for an edit
+pub edit-word : (t i : List ℕ) (d : Edit) (x : Read) → x ≡ admitted t (readOf i) → (w : ℕ) → x ≡ Word w → call t (asked d i) ≡ served t w (asked d [])
+edit-word t i (Change q) x = call-word t (change i q) x
+edit-word t i Withdraw x = call-word t (withdraw i) x
+
+pub edit-refused : (t i : List ℕ) (d : Edit) (x : Read) → x ≡ admitted t (readOf i) → (a : Answer) → x ≡ Refused a → call t (asked d i) ≡ turnedDown a t
+edit-refused t i (Change q) x = call-refused t (change i q) x
+edit-refused t i Withdraw x = call-refused t (withdraw i) x
 
 refused≢word : (a : Answer) (w : ℕ) → _≡_ {A = Read} (Refused a) (Word w) → ⊥
 refused≢word a w e = let z : _≡_ {A = ℕ} 0 1 = cc in omega arith

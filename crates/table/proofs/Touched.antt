@@ -36,10 +36,6 @@ module _ (n r : ℕ) (S : ℕ → ℕ) (T : Table) (w : ℕ) (f : ℕ → Bucket
   pub touch-count : numbersOf (touch n r S T w f g c) ≡ set (numbersOf kept) 3 c
   touch-count = ap numbersOf touch-at ∙ write-count n r kept c
 
-  pub count-kept : getD (numbersOf (touch n r S T w f g c)) 3 0 ≡ c
-  unfolding numbersOf
-  count-kept = ap (λ (U : Table). getD (numbersOf U) 3 0) touch-at
-
 -- ---- the parts of the numbers
 
 module _ (n r : ℕ) (S : ℕ → ℕ) (xs : List ℕ) (s : Shape n r xs) where

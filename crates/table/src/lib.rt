@@ -24,7 +24,7 @@ ghost use Rattle.concrete.specs.Table.{openTable};
 ghost use Rattle.concrete.specs.Layout.{header, levelNumbers, pairsFrom, basePairs, numbersOf, inRange, lengthOf};
 ghost use Rattle.concrete.specs.Calls.{rows, solutions, tableOf, planIn, openCall, served, call};
 ghost use Rattle.table.specs.Ready.{Ready, admitted};
-ghost use Rattle.table.specs.Edit.{onBucket, onBase, touched};
+ghost use Rattle.table.specs.Edit.{onBucket, onBase, touched, leaving, asked};
 
 // 0 in each number.
 pub(crate) fn clear(words: &mut [u64])
@@ -125,6 +125,16 @@ pub(crate) enum Edit {
     Withdraw,
 }
 
+// How many words are live no more after it.
+pub(crate) fn leaving(edit: Edit) -> u64
+    ensures { λ r. ⌜ r ≡ leaving edit ⌝ }
+{
+    match edit {
+        Edit::Change(_) => 0,
+        Edit::Withdraw => 1,
+    }
+}
+
 // A bucket after the edit of v, if v is live there.
 pub(crate) fn edited(b: Bucket, v: u64, edit: Edit) -> Bucket
     ensures { λ r. ⌜ r ≡ onBucket edit v b ⌝ }
@@ -193,19 +203,29 @@ pub fn query_word(t: &[u64], w: u64) -> Answer
     }
 }
 
+// The edit of the word w: accepted, the earlier plan.
+pub(crate) fn edit_word(t: &mut [u64], w: u64, edit: Edit) -> Answer
+    requires { ⌜ Ready (now t) ⌝ }
+    ensures { λ r. ⌜ (r ≡ served (now (t .entry)) w (asked edit []) .answer) × (now (t .exit) ≡ served (now (t .entry)) w (asked edit []) .table) ⌝ }
+{
+    let found = plan_in(t, w);
+    match found {
+        Found::Plan(p) => {
+            let live = t[Table::LIVE_COUNT_AT] - leaving(edit);
+            touch(t, w, edit);
+            t[Table::LIVE_COUNT_AT] = live;
+            Answer::Accepted(p)
+        }
+        Found::Nothing => Answer::NotLive,
+    }
+}
+
 // A change of the word w.
 pub fn change_word(t: &mut [u64], w: u64, plan: u64) -> Answer
     requires { ⌜ Ready (now t) ⌝ }
     ensures { λ r. ⌜ (r ≡ served (now (t .entry)) w (change [] plan) .answer) × (now (t .exit) ≡ served (now (t .entry)) w (change [] plan) .table) ⌝ }
 {
-    let found = plan_in(t, w);
-    match found {
-        Found::Plan(p) => {
-            touch(t, w, Edit::Change(plan));
-            Answer::Accepted(p)
-        }
-        Found::Nothing => Answer::NotLive,
-    }
+    edit_word(t, w, Edit::Change(plan))
 }
 
 // A withdrawal of the word w.
@@ -213,15 +233,7 @@ pub fn withdraw_word(t: &mut [u64], w: u64) -> Answer
     requires { ⌜ Ready (now t) ⌝ }
     ensures { λ r. ⌜ (r ≡ served (now (t .entry)) w (withdraw []) .answer) × (now (t .exit) ≡ served (now (t .entry)) w (withdraw []) .table) ⌝ }
 {
-    let found = plan_in(t, w);
-    match found {
-        Found::Plan(p) => {
-            touch(t, w, Edit::Withdraw);
-            t[Table::LIVE_COUNT_AT] = t[Table::LIVE_COUNT_AT] - 1;
-            Answer::Accepted(p)
-        }
-        Found::Nothing => Answer::NotLive,
-    }
+    edit_word(t, w, Edit::Withdraw)
 }
 
 // The word that a call is for, or the answer that turns it down: causes 1, 2, 4, 5.
@@ -254,24 +266,27 @@ pub fn query(t: &[u64], id: &[u8]) -> Answer
     }
 }
 
+// The edit of an identifier's word.
+pub(crate) fn edit_identifier(t: &mut [u64], id: &[u8], edit: Edit) -> Answer
+    ensures { λ r. ⌜ (r ≡ call (now (t .entry)) (asked edit (now (id .entry))) .answer) × (now (t .exit) ≡ call (now (t .entry)) (asked edit (now (id .entry))) .table) ⌝ }
+{
+    let admitted = admit(t, id);
+    match admitted {
+        Read::Word(w) => edit_word(t, w, edit),
+        Read::Refused(a) => a,
+    }
+}
+
 // Change: accepted, the earlier plan.
 pub fn change(t: &mut [u64], id: &[u8], plan: u8) -> Answer
     ensures { λ r. ⌜ (r ≡ call (now (t .entry)) (change (now (id .entry)) plan) .answer) × (now (t .exit) ≡ call (now (t .entry)) (change (now (id .entry)) plan) .table) ⌝ }
 {
-    let admitted = admit(t, id);
-    match admitted {
-        Read::Word(w) => change_word(t, w, plan as u64),
-        Read::Refused(a) => a,
-    }
+    edit_identifier(t, id, Edit::Change(plan as u64))
 }
 
 // Withdrawal: accepted, the earlier plan.
 pub fn withdraw(t: &mut [u64], id: &[u8]) -> Answer
     ensures { λ r. ⌜ (r ≡ call (now (t .entry)) (withdraw (now (id .entry))) .answer) × (now (t .exit) ≡ call (now (t .entry)) (withdraw (now (id .entry))) .table) ⌝ }
 {
-    let admitted = admit(t, id);
-    match admitted {
-        Read::Word(w) => withdraw_word(t, w),
-        Read::Refused(a) => a,
-    }
+    edit_identifier(t, id, Edit::Withdraw)
 }

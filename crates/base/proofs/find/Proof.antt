@@ -9,8 +9,8 @@ use Rattle.base.proofs.Edits.{found, not-found}
 use Rattle.base.proofs.find.Statement.{statement}
 use Rattle.base.proofs.find.Tie as tie
 
-before-equal-requires : tie.Need-before-equal-requires
-before-equal-requires c κs = room (c .before .pre)
+first-hit-requires : tie.Need-first-hit-requires
+first-hit-requires c κs = room (c .before .pre)
 
 mul-t6 : tie.Need-mul-t6
 mul-t6 c = search needs
@@ -28,15 +28,15 @@ returns : tie.Need-returns
 returns c =
     let b = c .before .before in
     let s = b .before .before in
-    ap foundOf (sym (found (s .pre) (s .args .v) (b .before-equal .result) (b .before-equal .ensures) (c .before .if1 .taken)))
+    ap foundOf (sym (found (s .pre) (s .args .v) (b .first-hit .result) (b .first-hit .ensures) (c .before .if1 .taken)))
 
 returns-2 : tie.Need-returns-2
 returns-2 c =
     let b = c .before in
     let s = b .before .before in
-    ap foundOf (sym (not-found (s .pre) (s .args .v) (b .before-equal .result) (b .before-equal .ensures) (c .if1 .left)))
+    ap foundOf (sym (not-found (s .pre) (s .args .v) (b .first-hit .result) (b .first-hit .ensures) (c .if1 .left)))
 
 pub find-spec : {M : Type 1} → statement M
 find-spec =
     tie.close
-    (tie.spec before-equal-requires mul-t6 add-t7 mul-t8 shared-slice-read-t10 returns returns-2)
+    (tie.spec first-hit-requires mul-t6 add-t7 mul-t8 shared-slice-read-t10 returns returns-2)

@@ -8,26 +8,26 @@ use Rattle.base.proofs.Edits.{place-le, inserted}
 use Rattle.base.proofs.insert.Statement.{statement}
 use Rattle.base.proofs.insert.Tie as tie
 
-before-larger-requires : tie.Need-before-larger-requires
-before-larger-requires c κs = room (c .before .before .pre .0)
+first-hit-requires : tie.Need-first-hit-requires
+first-hit-requires c κs = room (c .before .before .pre .0)
 
 mul-at : tie.Need-mul-at
 mul-at c =
     let s = c .before .before .before in
-    omega (arith, place-le (s .pre .0) (s .args .v) (c .before-larger .result) (c .before-larger .ensures))
+    omega (arith, place-le (s .pre .0) (s .args .v) (c .first-hit .result) (c .first-hit .ensures))
 
 put-in-requires : tie.Need-put-in-requires
 put-in-requires c κs =
     let b = c .before in
     let s = b .before .before .before in
-    place-le (s .pre .0) (s .args .v) (b .before-larger .result) (b .before-larger .ensures)
+    place-le (s .pre .0) (s .args .v) (b .first-hit .result) (b .first-hit .ensures)
 
 put-in-requires-2 : tie.Need-put-in-requires-2
 put-in-requires-2 c κs =
     let one = c .before .before .before in
     let b = one .before .before in
     let s = b .before .before .before in
-    rw (one .put-in .kept .0) (place-le (s .pre .0) (s .args .v) (b .before-larger .result) (b .before-larger .ensures))
+    rw (one .put-in .kept .0) (place-le (s .pre .0) (s .args .v) (b .first-hit .result) (b .first-hit .ensures))
 
 same-length : tie.Need-same-length
 same-length c = search needs
@@ -38,10 +38,10 @@ returns c =
     let one = two .before .before .before .before in
     let b = one .before .before in
     let s = b .before .before .before in
-    inserted (s .pre .0) (s .args .v) (s .args .plan) (b .before-larger .result) _ _ _ _ (b .before-larger .ensures) (s .pre .1) (one .put-in .kept .0) (two .put-in2 .kept .0 ∙ one .put-in .kept .0)
+    inserted (s .pre .0) (s .args .v) (s .args .plan) (b .first-hit .result) _ _ _ _ (b .first-hit .ensures) (s .pre .1) (one .put-in .kept .0) (two .put-in2 .kept .0 ∙ one .put-in .kept .0)
     (one .put-in .ensures) (two .put-in2 .ensures)
 
 pub insert-spec : {M : Type 1} → statement M
 insert-spec =
     tie.close
-    (tie.spec before-larger-requires mul-at put-in-requires put-in-requires-2 same-length returns)
+    (tie.spec first-hit-requires mul-at put-in-requires put-in-requires-2 same-length returns)

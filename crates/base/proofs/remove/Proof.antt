@@ -8,8 +8,8 @@ use Rattle.base.proofs.Edits.{removed, removed-length, not-removed, not
 use Rattle.base.proofs.remove.Statement.{statement}
 use Rattle.base.proofs.remove.Tie as tie
 
-before-equal-requires : tie.Need-before-equal-requires
-before-equal-requires c κs = room (c .before .before .pre)
+first-hit-requires : tie.Need-first-hit-requires
+first-hit-requires c κs = room (c .before .before .pre)
 
 mul-at : tie.Need-mul-at
 mul-at c = search needs
@@ -32,8 +32,8 @@ returns c =
     let one = two .before .before .before .before in
     let b = one .before .before .before in
     let s = b .before .before .before in (
-      removed-length (s .pre) (s .args .v) (b .before-equal .result) (b .before-equal .ensures) (one .before .before .if1 .taken),
-      removed (s .pre) (s .args .v) (b .before-equal .result) (b .before-equal .ensures) _ _ _ _ (one .before .before .if1 .taken) (one .take-out .kept .0) (two .take-out2 .kept .0 ∙ one .take-out .kept .0)
+      removed-length (s .pre) (s .args .v) (b .first-hit .result) (b .first-hit .ensures) (one .before .before .if1 .taken),
+      removed (s .pre) (s .args .v) (b .first-hit .result) (b .first-hit .ensures) _ _ _ _ (one .before .before .if1 .taken) (one .take-out .kept .0) (two .take-out2 .kept .0 ∙ one .take-out .kept .0)
           (one .take-out .ensures) (two .take-out2 .ensures),
     )
 
@@ -44,15 +44,15 @@ returns-2 : tie.Need-returns-2
 returns-2 c =
     let b = c .before in
     let s = b .before .before .before in (
-      not-removed-length (s .pre) (s .args .v) (b .before-equal .result) (b .before-equal .ensures) (c .if1 .left),
-      not-removed (s .pre) (s .args .v) (b .before-equal .result) (b .before-equal .ensures) (c .if1 .left),
+      not-removed-length (s .pre) (s .args .v) (b .first-hit .result) (b .first-hit .ensures) (c .if1 .left),
+      not-removed (s .pre) (s .args .v) (b .first-hit .result) (b .first-hit .ensures) (c .if1 .left),
     )
 
 pub remove-spec : {M : Type 1} → statement M
 remove-spec =
     tie.close
     (tie.spec
-    before-equal-requires
+    first-hit-requires
     mul-at
     take-out-requires
     take-out-requires-2

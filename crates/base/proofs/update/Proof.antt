@@ -7,8 +7,8 @@ use Rattle.base.proofs.Edits.{updated, not-updated}
 use Rattle.base.proofs.update.Statement.{statement}
 use Rattle.base.proofs.update.Tie as tie
 
-before-equal-requires : tie.Need-before-equal-requires
-before-equal-requires c κs = room (c .before .before .pre)
+first-hit-requires : tie.Need-first-hit-requires
+first-hit-requires c κs = room (c .before .before .pre)
 
 mul-pairs : tie.Need-mul-pairs
 mul-pairs c = search needs
@@ -29,7 +29,7 @@ returns : tie.Need-returns
 returns c =
     let b = c .before in
     let s = b .before .before .before in
-    updated (s .pre) (s .args .v) (b .before-equal .result) (b .before-equal .ensures) (s .args .plan) (c .if1 .taken)
+    updated (s .pre) (s .args .v) (b .first-hit .result) (b .first-hit .ensures) (s .args .plan) (c .if1 .taken)
 
 same-length-2 : tie.Need-same-length-2
 same-length-2 c = search needs
@@ -38,13 +38,13 @@ returns-2 : tie.Need-returns-2
 returns-2 c =
     let b = c .before in
     let s = b .before .before .before in
-    not-updated (s .pre) (s .args .v) (b .before-equal .result) (b .before-equal .ensures) (s .args .plan) (c .if1 .left)
+    not-updated (s .pre) (s .args .v) (b .first-hit .result) (b .first-hit .ensures) (s .args .plan) (c .if1 .left)
 
 pub update-spec : {M : Type 1} → statement M
 update-spec =
     tie.close
     (tie.spec
-    before-equal-requires
+    first-hit-requires
     mul-pairs
     add-pairs
     mul-pairs-2

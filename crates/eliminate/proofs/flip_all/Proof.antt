@@ -1,7 +1,7 @@
 -- `eliminate::flip_all` meets its contract. The loop's invariant: the step by the bits that are left gives the step by all of them.
 -- Assumes nothing.
 use mathlib.Core.Path.{_≡_, sym, _∙_}
-use Prim.Native.Nat.{_-_, _<_, _^_}
+use Prim.Native.Nat.{_<_, _^_}
 use native.Mathlib.Omega.{arith}
 use lib.Count.{trailingZeros}
 use lib.Bits.{xor-lt}

@@ -1,12 +1,11 @@
--- `table::withdraw` meets its contract.
+-- `table::edit_identifier` meets its contract.
 -- Assumes nothing.
 use mathlib.Core.Path.{refl}
 use borrow.Author.Needs.{needs}
 use Rattle.identifier.specs.Identifier.{readOf}
-use Rattle.model.specs.Model.{withdraw}
-use Rattle.table.proofs.Calls.{ready, call-word, call-refused}
-use Rattle.table.proofs.withdraw.Statement.{statement}
-use Rattle.table.proofs.withdraw.Tie as tie
+use Rattle.table.proofs.Calls.{ready, edit-word, edit-refused}
+use Rattle.table.proofs.edit_identifier.Statement.{statement}
+use Rattle.table.proofs.edit_identifier.Tie as tie
 
 admit-requires : tie.Need-admit-requires
 admit-requires c κs = search needs
@@ -14,8 +13,8 @@ admit-requires c κs = search needs
 enum-known-admitted : tie.Need-enum-known-admitted
 enum-known-admitted c = search needs
 
-withdraw-word-requires : tie.Need-withdraw-word-requires
-withdraw-word-requires c κs =
+edit-word-requires : tie.Need-edit-word-requires
+edit-word-requires c κs =
     let m = c .before .before in
     let d = m .before .before in
     let a = d .before .before .before .before .args in
@@ -33,7 +32,7 @@ returns c =
     let m = done .before .before .before in
     let d = m .before .before in
     let a = d .before .before .before .before .args in
-    rw (call-word (a .t .now) (withdraw (a .id .now)) (d .admit .result) (d .admit .ensures) (m .admitted .given .0 .0) (m .admitted .given .1)) (done .withdraw-word .ensures)
+    rw (edit-word (a .t .now) (a .id .now) (a .edit) (d .admit .result) (d .admit .ensures) (m .admitted .given .0 .0) (m .admitted .given .1)) (done .edit-word .ensures)
 
 same-length-2 : tie.Need-same-length-2
 same-length-2 c = search needs
@@ -43,15 +42,15 @@ returns-2 c =
     let m = c .before in
     let d = m .before .before in
     let a = d .before .before .before .before .args in
-    rw (call-refused (a .t .now) (withdraw (a .id .now)) (d .admit .result) (d .admit .ensures) (m .admitted2 .given .0 .0) (m .admitted2 .given .1)) (refl, refl)
+    rw (edit-refused (a .t .now) (a .id .now) (a .edit) (d .admit .result) (d .admit .ensures) (m .admitted2 .given .0 .0) (m .admitted2 .given .1)) (refl, refl)
 
-pub withdraw-spec : {M : Type 1} → statement M
-withdraw-spec =
+pub edit-identifier-spec : {M : Type 1} → statement M
+edit-identifier-spec =
     tie.close
     (tie.spec
     admit-requires
     enum-known-admitted
-    withdraw-word-requires
+    edit-word-requires
     enum-known-admitted-2
     same-length
     returns
