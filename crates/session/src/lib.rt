@@ -1,8 +1,9 @@
-// The line program of document 01 as functions on byte slices: numbers, the fields of a line, answers printed, calls put to a table that
-// is known to be sound. Definitions: specs/Decimal.antt, specs/Line.antt (what a line asks for), specs/Run.antt (what is printed for an
-// input: the calls of concrete folded over the lines); specs/Parsed.antt has the form that the code gives a line.
+// The line program of document 01 as a function on byte slices, `run`: numbers, the fields of a line, answers printed, calls put to a table
+// that is sound by proof, the lines one after the other.
+// Definitions: specs/Decimal.antt, specs/Line.antt (what a line asks for), specs/Run.antt (what is printed for an input: the calls of
+// concrete folded over the lines); specs/Parsed.antt and specs/Buffer.antt have the forms that the code gives a line and what is open.
 // Laws: proofs/Agree.antt (the model would print the same; the table is sound at each line), proofs/Session.antt (document 01's session).
-// Cites codec, answer, identifier, concrete and table; the program `lines` is a thin one over it.
+// Cites codec, answer, identifier, sound, table and adding. lines is the program over it.
 use answer::Answer;
 use identifier::Identifier;
 use identifier::Read;
