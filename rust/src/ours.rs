@@ -10,6 +10,14 @@ extern "C" {
     fn probe_row(part: *const u64, len: usize, k: u64) -> u64;
     fn probe_matrix(part: *const u64, len: usize, i: usize) -> u64;
     fn probe_lines(input: *const u8, input_len: usize, out: *mut u8, out_len: usize) -> usize;
+    fn probe_fill(
+        t: *mut u64,
+        len: usize,
+        b1: u64,
+        b2: u64,
+        words: *const u64,
+        words_len: usize,
+    ) -> u64;
     fn limgoshi_open(t: *mut u64, len: usize, b1: u64, b2: u64, value: *mut u64) -> u64;
     fn limgoshi_query(
         t: *const u64,
@@ -96,6 +104,12 @@ pub fn bucket_row(part: &[u64], k: u64) -> u64 {
 /// Row i of K, 0 if the columns have no such matrix.
 pub fn bucket_matrix(part: &[u64], i: usize) -> u64 {
     unsafe { probe_matrix(part.as_ptr(), part.len(), i) }
+}
+
+/// Opens a table and adds the words, each with its low byte as plan, until the first refusal, with no test of the table: how many
+/// were accepted, 0 if the opening is refused.
+pub fn fill(t: &mut [u64], b1: u64, b2: u64, words: &[u64]) -> u64 {
+    unsafe { probe_fill(t.as_mut_ptr(), t.len(), b1, b2, words.as_ptr(), words.len()) }
 }
 
 /// The numbers of a table are 64-bit; each call answers the cause and the number that goes with it.

@@ -3,14 +3,15 @@
 -- Assumes nothing.
 use Prim.Native.Nat.{ℕ, suc, _+_, _*_, _^_, _≤_, _<_}
 use native.Mathlib.Omega.{arith}
-use mathlib.Core.Path.{_≡_, refl, sym, ap, ap₂, _∙_, subst}
+use mathlib.Core.Path.{_≡_, refl, sym, ap, ap₂, _∙_, subst, subst⁻¹}
 use mathlib.Core.Bool.{Bool, true, false}
 use mathlib.Core.List.{List, [], _∷_, map}
 use mathlib.Core.Option.{none, some}
 use lib.Dec.{ltb, leb}
 use lib.ListN.{length, getD, set, drop}
 use lib.Count.{ones-le}
-use borrow.Author.Tests.{leb-false, le-ltb, lt-ltb}
+use borrow.Author.Tests.{leb-false, le-ltb, lt-ltb, ltb-false}
+use Rattle.answer.specs.declared.Answer.{Answer}
 use Rattle.answer.specs.declared.Answer.the-variants.{Accepted, Live, Full}
 use Rattle.lists.specs.Entries.{Entry}
 use Rattle.lists.proofs.Tests.{cond-true, cond-false, and-one, and-two}
@@ -19,9 +20,9 @@ use Rattle.bucket.specs.declared.Bucket.{Bucket}
 use Rattle.bucket.specs.Words.{bucketWords, bucketFrom}
 use Rattle.settle.specs.declared.Settled.{Settled}
 use Rattle.settle.specs.Settle.{SoundBucket}
-use Rattle.settle.specs.Outgoing.{settledOf}
+use Rattle.settle.specs.Outgoing.{outgoing, settledOf}
 use Rattle.model.specs.Model.{baseLimit, add}
-use Rattle.concrete.specs.Table.{Table, thr, index, onSecond, put, nth, bucketOf, arriveAt, addedTo}
+use Rattle.concrete.specs.Table.{Table, thr, index, onSecond, put, nth, bucketOf, holds, arriveAt, addedTo}
 use Rattle.concrete.specs.Layout.{header, inRange, numbersOf, bucketPlace, tableFrom}
 use Rattle.concrete.specs.Calls.{rows, solutions, tableOf, planIn, Outcome, turnedDown, joined, served}
 use Rattle.concrete.specs.Content.{occupied}
@@ -29,13 +30,22 @@ use Rattle.concrete.specs.Test.{shapeTest}
 use Rattle.concrete.proofs.Numbers.{header-read, forth}
 use Rattle.table.specs.Ready.{Ready}
 use Rattle.table.proofs.Places.{shape-of, laid-of}
-use Rattle.adding.specs.Arrivals.{seconds, settledAt, storedAt, withFirst, allToSecond, Passed, Kept, FlatKept, entering}
-use Rattle.adding.proofs.Tables.{first-room, first-here, first-sound, first-stored, numbers-table, numbers-kept}
+use Rattle.adding.specs.Arrivals.{seconds, settledAt, storedAt, withFirst, toSecond, allToSecond, Straight, Passed, Kept, FlatKept, entering}
+use Rattle.adding.proofs.Tables.{first-room, first-here, first-sound, first-stored, stored-same, numbers-table, numbers-kept}
 use Rattle.adding.proofs.Arrivals.{all-law, add-law}
-use Rattle.adding.proofs.Settled.{bucket-is, out-is, out-few}
+use Rattle.adding.proofs.Passing.{pass-none, pass-one}
+use Rattle.adding.proofs.Settled.{settle-passes, straightly, straight-is, bucket-is, out-is, out-few}
 
 pub passed-as : (n r : ℕ) (t : List ℕ) (U : Table) (done b : Bool) (u : List ℕ) → done ≡ b → Passed n r t U done u → Passed n r t U b u
 passed-as n r t U done b u y g = subst (λ (x : Bool). Passed n r t U x u) y g
+
+-- u is the table t after the add of e, but for the live count
+pub record Counted (n r : ℕ) (S : ℕ → ℕ) (t : List ℕ) (e : Entry) (u : List ℕ) : Type 0 where
+  pub long : 3 < length u
+  pub count : getD u 3 0 ≡ tableFrom n r t .count
+  pub fits : ltb baseLimit (length (addedTo n r S (tableFrom n r t) e .base)) ≡ false
+  pub next : addedTo n r S (tableFrom n r t) e .count ≡ getD u 3 0 + 1
+  pub table : numbersOf (addedTo n r S (tableFrom n r t) e) ≡ set u 3 (getD u 3 0 + 1)
 
 module _ (n r : ℕ) (S : ℕ → ℕ) (t : List ℕ) (h : FlatKept n r t) (e : Entry) (small : e .word < 2 ^ n) (at : ℕ) (p : at ≡ bucketPlace n r (index S (getD t 0 0) (e .word)))
     (m : ℕ) (s : Settled) (q : s ≡ settledOf m (settledAt n r (thr S) at e t)) where
@@ -93,6 +103,13 @@ module _ (n r : ℕ) (S : ℕ → ℕ) (t : List ℕ) (h : FlatKept n r t) (e : 
     pub enter-room : at + bucketWords n r ≤ length t1
     enter-room = first-room n r t1 kept1 S (e .word) at place1
 
+    -- the bucket that is there need not be stored
+    pub enter-same : s .bucket ≡ bucketFrom n r (drop at t) → t1 ≡ storedAt n r at (s .bucket) t1
+    enter-same k =
+        sym (stored-same n r at t1 enter-room)
+        ∙ ap (λ (b : Bucket). storedAt n r at b t1)
+        (first-here n r t1 kept1 S (e .word) at place1 ∙ ap (λ (X : Table). bucketOf n r S (X .level1) (e .word)) table1 ∙ ap (λ (bs : List Bucket). bucketOf n r S bs (e .word)) first-same ∙ sym here ∙ sym k)
+
     module _ (t2 : List ℕ) (w : t2 ≡ storedAt n r at (s .bucket) t1) where
       abbrev E : Table
       E = withFirst D (arriveAt n r S (T .level1) e .buckets)
@@ -104,22 +121,53 @@ module _ (n r : ℕ) (S : ℕ → ℕ) (t : List ℕ) (h : FlatKept n r t) (e : 
           ∙ ap (λ (bs : List Bucket). numbersOf (withFirst D (put S bs (e .word) (s .bucket)))) first-same
           ∙ ap (λ (bs : List Bucket). numbersOf (withFirst D bs)) (bucket-is n r S m (T .level1) e at t s here q)
 
-      pub enter-count : getD t2 3 0 ≡ T .count
+      counted : getD t2 3 0 ≡ T .count
       unfolding numbersOf
-      enter-count = ap (λ (l : List ℕ). getD l 3 0) t2-is ∙ count-same
+      counted = ap (λ (l : List ℕ). getD l 3 0) t2-is ∙ count-same
 
-      pub enter-long : 3 < length t2
+      pub enter-counted : Counted n r S t e t2
       unfolding numbersOf
-      enter-long = omega (arith, ap (λ (l : List ℕ). length l) t2-is)
+      enter-counted =
+          let c : suc (T .count) ≡ getD t2 3 0 + 1 = omega (arith, counted) in
+          record {
+            long = omega (arith, ap (λ (l : List ℕ). length l) t2-is);
+            count = counted;
+            fits = le-ltb baseLimit (length (U .base)) (omega (arith, kept-D .short, ap (λ (X : Table). length (X .base)) U-is));
+            next = c;
+            table = ap numbersOf U-is ∙ sym (ap₂ (λ (l : List ℕ) (k : ℕ). set l 3 k) t2-is (sym c));
+          }
 
-      pub enter-done : (ltb baseLimit (length (U .base)) ≡ false) × (U .count ≡ getD t2 3 0 + 1) × (numbersOf U ≡ set t2 3 (getD t2 3 0 + 1))
-      unfolding numbersOf
-      enter-done =
-          let c : suc (T .count) ≡ getD t2 3 0 + 1 = omega (arith, enter-count) in (
-            le-ltb baseLimit (length (U .base)) (omega (arith, kept-D .short, ap (λ (X : Table). length (X .base)) U-is)),
-            c,
-            ap numbersOf U-is ∙ sym (ap₂ (λ (l : List ℕ) (k : ℕ). set l 3 k) t2-is (sym c)),
-          )
+-- ---- a word that settles at once: straight into its bucket, or in none at level 1. Either way u is the table before it is counted
+
+module _ (n r : ℕ) (S : ℕ → ℕ) (t : List ℕ) (h : FlatKept n r t) (e : Entry) (small : e .word < 2 ^ n) (at : ℕ) (p : at ≡ bucketPlace n r (index S (getD t 0 0) (e .word))) where
+  pub counted-straight : (u : List ℕ) → Straight n r (thr S) at e t true u → Counted n r S t e u
+  unfolding outgoing
+  counted-straight u g =
+      let s : Settled = straightly n r (thr S) at e t 0 u g in
+      enter-counted n r S t h e small at p 0 s (straight-is n r (thr S) at e t 0 u g) t (pass-none n r S t h (s .out) refl) u (g .table)
+
+  -- level 1 does not hold the word: v is its form at level 2
+  module _ (f : holds n r S (tableFrom n r t .level1) (e .word) ≡ false) (v : ℕ) (w : v ≡ S (S (e .word))) (u : List ℕ) where
+    abbrev passing : Settled
+    passing = settledOf 1 (record { bucket = bucketFrom n r (drop at t); out = e ∷ [] })
+
+    passing-is : passing ≡ settledOf 1 (settledAt n r (thr S) at e t)
+    passing-is =
+        ap (settledOf 1)
+        (sym (settle-passes n (thr S) e (bucketFrom n r (drop at t)) _
+        (ltb-false (thr S (e .word)) _ (ap (λ (b : Bucket). ltb (thr S (e .word)) (b .bound)) (first-here n r t h S (e .word) at p) ∙ f))))
+
+    passes : (done : Bool) → Passed n r t (toSecond n r S (tableFrom n r t) (record { word = v; plan = e .plan })) done u → Passed n r t (allToSecond n r S (tableFrom n r t) (seconds S (passing .out))) done u
+    unfolding outgoing
+    passes done g = pass-one n r S t h (passing .out) v done u refl w g
+
+    pub counted-second : Passed n r t (toSecond n r S (tableFrom n r t) (record { word = v; plan = e .plan })) true u → Counted n r S t e u
+    counted-second g =
+        let k = passes true g in
+        enter-counted n r S t h e small at p 1 passing passing-is u k u (enter-same n r S t h e small at p 1 passing passing-is u k refl)
+
+    pub full-second : Passed n r t (toSecond n r S (tableFrom n r t) (record { word = v; plan = e .plan })) false u → (ltb baseLimit (length (addedTo n r S (tableFrom n r t) e .base)) ≡ true) × (u ≡ t)
+    full-second g = enter-full n r S t h e small at p 1 passing passing-is u (passes false g)
 
 -- ---- at 64 and 8
 
@@ -147,7 +195,7 @@ module _ (t : List ℕ) (h : Ready t) where
   }
 
   -- there is room for one more in the live count
-  pub live-room : tableOf t .count + 1 < 2 ^ 64
+  live-room : tableOf t .count + 1 < 2 ^ 64
   live-room =
       let k = h .sound .table in
       let s = shape-of h .range in
@@ -161,6 +209,9 @@ module _ (t : List ℕ) (h : Ready t) where
         header-read rows solutions t .1,
       )
 
+  pub count-room : (e : Entry) (u : List ℕ) → Counted rows solutions mixOf t e u → (3 < length u) × (getD u 3 0 + 1 < 2 ^ 64)
+  count-room e u g = (g .long, subst⁻¹ (λ (k : ℕ). k + 1 < 2 ^ 64) (g .count) live-room)
+
 module _ (t : List ℕ) (w p : ℕ) where
   abbrev added : Table
   added = addedTo rows solutions mixOf (tableOf t) (record { word = w; plan = p })
@@ -171,10 +222,12 @@ module _ (t : List ℕ) (w p : ℕ) where
   pub entered-full : (u : List ℕ) → (ltb baseLimit (length (added .base)) ≡ true) × (u ≡ t) → (Full ≡ outcome .answer) × (u ≡ outcome .table)
   entered-full u g = let e = cond-true (turnedDown Full t) (record { answer = Accepted (added .count); table = numbersOf added }) (g .0) in (ap (λ (o : Outcome). o .answer) (sym e), g .1 ∙ ap (λ (o : Outcome). o .table) (sym e))
 
-  pub entered-done : (c : ℕ) (u : List ℕ) → (ltb baseLimit (length (added .base)) ≡ false) × (added .count ≡ c) × (numbersOf added ≡ u) → (Accepted c ≡ outcome .answer) × (u ≡ outcome .table)
-  entered-done c u g =
-      let e = cond-false (turnedDown Full t) (record { answer = Accepted (added .count); table = numbersOf added }) (g .0) in
-      (ap Accepted (sym (g .1)) ∙ ap (λ (o : Outcome). o .answer) (sym e), sym (g .2) ∙ ap (λ (o : Outcome). o .table) (sym e))
+  -- u is counted: a is the answer, v the table then
+  pub entered-done : (u : List ℕ) → Counted rows solutions mixOf t (record { word = w; plan = p }) u → (a : Answer) (v : List ℕ)
+      → (a ≡ Accepted (getD u 3 0 + 1)) × (v ≡ set u 3 (getD u 3 0 + 1)) → (a ≡ outcome .answer) × (v ≡ outcome .table)
+  entered-done u g a v k =
+      let e = cond-false (turnedDown Full t) (record { answer = Accepted (added .count); table = numbersOf added }) (g .fits) in
+      (k .0 ∙ ap Accepted (sym (g .next)) ∙ ap (λ (o : Outcome). o .answer) (sym e), k .1 ∙ sym (g .table) ∙ ap (λ (o : Outcome). o .table) (sym e))
 
   -- the call, by the plan of w
   pub added-live : (q : ℕ) → planIn t w ≡ some q → served t w (add [] p) ≡ turnedDown (Live q) t

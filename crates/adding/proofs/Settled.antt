@@ -1,25 +1,68 @@
 -- What the code finds in a settled bucket is what an arrival leaves. At every number n of rows and r of solution words, and for every mix S.
 -- Assumes nothing.
-use Prim.Native.Nat.{ℕ, suc, _+_, _^_, _≤_, _<_}
+use Prim.Native.Nat.{ℕ, zero, suc, _+_, _^_, _≤_, _<_}
+use native.Mathlib.Nat.{not-suc-le-zero}
 use native.Mathlib.Omega.{arith}
-use mathlib.Core.Path.{_≡_, refl, sym, ap, ap₂, _∙_, subst⁻¹}
-use mathlib.Core.Bool.{true, false, true≢false}
-use mathlib.Core.List.{List}
+use mathlib.Core.Path.{_≡_, refl, sym, ap, ap₂, _∙_, subst, subst⁻¹}
+use mathlib.Core.Bool.{Bool, true, false, true≢false}
+use mathlib.Core.List.{List, [], _∷_}
 use lib.ListN.{length, getD, drop}
-use borrow.Author.Tests.{le-leb, lt-leb}
+use borrow.Author.Tests.{le-leb, lt-leb, lt-ltb, le-ltb}
 use Rattle.lists.specs.Entries.{Entry, insertAll}
+use Rattle.lists.proofs.Tests.{cond-true, cond-false}
 use Rattle.bucket.specs.declared.Bucket.{Bucket}
+use Rattle.bucket.specs.declared.Tried.{Tried}
+use Rattle.bucket.specs.Bucket.{add}
 use Rattle.bucket.specs.Words.{bucketFrom}
 use Rattle.settle.specs.declared.Settled.{Settled}
-use Rattle.settle.specs.Settle.{SoundBucket, settle}
+use Rattle.settle.specs.Settle.{SoundBucket, Settlement, settle}
 use Rattle.settle.specs.Outgoing.{outgoing, settledOf}
 use Rattle.settle.proofs.Sound.{settle-sound, settle-few}
 use Rattle.model.specs.Model.{baseLimit}
 use Rattle.concrete.specs.Table.{Table, thr, index, put, bucketOf, arriveAt}
 use Rattle.concrete.specs.Layout.{numbersOf, bucketPlace, tableFrom}
-use Rattle.adding.specs.Arrivals.{entriesOf, settledAt, storedAt, withSecond, withBase, toSecond, Passed, Kept, FlatKept}
+use Rattle.adding.specs.Arrivals.{entriesOf, settledAt, storedAt, withSecond, withBase, toSecond, Straight, Passed, Kept, FlatKept}
 use Rattle.adding.proofs.Tables.{count0, second-here, second-sound, second-stored, second-kept, numbers-table, numbers-kept}
 use Rattle.adding.proofs.Arrivals.{entries-back, insert-all-length, to-second-kept}
+
+-- ---- a word that settles at once
+
+module _ (n : ℕ) (thr : ℕ → ℕ) (e : Entry) (b : Bucket) where
+  settle-straight : (x : ℕ) → thr (e .word) < x → add n (e .word) (e .plan) b .done ≡ true → settle n thr e x b ≡ record { bucket = add n (e .word) (e .plan) b .bucket; out = [] }
+  settle-straight zero h d = absurd (not-suc-le-zero h)
+  settle-straight (suc t) h d = cond-true _ _ (lt-ltb (thr (e .word)) (suc t) h) ∙ cond-true _ _ d
+
+  pub settle-passes : (x : ℕ) → x ≤ thr (e .word) → settle n thr e x b ≡ record { bucket = b; out = e ∷ [] }
+  settle-passes zero h = refl
+  settle-passes (suc t) h = cond-false _ _ (le-ltb (thr (e .word)) (suc t) h)
+
+module _ (n r : ℕ) (thr : ℕ → ℕ) (at : ℕ) (e : Entry) (t : List ℕ) where
+  -- the bucket b is read, x is the threshold, a the add, u the table once its bucket is stored
+  pub straight-in : (b : Bucket) (x : ℕ) (a : Tried) (u : List ℕ) → b ≡ bucketFrom n r (drop at t) → x ≡ thr (e .word) → x < b .bound → a ≡ add n (e .word) (e .plan) b → a .done ≡ true
+      → u ≡ storedAt n r at (a .bucket) t → Straight n r thr at e t true u
+  straight-in b x a u q y h p d w =
+      let s : settledAt n r thr at e t ≡ record { bucket = a .bucket; out = [] } =
+      ap (λ (c : Bucket). settle n thr e (c .bound) c) (sym q)
+      ∙ settle-straight n thr e b (b .bound) (subst (λ (k : ℕ). k < b .bound) y h) (ap (λ (z : Tried). z .done) (sym p) ∙ d)
+      ∙ ap (λ (z : Tried). record { bucket = z .bucket; out = [] }) (sym p) in
+      record { none = λ _. ap (λ (z : Settlement). z .out) s; table = w ∙ ap (λ (z : Settlement). storedAt n r at (z .bucket) t) (sym s) }
+
+  pub straight-not : Straight n r thr at e t false t
+  straight-not = record { none = λ z. absurd (true≢false (sym z)); table = refl }
+
+  pub straight-as : {done b : Bool} {u : List ℕ} → done ≡ b → Straight n r thr at e t done u → Straight n r thr at e t b u
+  straight-as {u = u} y g = subst (λ (x : Bool). Straight n r thr at e t x u) y g
+
+  pub straight-left : {done : Bool} {u : List ℕ} → done ≡ false → Straight n r thr at e t done u → u ≡ t
+  straight-left y g = g .table ∙ cond-false _ t y
+
+  -- as the code keeps what settles so: no word leaves
+  module _ (m : ℕ) (u : List ℕ) (g : Straight n r thr at e t true u) where
+    abbrev pub straightly : Settled
+    straightly = settledOf m (record { bucket = settledAt n r thr at e t .bucket; out = [] })
+
+    pub straight-is : straightly ≡ settledOf m (settledAt n r thr at e t)
+    straight-is = ap (λ (es : List Entry). settledOf m (record { bucket = settledAt n r thr at e t .bucket; out = es })) (sym (g .none refl))
 
 module _ (n r : ℕ) (S : ℕ → ℕ) (m : ℕ) (bs : List Bucket) (e : Entry) (at : ℕ) (t : List ℕ) (s : Settled)
     (a : bucketFrom n r (drop at t) ≡ bucketOf n r S bs (e .word)) (q : s ≡ settledOf m (settledAt n r (thr S) at e t)) where
@@ -101,3 +144,12 @@ module _ (n r : ℕ) (S : ℕ → ℕ) (t : List ℕ) (h : FlatKept n r t) (e : 
               ∙ ap₂ (λ (X : Table) (es : List Entry). numbersOf (withBase X (insertAll es (X .base)))) table1 (out-is n r S m (T .level2) e at t s here q)
               ∙ ap (λ (bs : List Bucket). numbersOf (withBase (withSecond T bs) (insertAll (arriveAt n r S (T .level2) e .out) (T .base)))) (bucket-is n r S m (T .level2) e at t s here q);
         }
+
+-- straight into its bucket
+pub arrive-straight : (n r : ℕ) (S : ℕ → ℕ) (t : List ℕ) (h : FlatKept n r t) (e : Entry) (at : ℕ) → at ≡ bucketPlace n r (getD t 0 0 + index S (getD t 1 0) (e .word)) → e .word < 2 ^ n
+    → (u : List ℕ) → Straight n r (thr S) at e t true u → Passed n r t (toSecond n r S (tableFrom n r t) e) true u
+unfolding outgoing
+arrive-straight n r S t h e at p small u g =
+    let s : Settled = straightly n r (thr S) at e t 0 u g in
+    let q = straight-is n r (thr S) at e t 0 u g in
+    arrive-done n r S t h e at p 0 s q small u (g .table) u (sym (arrive-stored n r S t h e at p 0 s q small u (g .table) .numbers)) (omega (arith, count0 n r t h, h .table .short))

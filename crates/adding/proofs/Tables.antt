@@ -8,15 +8,16 @@ use mathlib.Core.Path.{_≡_, sym, ap, ap₂, _∙_, subst, subst⁻¹}
 use mathlib.Core.Bool.{true}
 use mathlib.Core.List.{List, [], _∷_, _++_, append-nil}
 use lib.Dec.{eqb}
-use lib.ListN.{length, getD, set, take, drop, length-append, length-set, length-drop, drop-of-length-le}
-use lib.Seq.{getD-set-same, getD-set-other, length-take-le, drop-append-add, take-all}
+use lib.ListN.{length, getD, set, take, drop, length-append, length-set, length-drop, take-append-drop, drop-of-length-le}
+use lib.Seq.{drop-drop, getD-set-same, getD-set-other, length-take-le, drop-append-add, take-all}
 use borrow.Author.Tests.{eqb-true, eqb-false, eq-eqb, le-leb}
 use borrow.Rule.Slice.PartMut.{putMid}
 use Rattle.lists.specs.Entries.{Entry}
 use Rattle.lists.proofs.Tests.{cases, and-both}
 use Rattle.bucket.specs.declared.Bucket.{Bucket}
 use Rattle.bucket.specs.Bucket.{emptyBucket}
-use Rattle.bucket.specs.Words.{bucketWords, bucketFrom}
+use Rattle.bucket.specs.Words.{bucketWords, wordsOf, bucketFrom}
+use Rattle.bucket.proofs.Words.{words-from}
 use Rattle.settle.specs.Settle.{SoundBucket}
 use Rattle.model.specs.Model.{baseLimit}
 use Rattle.concrete.specs.Table.{Table, index, put, nth, bucketOf}
@@ -29,6 +30,13 @@ use Rattle.adding.specs.Arrivals.{storedAt, withFirst, withSecond, withB
 use Rattle.adding.proofs.Base.{from-pairs, pairs-of}
 
 module _ (n r : ℕ) where
+  -- a bucket stored where it is read from
+  pub stored-same : (at : ℕ) (t : List ℕ) → at + bucketWords n r ≤ length t → storedAt n r at (bucketFrom n r (drop at t)) t ≡ t
+  stored-same at t l =
+      ap (λ (xs : List ℕ). take at t ++ (wordsOf (bucketFrom n r (drop at t)) ++ xs)) (sym (drop-drop (bucketWords n r) at t))
+      ∙ ap (λ (xs : List ℕ). take at t ++ xs) (words-from n r (drop at t) (omega (arith, length-drop at t)))
+      ∙ take-append-drop at t
+
   abbrev AllSound : List Bucket → Type 0
   AllSound bs = (i : ℕ) → i < length bs → SoundBucket n r (nth n r bs i)
 

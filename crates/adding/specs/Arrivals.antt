@@ -41,6 +41,11 @@ module _ (n r : ℕ) where
   abbrev pub storedAt : ℕ → Bucket → List ℕ → List ℕ
   storedAt at b t = take at t ++ (wordsOf b ++ drop (at + bucketWords n r) t)
 
+  -- e went straight into the bucket at a place, and no word leaves that; or the numbers t stay as they were
+  pub record Straight (thr : ℕ → ℕ) (at : ℕ) (e : Entry) (t : List ℕ) (done : Bool) (after : List ℕ) : Type 0 where
+    pub none : done ≡ true → settledAt thr at e t .out ≡ []
+    pub table : after ≡ cond done (storedAt at (settledAt thr at e t .bucket) t) t
+
 -- the table with these buckets at level 1
 abbrev pub withFirst : Table → List Bucket → Table
 withFirst T bs = record { level1 = bs; level2 = T .level2; base = T .base; count = T .count }

@@ -11,10 +11,11 @@ use settle::Settled;
 use sound::Table;
 ghost use mathlib.Core.Path.{_≡_};
 ghost use mathlib.Core.List.{[]};
-ghost use Prim.Native.Nat.{_+_, _≤_};
-ghost use lib.ListN.{length, getD, drop};
+ghost use Prim.Native.Nat.{_+_, _^_, _<_, _≤_};
+ghost use lib.ListN.{length, getD, set, drop};
 ghost use Rattle.lists.specs.Entries.{words, insertAll};
 ghost use Rattle.hash.specs.Mix.{mixOf};
+ghost use Rattle.answer.specs.declared.Answer.the-variants.{Accepted};
 ghost use Rattle.bucket.specs.Words.{bucketFrom};
 ghost use Rattle.settle.specs.Settle.{SoundBucket, thresholdOf, settle};
 ghost use Rattle.settle.specs.Outgoing.{settledOf};
@@ -23,7 +24,7 @@ ghost use Rattle.concrete.specs.Layout.{pairsFrom, basePairs, numbersOf};
 ghost use Rattle.concrete.specs.Calls.{rows, solutions, tableOf, served, call};
 ghost use Rattle.base.specs.Base.{Pairs};
 ghost use Rattle.table.specs.Ready.{Ready};
-ghost use Rattle.adding.specs.Arrivals.{entriesOf, seconds, settledAt, storedAt, withBase, toSecond, allToSecond, takeOver, Passed, Drafted, FlatKept, Alike, entering};
+ghost use Rattle.adding.specs.Arrivals.{entriesOf, seconds, settledAt, storedAt, withBase, toSecond, allToSecond, takeOver, Straight, Passed, Drafted, FlatKept, Alike, entering};
 
 // v with its plan settles in the bucket at a place. Nothing is written.
 pub(crate) fn settled_at(t: &[u64], at: usize, v: u64, plan: u64) -> Settled
@@ -40,6 +41,24 @@ pub(crate) fn store_at(t: &mut [u64], at: usize, b: Bucket)
 {
     let end = at + Bucket::WORDS;
     bucket::store(&mut t[at..end], b);
+}
+
+// The word v goes straight into the bucket at a place, where its threshold is below the bound and it does not depend. False if not: then
+// nothing is written.
+pub(crate) fn put_straight(t: &mut [u64], at: usize, v: u64, plan: u64) -> bool
+    requires { do ⌜ at + (← ⟦Bucket::WORDS⟧) ≤ length (now t) ⌝ }
+    ensures { λ r. ⌜ Straight rows solutions thresholdOf at (record { word = v; plan = plan }) (now (t .entry)) r (now (t .exit)) ⌝ }
+{
+    let b = sound::bucket_at(t, at);
+    if identifier::threshold(v) < b.bound {
+        let tried = b.add(v, plan);
+        if tried.done {
+            let next = tried.bucket;
+            store_at(t, at, next);
+            return true;
+        }
+    }
+    false
 }
 
 // The words into the base list, one after the other.
@@ -69,8 +88,8 @@ pub(crate) fn enter_base(t: &mut [u64], out: Outgoing)
     t[Table::BASE_COUNT_AT] = (count + more) as u64;
 }
 
-// The word v arrives at level 2, and what leaves that at the base list. False if that has no room: then nothing is written.
-pub(crate) fn arrive_second(t: &mut [u64], v: u64, plan: u64) -> bool
+// The word v settles at level 2, and what leaves that arrives at the base list. False if that has no room: then nothing is written.
+pub(crate) fn settle_second(t: &mut [u64], v: u64, plan: u64) -> bool
     requires { ⌜ FlatKept rows solutions (now t) ⌝ }
     ensures { λ r. ⌜ Passed rows solutions (now (t .entry)) (toSecond rows solutions mixOf (tableOf (now (t .entry))) (record { word = v; plan = plan })) r (now (t .exit)) ⌝ }
 {
@@ -85,6 +104,18 @@ pub(crate) fn arrive_second(t: &mut [u64], v: u64, plan: u64) -> bool
     store_at(t, at, b);
     enter_base(t, out);
     true
+}
+
+// The word v arrives at level 2: straight into its bucket, or it settles there.
+pub(crate) fn arrive_second(t: &mut [u64], v: u64, plan: u64) -> bool
+    requires { ⌜ FlatKept rows solutions (now t) ⌝ }
+    ensures { λ r. ⌜ Passed rows solutions (now (t .entry)) (toSecond rows solutions mixOf (tableOf (now (t .entry))) (record { word = v; plan = plan })) r (now (t .exit)) ⌝ }
+{
+    let at = sound::second_place(t, v);
+    if put_straight(t, at, v, plan) {
+        return true;
+    }
+    settle_second(t, v, plan)
 }
 
 // The words that leave level 1 arrive at level 2 one after the other. False as soon as the base list has no room.
@@ -164,8 +195,18 @@ pub(crate) fn pass_on(t: &mut [u64], out: Outgoing) -> bool
     pass_drafted(t, &mut draft[..n], out)
 }
 
-// A word that is not live arrives at level 1, and what leaves that goes on.
-pub(crate) fn enter(t: &mut [u64], w: u64, plan: u64) -> Answer
+// One more live word.
+pub(crate) fn count_one(t: &mut [u64]) -> Answer
+    requires { ⌜ (3 < length (now t)) × (getD (now t) 3 0 + 1 < 2 ^ 64) ⌝ }
+    ensures { λ r. ⌜ (r ≡ Accepted (getD (now (t .entry)) 3 0 + 1)) × (now (t .exit) ≡ set (now (t .entry)) 3 (getD (now (t .entry)) 3 0 + 1)) ⌝ }
+{
+    let count = t[Table::LIVE_COUNT_AT] + 1;
+    t[Table::LIVE_COUNT_AT] = count;
+    Answer::Accepted(count)
+}
+
+// A word that is not live settles at level 1, and what leaves that goes on.
+pub(crate) fn enter_settling(t: &mut [u64], w: u64, plan: u64) -> Answer
     requires { ⌜ Ready (now t) ⌝ }
     ensures { λ r. ⌜ (r ≡ entering (now (t .entry)) (record { word = w; plan = plan }) .answer) × (now (t .exit) ≡ entering (now (t .entry)) (record { word = w; plan = plan }) .table) ⌝ }
 {
@@ -175,9 +216,25 @@ pub(crate) fn enter(t: &mut [u64], w: u64, plan: u64) -> Answer
     if pass_on(t, out) {
         let b = s.bucket;
         store_at(t, at, b);
-        let count = t[Table::LIVE_COUNT_AT] + 1;
-        t[Table::LIVE_COUNT_AT] = count;
-        return Answer::Accepted(count);
+        return count_one(t);
+    }
+    Answer::Full // and the bucket stays as it was
+}
+
+// A word that is not live arrives at level 1: straight into its bucket; or, where that does not hold it, at level 2; or it settles there.
+pub(crate) fn enter(t: &mut [u64], w: u64, plan: u64) -> Answer
+    requires { ⌜ Ready (now t) ⌝ }
+    ensures { λ r. ⌜ (r ≡ entering (now (t .entry)) (record { word = w; plan = plan }) .answer) × (now (t .exit) ≡ entering (now (t .entry)) (record { word = w; plan = plan }) .table) ⌝ }
+{
+    let at = sound::first_place(t, w);
+    if put_straight(t, at, w, plan) {
+        return count_one(t);
+    }
+    if sound::holds_first(t, w) {
+        return enter_settling(t, w, plan);
+    }
+    if arrive_second(t, identifier::second(w), plan) {
+        return count_one(t);
     }
     Answer::Full
 }

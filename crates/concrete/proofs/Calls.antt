@@ -174,7 +174,7 @@ module _ (t : List ℕ) (s : State) (h : FlatStands t s) where
             record { says = ap Accepted (k .counted); stands = numbers-stand u t′ k range }))
 
     -- the causes 1, 2, 4 and 5 are not met
-    served-match : (c : Call (List ℕ)) → PlanFits c → Match (served t w c) (step firstLevel secondLevel s (askOf w c))
+    pub served-match : (c : Call (List ℕ)) → PlanFits c → Match (served t w c) (step firstLevel secondLevel s (askOf w c))
     unfolding served
     served-match (add i p) k = add-match p k
     served-match (change i p) k = live-match (T.changedIn rows solutions mixOf T₀ w p) (update (record { word = w; plan = p }) (s .live)) (λ q f. change-stands rows solutions mixOf keeps one T₀ s (h .stands) w l p q k f)

@@ -30,7 +30,7 @@ use Rattle.concrete.specs.Content.{entriesOf}
 use Rattle.concrete.specs.AtOnce.{addedAtOnce}
 use Rattle.concrete.specs.Sound.{SoundTable}
 use Rattle.concrete.specs.Calls.{rows, solutions, tableOf, planIn, shaped, sound, FlatSound, turnedDown, openCall, queried, served, call}
-use Rattle.concrete.specs.History.{Put, tables, states, Opened, acceptedCalls, flatState, Same}
+use Rattle.concrete.specs.History.{PlanFits, Put, tables, states, Opened, acceptedCalls, flatState, Same}
 use Rattle.concrete.proofs.Numbers as Numbers
 use Rattle.concrete.proofs.Numbers.{ShapedTable}
 use Rattle.concrete.proofs.AtOnce as AtOnce
@@ -139,6 +139,13 @@ sound-stands = Calls.sound-stands-flat
 -- and for no other
 pub stands-one : (t : List ℕ) (s : State) → FlatStands t s → flatState t ≡ s
 stands-one = Calls.stands-shows
+
+-- so a call for a word of 64 bits leaves a sound table sound
+pub served-sound : (t : List ℕ) → shaped t ≡ true → FlatSound t → (w : ℕ) → w < 2 ^ 64 → (c : Call (List ℕ)) → PlanFits c
+    → (shaped (served t w c .table) ≡ true) × FlatSound (served t w c .table)
+served-sound t k h w l c f =
+    let m = Calls.served-match t (flatState t) (sound-stands t k h) w l c f in
+    (m .stands .shape, Calls.stands-flat (served t w c .table) _ (m .stands))
 
 -- ---- sound tables, also those handed in from elsewhere
 

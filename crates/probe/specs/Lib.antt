@@ -1,2 +1,3 @@
 pub mod Probe
 pub mod Steps
+pub mod Fill

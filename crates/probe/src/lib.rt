@@ -1,6 +1,7 @@
-// Entries for other languages over hash, codec, identifier, bucket, eliminate and session: a program made without this code is compared with them.
-// Definition: specs/Probe.antt.
-// Cites answer, codec, hash, identifier, bucket, eliminate and session. Nothing cites it.
+// Entries for other languages over the parts of the library: a program made without this code is compared with them.
+// Definitions: specs/Probe.antt (identifiers), specs/Steps.antt (one bucket), specs/Fill.antt (a table that is filled).
+// Cites answer, codec, hash, identifier, bucket, eliminate, table, adding and session. Nothing cites it.
+use answer::Answer;
 use bucket::Bucket;
 use identifier::Identifier;
 use identifier::Read;
@@ -16,7 +17,10 @@ ghost use Prim.Native.Nat.{_*_};
 ghost use Rattle.session.specs.Run.{inputLimit, mostPrinted, output};
 ghost use Rattle.session.specs.Buffer.{Printed};
 ghost use Rattle.probe.specs.Steps.{probed, probedRow, probedMatrix};
+ghost use Rattle.model.specs.Machine.{accepted};
+ghost use Rattle.table.specs.Ready.{Ready};
 ghost use Rattle.probe.specs.Probe.{wordAnswer};
+ghost use Rattle.probe.specs.Fill.{takenFrom, filled};
 
 // The number of the answer to the bytes of an identifier, 0 if they are accepted. What is returned with it goes into value:
 // the word, if they are accepted.
@@ -141,6 +145,41 @@ pub extern "C" fn probe_matrix(part: &[u64], i: usize) -> u64
         if i < Bucket::ROWS {
             return rows[i];
         }
+    }
+    0
+}
+
+// An accepted answer.
+fn accepted(a: Answer) -> bool
+    ensures { λ r. ⌜ r ≡ accepted a ⌝ }
+{
+    answer::number(a) == 0
+}
+
+// Adds of the words to a sound table, each with its low byte as plan, until the first refusal: how many were accepted.
+fn add_all(t: &mut [u64], words: &[u64]) -> u64
+    requires { ⌜ Ready (now t) ⌝ }
+    ensures { λ r. ⌜ (r ≡ takenFrom 0 (now (t .entry)) (now (words .entry)) .number) × (now (t .exit) ≡ takenFrom 0 (now (t .entry)) (now (words .entry)) .words) ⌝ }
+{
+    let mut i: usize = 0;
+    while i < words.len() {
+        let w = words[i];
+        if accepted(adding::add_word(t, w, w % 256)) {
+            i += 1;
+        } else {
+            return i as u64;
+        }
+    }
+    i as u64
+}
+
+// A table is opened, and filled with the words so. How many were accepted; 0 if the opening is refused.
+#[no_mangle]
+pub extern "C" fn probe_fill(t: &mut [u64], b1: u64, b2: u64, words: &[u64]) -> u64
+    ensures { λ r. ⌜ (r ≡ filled b1 b2 (now (t .entry)) (now (words .entry)) .number) × (now (t .exit) ≡ filled b1 b2 (now (t .entry)) (now (words .entry)) .words) ⌝ }
+{
+    if accepted(table::open(t, b1, b2)) {
+        return add_all(t, words);
     }
     0
 }

@@ -5,7 +5,7 @@ use native.Mathlib.Nat.{div-one, pow-suc, div-div-eq-div-mul}
 use native.Mathlib.Numerals.{add-one, sub-one}
 use native.Mathlib.Omega.{arith}
 use mathlib.Core.Path.{_≡_, refl, sym, ap, _∙_}
-use mathlib.Core.Bool.{Bool}
+use mathlib.Core.Bool.{Bool, true, false, true≢false}
 use mathlib.Core.List.{List, [], _∷_, map, Sublistᴰ, Sublistᴰ·slnil, Sublistᴰ·cons, Sublistᴰ·cons-cons}
 use lib.Dec.{eqb}
 use lib.ListN.{length, getD, take, drop, length-map, length-drop, drop-of-length-le}
@@ -22,7 +22,7 @@ use Rattle.bucket.specs.Bucket.{lookup, withdraw}
 use Rattle.settle.specs.declared.Outgoing.{Outgoing}
 use Rattle.settle.specs.Settle.{withdrawAll}
 use Rattle.settle.specs.Outgoing.{outgoing}
-use Rattle.settle.specs.Steps.{inserted, leavingOf, entered}
+use Rattle.settle.specs.Steps.{inserted, leaves, leavingOf}
 use Rattle.settle.proofs.Arrays.{count-of, insert-law, part, past}
 
 -- ---- how many
@@ -41,14 +41,9 @@ chosen-length mark (r ∷ rs) = go (mark % 2) (chosen-length (mark / 2) rs)
 
 -- ---- row by row
 
-module _ (thr : ℕ → ℕ) (t : ℕ) (b : Bucket) (v : ℕ) (q : Outgoing) where
-  pub entered-not : (d : ℕ) → (thr v ≡ t → ⊥) → q ≡ entered d thr t b v q
-  entered-not zero h = refl
-  entered-not (suc d) h = sym (cond-false (inserted v (lookup b v) q) q (ne-eqb (thr v) t h))
-
-  pub entered-on : (d : ℕ) → (d ≡ 0 → ⊥) → thr v ≡ t → inserted v (lookup b v) q ≡ entered d thr t b v q
-  entered-on zero h e = absurd (h refl)
-  entered-on (suc d) h e = sym (cond-true (inserted v (lookup b v) q) q (eq-eqb (thr v) t e))
+pub leaves-set : (thr : ℕ → ℕ) (t v d : ℕ) → (d ≡ 0 → ⊥) → eqb (thr v) t ≡ leaves d thr t v
+leaves-set thr t v zero h = absurd (h refl)
+leaves-set thr t v (suc d) h = refl
 
 -- the rows from i on, and the one before them
 chosen-down : (mark i : ℕ) (rows : List ℕ) → i < length rows
@@ -64,13 +59,17 @@ module _ (thr : ℕ → ℕ) (t : ℕ) (b : Bucket) where
       let f : ℕ → Entry = (λ k. record { word = k; plan = lookup b k }) in
       rw sort-length (omega (arith, length-sub (keep-within (λ (e : Entry). eqb (thr (e .word)) t) (map f ks)), length-map ks f))
 
-  enter : (m d v : ℕ) (ks : List ℕ) → length ks < m → entered d thr t b v (outgoing m (leavingOf thr t b ks)) ≡ outgoing m (leavingOf thr t b (putIf d v ks))
+  -- one more row, inserted where it leaves
+  row-leaves : (m v : ℕ) (ks : List ℕ) → length ks < m → (d : ℕ) → leaves d thr t v ≡ true
+      → inserted v (lookup b v) (outgoing m (leavingOf thr t b ks)) ≡ outgoing m (leavingOf thr t b (putIf d v ks))
   unfolding leavingOf
-  enter m zero v ks h = refl
-  enter m (suc d) v ks h =
-      cases (eqb (thr v) t)
-      (λ y. rw y (insert-law m (leavingOf thr t b ks) (record { word = v; plan = lookup b v }) (omega (arith, leaving-length ks))))
-      (λ n. rw n)
+  row-leaves m v ks h zero y = absurd (true≢false (sym y))
+  row-leaves m v ks h (suc d) y = rw y (insert-law m (leavingOf thr t b ks) (record { word = v; plan = lookup b v }) (omega (arith, leaving-length ks)))
+
+  row-stays : (v : ℕ) (ks : List ℕ) (d : ℕ) → leaves d thr t v ≡ false → leavingOf thr t b ks ≡ leavingOf thr t b (putIf d v ks)
+  unfolding leavingOf
+  row-stays v ks zero n = refl
+  row-stays v ks (suc d) n = rw n
 
   -- q has what leaves of the rows from i on
   abbrev pub Found : ℕ → ℕ → List ℕ → ℕ → Outgoing → Type 0
@@ -89,12 +88,16 @@ module _ (thr : ℕ → ℕ) (t : ℕ) (b : Bucket) where
     unfolding leavingOf
     found-none i h e = rw (drop-of-length-le rows h) e
 
-    pub found-down : (i : ℕ) {q q′ : Outgoing} → 0 < i → i ≤ length rows → length rows ≤ m → Found m mark rows i q
-        → q′ ≡ entered (mark / 2 ^ (i - 1) % 2) thr t b (getD rows (i - 1) 0) q → Found m mark rows (i - 1) q′
-    found-down zero p h l e f = absurd (omega arith)
-    found-down (suc i) p h l e f =
-        rw (sub-one, chosen-down mark i rows h)
-        (f ∙ rw (sub-one, e) (enter m (mark / 2 ^ i % 2) (getD rows i 0) (chosen (mark / 2 ^ suc i) (drop (suc i) rows)) (omega (arith, few (suc i)))))
+    -- the row before, by whether it leaves
+    module _ (i : ℕ) (h : i < length rows) (l : length rows ≤ m) {q : Outgoing} (e : Found m mark rows (suc i) q) where
+      abbrev later : List ℕ
+      later = chosen (mark / 2 ^ suc i) (drop (suc i) rows)
+
+      pub found-leaves : {p : Outgoing} → leaves (mark / 2 ^ i % 2) thr t (getD rows i 0) ≡ true → p ≡ inserted (getD rows i 0) (lookup b (getD rows i 0)) q → Found m mark rows i p
+      found-leaves y f = rw (chosen-down mark i rows h) (f ∙ rw e (row-leaves m (getD rows i 0) later (omega (arith, few (suc i))) (mark / 2 ^ i % 2) y))
+
+      pub found-stays : leaves (mark / 2 ^ i % 2) thr t (getD rows i 0) ≡ false → Found m mark rows i q
+      found-stays n = rw (chosen-down mark i rows h) (e ∙ ap (outgoing m) (row-stays (getD rows i 0) later (mark / 2 ^ i % 2) n))
 
     pub found-all : (i : ℕ) {q : Outgoing} → i ≤ 0 → Found m mark rows i q → q ≡ outgoing m (leavingOf thr t b (chosen mark rows))
     found-all zero h e = e ∙ ap (λ (x : ℕ). outgoing m (leavingOf thr t b (chosen x rows))) (div-one mark)

@@ -1,7 +1,7 @@
 -- The steps of the inner functions on the words that leave. The contract of settle does not cite them.
 -- Assumes nothing.
 use Prim.Native.Nat.{ℕ, zero, suc, _+_}
-use mathlib.Core.Bool.{cond}
+use mathlib.Core.Bool.{Bool, false, cond}
 use mathlib.Core.List.{List, [], _∷_, _++_}
 use lib.Dec.{eqb, ltb}
 use lib.ListN.{length, take, drop}
@@ -42,7 +42,7 @@ joined p q = record {
 unfoldable pub leavingOf : (ℕ → ℕ) → ℕ → Bucket → List ℕ → List Entry
 leavingOf thr t b ks = sort (keep (λ e. eqb (thr (e .word)) t) (listed b ks))
 
--- v with its plan in b inserted, where d is set and v's threshold is t
-abbrev pub entered : ℕ → (ℕ → ℕ) → ℕ → Bucket → ℕ → Outgoing → Outgoing
-entered zero thr t b v q = q
-entered (suc d) thr t b v q = cond (eqb (thr v) t) (inserted v (lookup b v) q) q
+-- v leaves: d is set, and its threshold is t
+abbrev pub leaves : ℕ → (ℕ → ℕ) → ℕ → ℕ → Bool
+leaves zero thr t v = false
+leaves (suc d) thr t v = eqb (thr v) t

@@ -13,7 +13,7 @@ ghost use lib.Seq.{paste};
 ghost use Rattle.gf2.specs.Select.{chosen};
 ghost use Rattle.settle.specs.Settle.{SoundBucket, thresholdOf, leaving, withdrawAll, atBound, settle};
 ghost use Rattle.settle.specs.Outgoing.{outgoing, settledOf};
-ghost use Rattle.settle.specs.Steps.{putIn, positionOf, putAt, inserted, joined, leavingOf, entered};
+ghost use Rattle.settle.specs.Steps.{putIn, positionOf, putAt, inserted, joined, leaves, leavingOf};
 
 // The words that leave a bucket, with their plans, in order; unused elements are 0.
 pub struct Outgoing {
@@ -142,18 +142,14 @@ impl Outgoing {
     }
 }
 
-// v with its plan in b inserted, where d is set and v's threshold is t.
-pub(crate) fn entered(out: Outgoing, b: Bucket, d: u64, v: u64, t: u64) -> Outgoing
-    requires { do ⌜ out .count < (← ⟦Outgoing::MOST⟧) ⌝ }
-    ensures { λ r. ⌜ r ≡ entered d thresholdOf t b v out ⌝ }
+// v leaves: d is set, and its threshold is t.
+pub(crate) fn leaves(d: u64, v: u64, t: u64) -> bool
+    ensures { λ r. ⌜ r ≡ leaves d thresholdOf t v ⌝ }
 {
     if d == 0 {
-        return out;
+        return false;
     }
-    if threshold(v) != t {
-        return out;
-    }
-    out.insert(v, b.lookup(v))
+    threshold(v) == t
 }
 
 // Of the rows that are occupied in b those of threshold t, with their plans, smallest first.
@@ -165,7 +161,10 @@ pub(crate) fn leaving_of(b: Bucket, rows: [u64; Bucket::ROWS], t: u64) -> Outgoi
     let mut i = Bucket::ROWS;
     while 0 < i {
         i -= 1;
-        out = entered(out, b, (mark >> i) % 2, rows[i], t);
+        let v = rows[i];
+        if leaves((mark >> i) % 2, v, t) {
+            out = out.insert(v, b.lookup(v));
+        }
     }
     out
 }

@@ -244,6 +244,36 @@ fn filling(rng: &mut Rng, b1: u64, b2: u64) {
     );
 }
 
+/// The same by words, through the inner call, which tests no table.
+fn filling_words(rng: &mut Rng, b1: u64, b2: u64) {
+    let words: Vec<u64> = cards(rng, 8000)
+        .iter()
+        .map(|id| identifier::word(id).expect("an identifier"))
+        .collect();
+    let shape = Shape::new(b1, b2).expect("in range");
+    let theirs = |t: &mut [u64]| {
+        table::open(t, b1, b2);
+        words
+            .iter()
+            .take_while(|&&w| shape.add(t, w, w as u8).is_ok())
+            .count() as u64
+    };
+    let (mut a, mut b) = (vec![0; shape.table_len()], vec![0; shape.table_len()]);
+    let taken = ours::fill(&mut a, b1, b2, &words);
+    assert_eq!(taken, theirs(&mut b));
+    assert_eq!(a, b);
+    compare(
+        "inner add, empty table to the first refusal",
+        taken as u32,
+        || {
+            black_box(ours::fill(&mut a, b1, b2, &words));
+        },
+        || {
+            black_box(theirs(&mut b));
+        },
+    );
+}
+
 fn tables(rng: &mut Rng) {
     const N: u32 = 50;
     for (b1, b2) in [(1, 1), (12, 8), (48, 32)] {
@@ -315,6 +345,7 @@ fn tables(rng: &mut Rng) {
         let (t, inside) = filled_table(rng, b1, b2, 0);
         lookups(rng, &t, &inside, 0);
         filling(rng, b1, b2);
+        filling_words(rng, b1, b2);
     }
 }
 

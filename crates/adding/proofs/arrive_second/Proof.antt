@@ -1,12 +1,15 @@
 -- `adding::arrive_second` meets its contract.
 -- Assumes nothing.
-use native.Mathlib.Omega.{arith}
-use mathlib.Core.Path.{subst⁻¹}
+use Prim.Native.Nat.{ℕ}
+use mathlib.Core.Path.{subst, subst⁻¹}
+use mathlib.Core.List.{List}
 use Rattle.lists.specs.Entries.{Entry}
 use Rattle.hash.specs.Mix.{mixOf}
-use Rattle.settle.specs.Settle.{SoundBucket}
-use Rattle.adding.proofs.Tables.{count0, shape, long, second-room, second-here, second-sound}
-use Rattle.adding.proofs.Settled.{arrive-few, arrive-full, arrive-stored, arrive-count, arrive-done}
+use Rattle.settle.specs.Settle.{thresholdOf}
+use Rattle.concrete.specs.Calls.{tableOf}
+use Rattle.adding.specs.Arrivals.{toSecond, Passed, FlatKept}
+use Rattle.adding.proofs.Tables.{shape, second-room}
+use Rattle.adding.proofs.Settled.{straight-as, straight-left, arrive-straight}
 use borrow.Author.Needs.{needs}
 use Rattle.adding.proofs.arrive_second.Statement.{statement}
 use Rattle.adding.proofs.arrive_second.Tie as tie
@@ -17,66 +20,41 @@ word s = record { word = s .args .v; plan = s .args .plan }
 second-place-requires : tie.Need-second-place-requires
 second-place-requires c κs = shape 64 8 _ (c .before .before .pre)
 
-settled-at-requires : tie.Need-settled-at-requires
-settled-at-requires c κs =
-    let s = c .before .before .before .before in
-    let p = c .before .second-place .ensures in
-    (second-room 64 8 _ (s .pre) mixOf (s .args .v) _ p, subst⁻¹ (SoundBucket 64 8) (second-here 64 8 _ (s .pre) mixOf (s .args .v) _ p) (second-sound 64 8 _ (s .pre) mixOf (s .args .v) _ p))
-
-slice-read-if1 : tie.Need-slice-read-if1
-slice-read-if1 c = let h = long 64 8 _ (c .before .before .before .before .before .before .before .pre) in omega arith
-
-add-if1 : tie.Need-add-if1
-add-if1 c =
-    let s = c .before .before .before .before .before .before .before in
-    let k = arrive-few 64 8 mixOf _ (s .pre) (word s) _ (c .before .before .before .before .second-place .ensures) 65 _ (c .before .before .settled-at .ensures) (s .fits .v .fits) in
-    omega (arith, count0 64 8 _ (s .pre), s .pre .table .short)
+put-straight-requires : tie.Need-put-straight-requires
+put-straight-requires c κs = let s = c .before .before .before .before in second-room 64 8 _ (s .pre) mixOf (s .args .v) _ (c .before .second-place .ensures)
 
 same-length : tie.Need-same-length
 same-length c = search needs
 
 returns : tie.Need-returns
 returns c =
-    let s = c .before .before .before .before .before .before .before .before in
-    let b = c .before .before .before in
-    arrive-full 64 8 mixOf _ (s .pre) (word s) _ (b .before .before .second-place .ensures) 65 _ (b .settled-at .ensures) (c .if1 .taken)
-
-store-at-requires : tie.Need-store-at-requires
-store-at-requires c κs =
-    let s = c .before .before .before .before .before .before .before .before .before .before in
-    second-room 64 8 _ (s .pre) mixOf (s .args .v) _ (c .before .before .before .before .before .before .before .second-place .ensures)
-
-enter-base-requires : tie.Need-enter-base-requires
-enter-base-requires c κs =
-    let d = c .before .before .before .before .before .before .before .before .before in
+    let d = c .before .before .before in
     let s = d .before .before .before .before .before in
-    let p = d .before .before .second-place .ensures in
-    let q = d .settled-at .ensures in
-    let q1 = c .before .before .before .store-at .ensures in
-    let k = arrive-count 64 8 mixOf _ (s .pre) (word s) _ p 65 _ q (s .fits .v .fits) _ q1 in
-    (arrive-stored 64 8 mixOf _ (s .pre) (word s) _ p 65 _ q (s .fits .v .fits) _ q1, omega arith)
+    arrive-straight 64 8 mixOf _ (s .pre) (word s) _ (d .before .before .second-place .ensures) (s .fits .v .fits) _ (straight-as 64 8 thresholdOf _ (word s) _ (c .if1 .taken) (d .put-straight .ensures))
+
+settle-second-requires : tie.Need-settle-second-requires
+settle-second-requires c κs =
+    let d = c .before .before .before .before in
+    let s = d .before .before .before .before .before in
+    subst⁻¹ (FlatKept 64 8) (straight-left 64 8 thresholdOf _ (word s) _ (c .before .if1 .left) (d .put-straight .ensures)) (s .pre)
 
 same-length-2 : tie.Need-same-length-2
 same-length-2 c = search needs
 
 returns-2 : tie.Need-returns-2
 returns-2 c =
-    let d = c .before .before .before .before .before .before .before .before .before .before .before .before in
+    let d = c .before .before .before .before .before .before .before in
     let s = d .before .before .before .before .before in
-    arrive-done 64 8 mixOf _ (s .pre) (word s) _ (d .before .before .second-place .ensures) 65 _ (d .settled-at .ensures) (s .fits .v .fits) _ (c .before .before .before .before .before .before .store-at .ensures) _
-    (c .before .before .enter-base .ensures) (c .before .before .before .before .before .before .before .before .before .if1 .left)
+    subst (λ (t : List ℕ). Passed 64 8 t (toSecond 64 8 mixOf (tableOf t) (word s)) (c .before .before .settle-second .result) (c .before .before .settle-second .last .0)) (straight-left 64 8 thresholdOf _ (word s) _ (c .before .before .before .before .if1 .left) (d .put-straight .ensures)) (c .before .before .settle-second .ensures)
 
 pub arrive-second-spec : {M : Type 1} → statement M
 arrive-second-spec =
     tie.close
     (tie.spec
     second-place-requires
-    settled-at-requires
-    slice-read-if1
-    add-if1
+    put-straight-requires
     same-length
     returns
-    store-at-requires
-    enter-base-requires
+    settle-second-requires
     same-length-2
     returns-2)

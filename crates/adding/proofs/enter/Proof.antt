@@ -1,17 +1,17 @@
 -- `adding::enter` meets its contract.
 -- Assumes nothing.
-use Prim.Native.Nat.{_<_}
-use native.Mathlib.Omega.{arith}
-use mathlib.Core.Path.{subst⁻¹}
-use mathlib.Core.Bool.{true}
-use lib.ListN.{length, length-set}
+use Prim.Native.Nat.{ℕ}
+use mathlib.Core.Path.{_≡_, refl, sym, _∙_, subst, subst⁻¹}
+use mathlib.Core.List.{List}
+use Rattle.answer.specs.declared.Answer.{Answer}
 use Rattle.lists.specs.Entries.{Entry}
 use Rattle.hash.specs.Mix.{mixOf}
-use Rattle.settle.specs.Settle.{SoundBucket}
-use Rattle.concrete.specs.Calls.{tableOf}
-use Rattle.adding.specs.Arrivals.{seconds, allToSecond, Passed}
-use Rattle.adding.proofs.Tables.{first-room, first-here, first-sound}
-use Rattle.adding.proofs.Added.{passed-as, enter-few, enter-full, enter-room, enter-count, enter-long, enter-done, ready-kept, live-room, entered-full, entered-done}
+use Rattle.settle.specs.Settle.{thresholdOf}
+use Rattle.table.specs.Ready.{Ready}
+use Rattle.adding.specs.Arrivals.{entering}
+use Rattle.adding.proofs.Tables.{first-room}
+use Rattle.adding.proofs.Settled.{straight-as, straight-left}
+use Rattle.adding.proofs.Added.{passed-as, Counted, counted-straight, counted-second, full-second, ready-kept, count-room, entered-full, entered-done}
 use borrow.Author.Needs.{needs}
 use Rattle.adding.proofs.enter.Statement.{statement}
 use Rattle.adding.proofs.enter.Tie as tie
@@ -19,84 +19,107 @@ use Rattle.adding.proofs.enter.Tie as tie
 abbrev word : tie.Start → Entry
 word s = record { word = s .args .w; plan = s .args .plan }
 
--- the words that left level 1 went on
-on : (c : tie.Then1) → let d = c .before .before .before .before .before .before in
-    Passed 64 8 (d .before .before .before .before .before .args .t .now) (allToSecond 64 8 mixOf (tableOf (d .before .before .before .before .before .args .t .now)) (seconds mixOf (d .settled-at .result .out))) true (c .before .before .before .pass-on .last .0)
-on c = passed-as 64 8 _ _ _ _ _ (c .if1 .taken) (c .before .before .before .pass-on .ensures)
+-- what is to be shown, where t is the table before
+abbrev As : tie.Start → Answer → List ℕ → List ℕ → Type 0
+As s a u t = (a ≡ entering t (word s) .answer) × (u ≡ entering t (word s) .table)
 
-long : (c : tie.After-slice-known4) → 3 < length (c .before .before .before .store-at .last .0)
-long c =
-    let d = c .before .before .before .before .before .before .before .before .before .before .before .before in
+-- the word went straight in
+straight : (c : tie.Then1) → let s = c .before .before .before .before .before .before .before .before in Counted 64 8 mixOf (s .args .t .now) (word s) (c .before .before .before .put-straight .last .0)
+straight c =
+    let d = c .before .before .before in
     let s = d .before .before .before .before .before in
-    enter-long 64 8 mixOf _ (ready-kept _ (s .pre)) (word s) (s .fits .w .fits) _ (d .before .before .first-place .ensures) 65 _ (d .settled-at .ensures) _ (on (c .before .before .before .before .before .before)) _ (c .before .before .before .store-at .ensures)
+    counted-straight 64 8 mixOf _ (ready-kept _ (s .pre)) (word s) (s .fits .w .fits) _ (d .before .before .first-place .ensures) _
+    (straight-as 64 8 thresholdOf _ (word s) _ (c .if1 .taken) (d .put-straight .ensures))
+
+-- it did not: the table is as it was
+same : (c : tie.Else1) → c .before .before .before .put-straight .last .0 ≡ c .before .before .before .before .before .before .before .before .args .t .now
+same c = straight-left 64 8 thresholdOf _ (word (c .before .before .before .before .before .before .before .before)) _ (c .if1 .left) (c .before .before .before .put-straight .ensures)
+
+ready : (c : tie.Else1) → Ready (c .before .before .before .put-straight .last .0)
+ready c = subst⁻¹ Ready (same c) (c .before .before .before .before .before .before .before .before .pre)
+
+-- level 1 does not hold it, and level 2 took it
+passed : (c : tie.Then3) → let e = c .before .before .before .before .before .before .before .before .before in Counted 64 8 mixOf (e .before .before .before .put-straight .last .0) (word (e .before .before .before .before .before .before .before .before)) (c .before .before .before .arrive-second .last .0)
+passed c =
+    let e = c .before .before .before .before .before .before .before .before .before in
+    let s = e .before .before .before .before .before .before .before .before in
+    counted-second 64 8 mixOf _ (ready-kept _ (ready e)) (word s) (s .fits .w .fits) _ refl (sym (c .before .before .before .before .before .before .before .holds-first .ensures) ∙ c .before .before .before .before .before .before .if2 .left) _ (c .before .before .before .before .second .ensures) _
+    (passed-as 64 8 _ _ _ _ _ (c .if3 .taken) (c .before .before .before .arrive-second .ensures))
 
 first-place-requires : tie.Need-first-place-requires
 first-place-requires c κs = search needs
 
-settled-at-requires : tie.Need-settled-at-requires
-settled-at-requires c κs =
-    let s = c .before .before .before .before in
-    let k = ready-kept _ (s .pre) in
-    let p = c .before .first-place .ensures in
-    (first-room 64 8 _ k mixOf (s .args .w) _ p, subst⁻¹ (SoundBucket 64 8) (first-here 64 8 _ k mixOf (s .args .w) _ p) (first-sound 64 8 _ k mixOf (s .args .w) _ p))
+put-straight-requires : tie.Need-put-straight-requires
+put-straight-requires c κs = let s = c .before .before .before .before in first-room 64 8 _ (ready-kept _ (s .pre)) mixOf (s .args .w) _ (c .before .first-place .ensures)
 
-pass-on-requires : tie.Need-pass-on-requires
-pass-on-requires c κs =
-    let s = c .before .before .before .before .before .before .before in
-    let k = ready-kept _ (s .pre) in
-    (k, enter-few 64 8 mixOf _ k (word s) (s .fits .w .fits) _ (c .before .before .before .before .first-place .ensures) 65 _ (c .before .before .settled-at .ensures))
-
-store-at-requires : tie.Need-store-at-requires
-store-at-requires c κs =
-    let d = c .before .before .before .before .before .before .before .before in
-    let s = d .before .before .before .before .before in
-    enter-room 64 8 mixOf _ (ready-kept _ (s .pre)) (word s) (s .fits .w .fits) _ (d .before .before .first-place .ensures) 65 _ (d .settled-at .ensures) _ (on (c .before .before))
-
-slice-read-count : tie.Need-slice-read-count
-slice-read-count c = long c
-
-add-count : tie.Need-add-count
-add-count c =
-    let d = c .before .before .before .before .before .before .before .before .before .before .before .before in
-    let s = d .before .before .before .before .before in
-    let e = enter-count 64 8 mixOf _ (ready-kept _ (s .pre)) (word s) (s .fits .w .fits) _ (d .before .before .first-place .ensures) 65 _ (d .settled-at .ensures) _ (on (c .before .before .before .before .before .before)) _ (c .before .before .before .store-at .ensures) in
-    let h = live-room _ (s .pre) in
-    omega arith
-
-slice-write-t : tie.Need-slice-write-t
-slice-write-t c = long c
+count-one-requires : tie.Need-count-one-requires
+count-one-requires c κs = let s = c .before .before .before .before .before .before .before .before .before in count-room _ (s .pre) (word s) _ (straight (c .before))
 
 same-length : tie.Need-same-length
-same-length c = simp length-set (omega arith)
+same-length c = search needs
 
 returns : tie.Need-returns
-returns c =
-    let d = c .before .before .before .before .before .before .before .before .before .before .before .before in
-    let s = d .before .before .before .before .before in
-    entered-done (s .args .t .now) (s .args .w) (s .args .plan) _ _ (enter-done 64 8 mixOf _ (ready-kept _ (s .pre)) (word s) (s .fits .w .fits) _ (d .before .before .first-place .ensures) 65 _ (d .settled-at .ensures) _ (on (c .before .before .before .before .before .before)) _ (c .before .before .before .store-at .ensures))
+returns c = let s = c .before .before .before .before .before .before .before .before .before .before .before .before in entered-done (s .args .t .now) (s .args .w) (s .args .plan) _ (straight (c .before .before .before .before)) _ _ (c .before .before .count-one .ensures)
+
+holds-first-requires : tie.Need-holds-first-requires
+holds-first-requires c κs = ready (c .before) .shape
+
+enter-settling-requires : tie.Need-enter-settling-requires
+enter-settling-requires c κs = ready (c .before .before .before .before)
 
 same-length-2 : tie.Need-same-length-2
 same-length-2 c = search needs
 
 returns-2 : tie.Need-returns-2
-returns-2 c =
-    let d = c .before .before .before .before .before .before in
-    let s = d .before .before .before .before .before in
-    entered-full (s .args .t .now) (s .args .w) (s .args .plan) _ (enter-full 64 8 mixOf _ (ready-kept _ (s .pre)) (word s) (s .fits .w .fits) _ (d .before .before .first-place .ensures) 65 _ (d .settled-at .ensures) _
-    (passed-as 64 8 _ _ _ _ _ (c .if1 .left) (c .before .before .before .pass-on .ensures)))
+returns-2 c = subst (As (c .before .before .before .before .before .before .before .before .before .before .before .before .before .before .before) _ _) (same (c .before .before .before .before .before .before .before)) (c .before .before .enter-settling .ensures)
+
+second-requires : tie.Need-second-requires
+second-requires c κs = search needs
+
+arrive-second-requires : tie.Need-arrive-second-requires
+arrive-second-requires c κs = ready-kept _ (ready (c .before .before .before .before .before))
+
+count-one-requires-2 : tie.Need-count-one-requires-2
+count-one-requires-2 c κs = count-room _ (ready (c .before .before .before .before .before .before .before .before .before .before)) (word (c .before .before .before .before .before .before .before .before .before .before .before .before .before .before .before .before .before .before)) _ (passed (c .before))
+
+same-length-3 : tie.Need-same-length-3
+same-length-3 c = search needs
+
+returns-3 : tie.Need-returns-3
+returns-3 c =
+    let e = c .before .before .before .before .before .before .before .before .before .before .before .before .before in
+    let s = e .before .before .before .before .before .before .before .before in
+    subst (As s _ _) (same e) (entered-done _ (s .args .w) (s .args .plan) _ (passed (c .before .before .before .before)) _ _ (c .before .before .count-one2 .ensures))
+
+same-length-4 : tie.Need-same-length-4
+same-length-4 c = search needs
+
+returns-4 : tie.Need-returns-4
+returns-4 c =
+    let e = c .before .before .before .before .before .before .before .before .before in
+    let s = e .before .before .before .before .before .before .before .before in
+    subst (As s _ _) (same e)
+    (entered-full _ (s .args .w) (s .args .plan) _
+    (full-second 64 8 mixOf _ (ready-kept _ (ready e)) (word s) (s .fits .w .fits) _ refl (sym (c .before .before .before .before .before .before .before .holds-first .ensures) ∙ c .before .before .before .before .before .before .if2 .left) _ (c .before .before .before .before .second .ensures) _
+    (passed-as 64 8 _ _ _ _ _ (c .if3 .left) (c .before .before .before .arrive-second .ensures))))
 
 pub enter-spec : {M : Type 1} → statement M
 enter-spec =
     tie.close
     (tie.spec
     first-place-requires
-    settled-at-requires
-    pass-on-requires
-    store-at-requires
-    slice-read-count
-    add-count
-    slice-write-t
+    put-straight-requires
+    count-one-requires
     same-length
     returns
+    holds-first-requires
+    enter-settling-requires
     same-length-2
-    returns-2)
+    returns-2
+    second-requires
+    arrive-second-requires
+    count-one-requires-2
+    same-length-3
+    returns-3
+    same-length-4
+    returns-4)
