@@ -6,6 +6,7 @@ use reference::rng::Rng;
 use reference::table::{self, Shape};
 use reference::{identifier, lines, ours, plane};
 use std::hint::black_box;
+use std::ops::RangeInclusive;
 use std::time::Instant;
 
 const TURNS: u32 = 15;
@@ -36,26 +37,36 @@ fn compare_in(
     println!("{name:<48} {a:>10.1} {b:>10.1} {:>8.2}", a / b);
 }
 
-fn identifiers(rng: &mut Rng) {
+/// Identifiers of these lengths in turn, small letters, to their words.
+fn words(rng: &mut Rng, name: &str, lengths: RangeInclusive<usize>) {
     const N: u32 = 1000;
+    let ids: Vec<Vec<u8>> = lengths
+        .cycle()
+        .take(N as usize)
+        .map(|length| (0..length).map(|_| b'a' + rng.below(26) as u8).collect())
+        .collect();
+    compare_in(
+        20 * TURNS,
+        name,
+        N,
+        || {
+            for id in &ids {
+                black_box(ours::word(black_box(id)));
+            }
+        },
+        || {
+            for id in &ids {
+                let _ = black_box(identifier::word(black_box(id)));
+            }
+        },
+    );
+}
+
+/// All lengths together; then some by themselves, since the table of bytes is made anew at each of our calls.
+fn identifiers(rng: &mut Rng) {
+    words(rng, "identifier of 1 to 20 bytes to its word", 1..=20);
     for length in [1, 8, 20] {
-        let ids: Vec<Vec<u8>> = (0..N)
-            .map(|_| (0..length).map(|_| b'a' + rng.below(26) as u8).collect())
-            .collect();
-        compare(
-            &format!("identifier of {length} bytes to its word"),
-            N,
-            || {
-                for id in &ids {
-                    black_box(ours::word(black_box(id)));
-                }
-            },
-            || {
-                for id in &ids {
-                    let _ = black_box(identifier::word(black_box(id)));
-                }
-            },
-        );
+        words(rng, &format!("  of {length} alone"), length..=length);
     }
 }
 
@@ -217,14 +228,12 @@ fn fill(
     (taken as u32, t)
 }
 
-/// Adds to an empty table until the first refusal, and the size of the plane of what is in it then.
+/// Adds to an empty table until the first refusal.
 fn filling(rng: &mut Rng, b1: u64, b2: u64) {
     let ids = cards(rng, 8000);
     let ours = || fill(&ids, b1, b2, |t, id| ours::add(t, id, 7).cause == 0);
     let theirs = || fill(&ids, b1, b2, |t, id| table::add(t, id, 7).cause == 0);
     let (taken, t) = ours();
-    let mut bytes = vec![0; 6000];
-    let length = plane::write(&t, &mut bytes).value;
     assert_eq!((taken, t), theirs());
     compare_in(
         2,
@@ -236,11 +245,6 @@ fn filling(rng: &mut Rng, b1: u64, b2: u64) {
         || {
             black_box(theirs());
         },
-    );
-    println!(
-        "{:<48} {:>10.2}",
-        "plane bytes a live word at the first refusal",
-        length as f64 / f64::from(taken)
     );
 }
 
