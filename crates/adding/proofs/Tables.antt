@@ -56,15 +56,7 @@ module _ (n r : ℕ) where
       fits = h .short;
     }
 
-    -- one bucket is replaced by a sound one, or the base list by one that is not too long
-    pub first-kept : (i : ℕ) (b : Bucket) → SoundBucket n r b → Kept n r (withFirst T (set (T .level1) i b))
-    first-kept i b s = record {
-      range = ap (λ (m : ℕ). inRange m (length (T .level2))) (length-set (T .level1) i b) ∙ h .range;
-      first = set-sound (T .level1) i b (h .first) s;
-      second = h .second;
-      short = h .short;
-    }
-
+    -- one bucket of level 2 is replaced by a sound one, or the base list by one that is not too long
     pub second-kept : (i : ℕ) (b : Bucket) → SoundBucket n r b → Kept n r (withSecond T (set (T .level2) i b))
     second-kept i b s = record {
       range = ap (inRange (length (T .level1))) (length-set (T .level2) i b) ∙ h .range;

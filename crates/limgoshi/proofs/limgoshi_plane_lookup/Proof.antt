@@ -1,5 +1,7 @@
 -- `limgoshi::limgoshi_plane_lookup` meets its contract: what each call ensures, put together.
 -- Assumes nothing.
+use mathlib.Core.Path.{ap, _∙_}
+use Rattle.answer.specs.Numbers.{numberOf, valueOf}
 use borrow.Author.Needs.{needs}
 use Rattle.limgoshi.proofs.limgoshi_plane_lookup.Statement.{statement}
 use Rattle.limgoshi.proofs.limgoshi_plane_lookup.Tie as tie
@@ -14,7 +16,9 @@ number-requires : tie.Need-number-requires
 number-requires c κs = search needs
 
 returns : tie.Need-returns
-returns c = (cc, cc)
+returns c =
+    let a = c .before .before in
+    (c .number .ensures ∙ ap numberOf (a .lookup .ensures), c .before .value .ensures ∙ ap valueOf (a .lookup .ensures))
 
 pub limgoshi-plane-lookup-spec : {M : Type 1} → statement M
 limgoshi-plane-lookup-spec =

@@ -1,5 +1,7 @@
 -- `limgoshi::limgoshi_query` meets its contract: what each call ensures, put together.
 -- Assumes nothing.
+use mathlib.Core.Path.{ap, _∙_}
+use Rattle.answer.specs.Numbers.{numberOf, valueOf}
 use borrow.Author.Needs.{needs}
 use Rattle.limgoshi.proofs.limgoshi_query.Statement.{statement}
 use Rattle.limgoshi.proofs.limgoshi_query.Tie as tie
@@ -14,7 +16,9 @@ number-requires : tie.Need-number-requires
 number-requires c κs = search needs
 
 returns : tie.Need-returns
-returns c = (cc, cc)
+returns c =
+    let a = c .before .before in
+    (c .number .ensures ∙ ap numberOf (a .query .ensures .0), c .before .value .ensures ∙ ap valueOf (a .query .ensures .0))
 
 pub limgoshi-query-spec : {M : Type 1} → statement M
 limgoshi-query-spec = tie.close (tie.spec query-requires value-requires number-requires returns)

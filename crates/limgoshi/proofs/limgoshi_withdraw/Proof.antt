@@ -1,5 +1,7 @@
 -- `limgoshi::limgoshi_withdraw` meets its contract: what each call ensures, put together.
 -- Assumes nothing.
+use mathlib.Core.Path.{ap, _∙_}
+use Rattle.answer.specs.Numbers.{numberOf, valueOf}
 use borrow.Author.Needs.{needs}
 use Rattle.limgoshi.proofs.limgoshi_withdraw.Statement.{statement}
 use Rattle.limgoshi.proofs.limgoshi_withdraw.Tie as tie
@@ -17,7 +19,9 @@ same-length : tie.Need-same-length
 same-length c = search needs
 
 returns : tie.Need-returns
-returns c = (cc, cc, cc)
+returns c =
+    let a = c .before .before .before .before in
+    (c .number .ensures ∙ ap numberOf (a .withdraw .ensures .0), c .before .value .ensures ∙ ap valueOf (a .withdraw .ensures .0), a .withdraw .ensures .1)
 
 pub limgoshi-withdraw-spec : {M : Type 1} → statement M
 limgoshi-withdraw-spec =
