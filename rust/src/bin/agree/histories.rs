@@ -182,12 +182,15 @@ impl History {
 fn history(rng: &mut Rng, b1: u64, b2: u64) {
     let mut history = History::open(rng, Shape::new(b1, b2).expect("in range"));
     let cards = history.cards.len();
-    // Times of growth, of as many adds as withdrawals, of shrinking, with more and more cards.
+    // Times of growth, of as many adds as withdrawals, of shrinking, with more and more cards; the last ones grow, so that each table gets full.
     const TIMES: u64 = 20;
     let mut most = 0;
     for time in 1..=TIMES {
         let pool = cards * time as usize / TIMES as usize;
-        let (adds, withdrawals) = *rng.pick(&[(10, 1), (8, 2), (5, 4), (2, 9)]);
+        let (adds, withdrawals) = match time {
+            17.. => (10, 1),
+            _ => *rng.pick(&[(10, 1), (8, 2), (5, 4), (2, 9)]),
+        };
         for call in 1..=CALLS / TIMES {
             if rng.one_in(200) {
                 history.refused_open(rng);

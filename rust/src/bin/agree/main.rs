@@ -28,7 +28,7 @@ fn main() {
     tables::tables(&mut rng, 2_000 * times);
     planes::planes(&mut rng, 400 * times);
     planes::edges(&mut rng);
-    tables::histories(&mut rng, 8 * times);
+    tables::histories(&mut rng, if long { 200 } else { 8 });
     histories::long(&mut rng, long);
     lines::lines(&mut rng, 100 * times);
 }
