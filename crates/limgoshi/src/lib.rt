@@ -1,12 +1,12 @@
 // The library for C and Rust: one entry for each call, over table and plane. Each returns the number of the answer (0: accepted) and puts
 // the number that goes with it into `value`; include/limgoshi.h declares them. No entry has a `requires`.
-// Cites answer, table, adding and plane. Programs in other languages call it.
+// Cites answer, table, adding, plane and writing. Programs in other languages call it.
 ghost use mathlib.Core.Path.{_≡_};
 ghost use Rattle.answer.specs.Numbers.{numberOf, valueOf};
 ghost use Rattle.model.specs.Model.{add, change, withdraw, query};
 ghost use Rattle.concrete.specs.Calls.{openCall, call};
 ghost use Rattle.plane.specs.Lookup.{lookupCall};
-ghost use Rattle.plane.specs.Write.{writeCall};
+ghost use Rattle.writing.specs.Write.{writeCall};
 
 // Opens an empty table with b1 and b2 buckets.
 #[no_mangle]
@@ -63,7 +63,7 @@ pub extern "C" fn limgoshi_withdraw(t: &mut [u64], id: &[u8], value: &mut u64) -
 pub extern "C" fn limgoshi_write_plane(t: &[u64], out: &mut [u8], value: &mut u64) -> u64
     ensures { λ r. ⌜ (r ≡ numberOf (writeCall (now (t .entry)) (now (out .entry)) .answer)) × (now (value .exit) ≡ valueOf (writeCall (now (t .entry)) (now (out .entry)) .answer)) × (now (out .exit) ≡ writeCall (now (t .entry)) (now (out .entry)) .output) ⌝ }
 {
-    let a = plane::write(t, out);
+    let a = writing::write(t, out);
     *value = answer::value(a);
     answer::number(a)
 }

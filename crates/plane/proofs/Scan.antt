@@ -1,6 +1,6 @@
 -- What the loops over the records of a plane ask for: a record that fits, one that does not, and none left.
 -- Assumes nothing.
-use mathlib.Core.Path.{_≡_, refl, sym, _∙_}
+use mathlib.Core.Path.{_≡_, refl, sym, ap, _∙_}
 use mathlib.Core.Bool.{Bool, true, false, cond, not, _&&_}
 use mathlib.Core.List.{List}
 use Prim.Native.Nat.{ℕ, zero, suc, _+_, _-_, _*_, _≤_, _<_}
@@ -11,7 +11,7 @@ use borrow.Author.Tests.{not-true, not-false, leb-true, eqb-true, le-leb, lt-leb
 use lib.Dec.{leb, eqb}
 use lib.ListN.{length, getD, take, drop, length-drop}
 use lib.Seq.{take-all, drop-drop}
-use Rattle.lists.proofs.Tests.{true→T}
+use Rattle.lists.proofs.Tests.{true→T, cases}
 use Rattle.model.specs.Model.{baseLimit}
 use Rattle.concrete.specs.Layout.{inRange, mostBuckets1, mostBuckets2}
 use Rattle.plane.specs.declared.Wrong.{Wrong}
@@ -118,6 +118,19 @@ entries-room least (suc k) at p e =
     let n : entryBody < length p = whole-length entryKind entryBody p (both (whole entryKind entryBody p) _ (f .0) .0) in
     let i : k * entryLength ≤ length p - entryLength = rw length-drop at (entries-room _ k _ _ (f .1)) in
     omega arith
+
+-- the j entries that are there, then one that is cut
+pub entries-short : (least k j at : ℕ) (p : List ℕ) → j < k → length p < suc j * entryLength
+    → entriesWrong least k at p ≡ orNext (entriesWrong least j at p) (At (at + j * entryLength))
+unfolding entriesWrong
+entries-short least zero j at p h l = absurd (omega arith)
+entries-short least (suc k) zero at p h l =
+    entries-cut least (suc k) at p (omega arith) (whole-cut entryKind entryBody p (omega arith)) ∙ ap At {x = at} {y = at + 0 * entryLength} (omega arith)
+entries-short least (suc k) (suc j) at p h l =
+    let more : at + entryLength + j * entryLength ≡ at + suc j * entryLength = omega arith in
+    cases (entryFits least p)
+    (λ e. rw (e, ← more) (entries-short (suc (entryFrom p .word)) k j (at + entryLength) (drop entryLength p) (omega arith) (rw length-drop (omega arith))))
+    (λ e. rw e)
 
 -- the end: not there, with bytes after it, and right
 module _ (at : ℕ) (p : List ℕ) where

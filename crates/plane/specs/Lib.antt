@@ -2,6 +2,4 @@
 pub mod Record
 pub mod Plane
 pub mod Lookup
-pub mod Write
-pub mod Steps
 pub mod Fits

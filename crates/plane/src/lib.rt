@@ -1,30 +1,24 @@
-// The plane: the small file that every post reads to find the plan of an identifier. Writer, reader and lookup, for any bytes and numbers.
+// The plane: the small file that every post reads to find the plan of an identifier. Its records, its reader and the lookup, for any bytes.
 // Definitions, in document 01's words: specs/Record.antt and specs/Plane.antt (the bytes, which planes are wrong, what the bytes say),
-// specs/Lookup.antt and specs/Write.antt (the two calls), specs/Fits.antt (its limits); specs/Steps.antt is for the inner steps alone.
-// Statements: proofs/Statements.antt.
-// Cites codec, identifier, bucket, concrete (the table) and sound (its test). The library for C cites it.
+// specs/Lookup.antt (the call), specs/Fits.antt (its limits). Laws: proofs/Round.antt and proofs/Exact.antt (just the planes within
+// the limits have bytes that are wrong nowhere); the statements stand with the writer.
+// Cites codec, identifier, bucket, concrete and sound (the numbers of buckets). The writer and the library for C cite it.
 use answer::Answer;
 use bucket::Bucket;
 use identifier::Identifier;
 use identifier::Read;
 use sound::Table;
 ghost use mathlib.Core.Path.{_≡_};
-ghost use mathlib.Core.Bool.{true};
-ghost use Prim.Native.Nat.{ℕ, suc, _+_, _*_, _≤_, _<_};
+ghost use Prim.Native.Nat.{suc, _+_, _*_, _≤_, _<_};
 ghost use lib.ListN.{length, getD, drop};
 ghost use Rattle.lists.specs.Entries.{find};
-ghost use Rattle.codec.specs.Bytes.{toBytes};
-ghost use Rattle.codec.specs.Parts.{written};
 ghost use Rattle.gf2.specs.Vectors.{product};
-ghost use Rattle.bucket.specs.Words.{bucketWords};
 ghost use Rattle.model.specs.Model.{baseLimit};
-ghost use Rattle.concrete.specs.Layout.{mostBuckets1, mostBuckets2, header, bucketPlace};
+ghost use Rattle.concrete.specs.Layout.{mostBuckets1, mostBuckets2};
 ghost use Rattle.plane.specs.declared.Wrong.the-variants.{Nowhere};
-ghost use Rattle.plane.specs.Record.{bytesOf, readAll, bucketLength, entryLength, endLength, headerRecord, bucketRecord, bucketFrom, entryRecord, entryFrom, endRecord};
-ghost use Rattle.plane.specs.Plane.{planeBytes, bucketsAt, planeLength, whole, headerFits, bucketFits, bucketsWrong, entriesWrong, endFits, endWrong, recordsWrong, wrongAt, planeFrom};
-ghost use Rattle.concrete.specs.Calls.{rows, solutions, tableOf, shaped, sound};
-ghost use Rattle.plane.specs.Write.{planeOf, inFront, putFront, writeCall};
-ghost use Rattle.plane.specs.Steps.{seenFrom, pairFrom, recordsOf};
+ghost use Rattle.plane.specs.Record.{readAll, bucketLength, entryLength, bucketFrom, entryFrom};
+ghost use Rattle.plane.specs.Plane.{bucketsAt, whole, headerFits, bucketFits, bucketsWrong, entriesWrong, endFits, endWrong, recordsWrong, wrongAt, planeFrom};
+ghost use Rattle.concrete.specs.Calls.{solutions};
 ghost use Rattle.plane.specs.Lookup.{orStranger, levelPlan, secondPlan, planFrom, looked, lookupCall};
 
 // Where a plane is wrong first.
@@ -152,28 +146,45 @@ pub(crate) fn entry_word(p: &[u8]) -> u64
     codec::get_u64(p, 1)
 }
 
-// k base entries from the offset first on, after one of the word before.
-pub(crate) fn entries_after(plane: &[u8], first: usize, k: usize, before: u64) -> Wrong
-    requires { ⌜ first ≤ length (now plane) ⌝ }
+// k base entries from the offset first on, none of them cut, after one of the word before.
+pub(crate) fn ascending(plane: &[u8], first: usize, k: usize, before: u64) -> Wrong
+    requires { ⌜ first + k * entryLength ≤ length (now plane) ⌝ }
     ensures { λ r. ⌜ r ≡ entriesWrong (suc before) k first (drop first (now (plane .entry))) ⌝ }
 {
     let mut at = first;
     let mut left = k;
     let mut last = before;
     while 0 < left {
-        let p = &plane[at..];
-        if !whole(p, Record::ENTRY, Record::ENTRY_BODY) {
+        let next = at + Record::ENTRY_LEN;
+        let e = &plane[at..next];
+        if e[0] != Record::ENTRY {
             return Wrong::At(at);
         }
-        let word = entry_word(p);
+        let word = entry_word(e);
         if word <= last {
             return Wrong::At(at);
         }
         last = word;
-        at += Record::ENTRY_LEN;
+        at = next;
         left -= 1;
     }
     Wrong::Nowhere
+}
+
+// k base entries from the offset first on, after one of the word before: how many are not cut is found once.
+pub(crate) fn entries_after(plane: &[u8], first: usize, k: usize, before: u64) -> Wrong
+    requires { ⌜ first ≤ length (now plane) ⌝ }
+    ensures { λ r. ⌜ r ≡ entriesWrong (suc before) k first (drop first (now (plane .entry))) ⌝ }
+{
+    let there = (plane.len() - first) / Record::ENTRY_LEN;
+    if k <= there {
+        return ascending(plane, first, k, before);
+    }
+    let e = ascending(plane, first, there, before);
+    match e {
+        Wrong::At(at) => Wrong::At(at),
+        Wrong::Nowhere => Wrong::At(first + there * Record::ENTRY_LEN),
+    }
 }
 
 // k base entries from the offset first on.
@@ -349,158 +360,4 @@ pub fn lookup(id: &[u8], plane: &[u8]) -> Answer
         Read::Word(w) => lookup_word(w, plane),
         Read::Refused(a) => a,
     }
-}
-
-// Writes the words from the offset at on, 8 bytes each.
-pub(crate) fn put_words(out: &mut [u8], at: usize, words: &[u64])
-    requires { ⌜ at + length (now words) * 8 ≤ length (now out) ⌝ }
-    ensures { λ _. ⌜ now (out .exit) ≡ written at (bytesOf (toBytes 8) (now (words .entry))) (now (out .entry)) ⌝ }
-{
-    let mut i = 0;
-    while i < words.len() {
-        codec::put_u64(out, at + i * 8, words[i]);
-        i += 1;
-    }
-}
-
-// Writes the record of the bucket whose numbers are b at the offset at.
-pub(crate) fn put_bucket(out: &mut [u8], at: usize, b: &[u64])
-    requires { ⌜ (length (now b) ≡ bucketWords rows solutions) × (seenFrom rows solutions (now b) .bound < 256) × (at + bucketLength solutions ≤ length (now out)) ⌝ }
-    ensures { λ _. ⌜ now (out .exit) ≡ written at (bucketRecord (seenFrom rows solutions (now (b .entry)))) (now (out .entry)) ⌝ }
-{
-    out[at] = Record::BUCKET;
-    out[at + 1] = b[Bucket::BOUND_AT] as u8;
-    put_words(out, at + 2, &b[Bucket::SOLUTIONS_AT..Bucket::BOUND_AT]);
-}
-
-// Writes the record of a base entry at the offset at.
-pub(crate) fn put_entry(out: &mut [u8], at: usize, word: u64, plan: u64)
-    requires { ⌜ (plan < 256) × (at + entryLength ≤ length (now out)) ⌝ }
-    ensures { λ _. ⌜ now (out .exit) ≡ written at (entryRecord (record { word = word; plan = plan })) (now (out .entry)) ⌝ }
-{
-    out[at] = Record::ENTRY;
-    codec::put_u64(out, at + 1, word);
-    out[at + Record::ENTRY_BODY] = plan as u8;
-}
-
-// Writes the records of m buckets, whose numbers stand one after the other in b, from the offset at on.
-pub(crate) fn put_buckets(out: &mut [u8], at: usize, b: &[u64], m: usize)
-    requires { ⌜ (m * bucketWords rows solutions ≤ length (now b)) × (at + m * bucketLength solutions ≤ length (now out)) ⌝ }
-    requires low { ⌜ ((i : ℕ) → i < m → seenFrom rows solutions (drop (i * bucketWords rows solutions) (now b)) .bound < 256) ⌝ }
-    ensures { λ _. ⌜ now (out .exit) ≡ written at (bytesOf bucketRecord (readAll (bucketWords rows solutions) (seenFrom rows solutions) m (now (b .entry)))) (now (out .entry)) ⌝ }
-{
-    let mut i = 0;
-    while i < m {
-        let from = i * Bucket::WORDS;
-        let to = from + Bucket::WORDS;
-        put_bucket(out, at + i * Record::BUCKET_LEN, &b[from..to]);
-        i += 1;
-    }
-}
-
-// Writes the records of k base entries, whose pairs stand in front, from the offset at on.
-pub(crate) fn put_entries(out: &mut [u8], at: usize, pairs: &[u64], k: usize)
-    requires { ⌜ (k * 2 ≤ length (now pairs)) × (at + k * entryLength ≤ length (now out)) ⌝ }
-    requires plans { ⌜ ((i : ℕ) → i < k → pairFrom (drop (i * 2) (now pairs)) .plan < 256) ⌝ }
-    ensures { λ _. ⌜ now (out .exit) ≡ written at (bytesOf entryRecord (readAll 2 pairFrom k (now (pairs .entry)))) (now (out .entry)) ⌝ }
-{
-    let mut i = 0;
-    while i < k {
-        put_entry(
-            out,
-            at + i * Record::ENTRY_LEN,
-            pairs[i * 2],
-            pairs[i * 2 + 1],
-        );
-        i += 1;
-    }
-}
-
-// Writes the end at the offset at.
-pub(crate) fn put_end(out: &mut [u8], at: usize)
-    requires { ⌜ at + endLength ≤ length (now out) ⌝ }
-    ensures { λ _. ⌜ now (out .exit) ≡ written at endRecord (now (out .entry)) ⌝ }
-{
-    out[at] = Record::END;
-    codec::put_bytes(out, at + 1, b"END\n");
-}
-
-// Writes the header.
-pub(crate) fn put_header(out: &mut [u8], buckets1: u64, buckets2: u64, entries: u64)
-    requires { ⌜ (buckets1 < 256) × (buckets2 < 256) × (entries < 256) ⌝ }
-    ensures { λ _. ⌜ now (out .exit) ≡ written 0 (headerRecord buckets1 buckets2 entries) (now (out .entry)) ⌝ }
-{
-    let head = [
-        Record::HEADER,
-        Record::FORMAT,
-        buckets1 as u8,
-        buckets2 as u8,
-        entries as u8,
-    ];
-    codec::put_bytes(out, 0, &head);
-}
-
-// Writes the records after the header, of these numbers of buckets and base entries of the table t.
-pub(crate) fn put_records(out: &mut [u8], t: &[u64], buckets: usize, entries: usize)
-    requires { ⌜ (bucketPlace rows solutions buckets + entries * 2 ≤ length (now t)) × (planeLength solutions buckets entries ≤ length (now out)) ⌝ }
-    requires low { ⌜ ((i : ℕ) → i < buckets → seenFrom rows solutions (drop (i * bucketWords rows solutions) (drop header (now t))) .bound < 256) ⌝ }
-    requires plans { ⌜ ((i : ℕ) → i < entries → pairFrom (drop (i * 2) (drop (bucketPlace rows solutions buckets) (now t))) .plan < 256) ⌝ }
-    ensures { λ _. ⌜ now (out .exit) ≡ written bucketsAt (recordsOf rows solutions buckets entries (now (t .entry))) (now (out .entry)) ⌝ }
-{
-    let pairs_at = Table::HEADER + buckets * Bucket::WORDS;
-    let entries_at = Record::BUCKETS_AT + buckets * Record::BUCKET_LEN;
-    put_buckets(out, Record::BUCKETS_AT, &t[Table::HEADER..], buckets);
-    put_entries(out, entries_at, &t[pairs_at..], entries);
-    put_end(out, entries_at + entries * Record::ENTRY_LEN);
-}
-
-// Writes the plane of the sound table t in front of the output, which has room for it.
-pub(crate) fn write_plane(t: &[u64], out: &mut [u8])
-    requires { ⌜ (shaped (now t) ≡ true) × (sound (now t) ≡ true) × (length (planeBytes (planeOf (tableOf (now t)))) ≤ length (now out)) ⌝ }
-    ensures { λ _. ⌜ now (out .exit) ≡ inFront (planeBytes (planeOf (tableOf (now (t .entry))))) (now (out .entry)) .output ⌝ }
-{
-    let buckets1 = t[Table::BUCKETS_1_AT];
-    let buckets2 = t[Table::BUCKETS_2_AT];
-    let entries = t[Table::BASE_COUNT_AT];
-    put_header(out, buckets1, buckets2, entries);
-    put_records(out, t, (buckets1 + buckets2) as usize, entries as usize);
-}
-
-// The length of a plane.
-pub(crate) fn plane_len(buckets: usize, entries: usize) -> usize
-    requires { ⌜ (buckets ≤ mostBuckets1 + mostBuckets2) × (entries ≤ baseLimit) ⌝ }
-    ensures { λ r. ⌜ r ≡ planeLength solutions buckets entries ⌝ }
-{
-    Record::BUCKETS_AT
-        + buckets * Record::BUCKET_LEN
-        + entries * Record::ENTRY_LEN
-        + Record::END_LEN
-}
-
-// Writes the plane of the sound table t, if the output has room for it: cause 9.
-pub(crate) fn write_sound(t: &[u64], out: &mut [u8]) -> Answer
-    requires { ⌜ (shaped (now t) ≡ true) × (sound (now t) ≡ true) ⌝ }
-    ensures { λ r. ⌜ (r ≡ putFront (planeBytes (planeOf (tableOf (now (t .entry))))) (now (out .entry)) .answer) × (now (out .exit) ≡ putFront (planeBytes (planeOf (tableOf (now (t .entry))))) (now (out .entry)) .output) ⌝ }
-{
-    let buckets = (t[Table::BUCKETS_1_AT] + t[Table::BUCKETS_2_AT]) as usize;
-    let needed = plane_len(buckets, t[Table::BASE_COUNT_AT] as usize);
-    if out.len() < needed {
-        return Answer::ShortOutput(needed as u64);
-    }
-    write_plane(t, out);
-    Answer::Accepted(needed as u64)
-}
-
-// The plane of a table of any numbers, to the front of the output: causes 4, 5, 9. Nothing is written where it is turned down.
-pub fn write(t: &[u64], out: &mut [u8]) -> Answer
-    ensures { λ r. ⌜ (r ≡ writeCall (now (t .entry)) (now (out .entry)) .answer) × (now (out .exit) ≡ writeCall (now (t .entry)) (now (out .entry)) .output) ⌝ }
-{
-    if sound::shaped(t) {
-        if sound::sound(t) {
-            return write_sound(t, out);
-        }
-        return Answer::NotSound;
-    }
-    let size = t.len();
-    Answer::WrongTable(size as u64)
 }

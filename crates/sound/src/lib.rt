@@ -1,7 +1,7 @@
 // Document 01's causes 4 and 5: the test of a table that is handed in, for any length and any contents; and what a table of the right
 // shape has where: the places of buckets, their bounds, which level holds a vector. Each function is an equation with a definition of
 // concrete (specs/Layout.antt, Table.antt, Test.antt, Calls.antt); specs/Held.antt is for the crate's own functions. proofs/Shape.antt
-// has the laws of the places. Cites concrete, bucket, eliminate (the rows of K), identifier and hash; table and plane build on it.
+// has the laws of the places. Cites concrete, bucket, eliminate (the rows of K), identifier and hash; table, plane and writing build on it.
 use bucket::Bucket;
 ghost use mathlib.Core.Path.{_≡_};
 ghost use mathlib.Core.Bool.{true};

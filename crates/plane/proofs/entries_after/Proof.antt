@@ -1,105 +1,70 @@
--- `plane::entries_after` meets its contract. The entries before the offset `at` fit, and the last of them has the word `last`.
+-- `plane::entries_after` meets its contract: past the entries that are there the next one is cut.
 -- Assumes nothing.
-use mathlib.Core.Path.{_≡_, refl, sym, _∙_}
-use Prim.Native.Nat.{suc, _≤_}
+use mathlib.Core.Path.{_≡_, sym, _∙_}
+use mathlib.Core.List.{List}
+use Prim.Native.Nat.{ℕ, suc, _+_, _-_, _*_, _/_, _<_}
 use native.Mathlib.Omega.{arith}
 use borrow.Author.Needs.{needs}
-use lib.ListN.{length, drop}
-use mathlib.Core.Bool.{true}
-use Rattle.plane.specs.Record.{entryKind, entryBody}
-use Rattle.plane.specs.Plane.{whole, entriesWrong}
-use Rattle.plane.proofs.Scan.{rest, refused, passed, whole-next, entries-cut, entries-low, entries-step}
+use lib.ListN.{length, drop, length-drop}
+use Rattle.plane.specs.declared.Wrong.the-variants.{At}
+use Rattle.plane.specs.Record.{entryLength}
+use Rattle.plane.specs.Plane.{orNext, entriesWrong}
+use Rattle.plane.proofs.Scan.{entries-short}
 use Rattle.plane.proofs.entries_after.Statement.{statement}
 use Rattle.plane.proofs.entries_after.Tie as tie
 
-abbrev Inv-loop : tie.InvT-loop
-Inv-loop plane first k before at₀ left₀ last₀ at left last =
-    (at ≤ length plane) × (entriesWrong (suc before) k first (drop first plane) ≡ entriesWrong (suc last) left at (drop at plane))
+-- k entries, of which just `there` are not cut
+short : (least k first : ℕ) (p : List ℕ) → (length p - first) / entryLength < k
+    → entriesWrong least k first (drop first p) ≡ orNext (entriesWrong least ((length p - first) / entryLength) first (drop first p)) (At (first + (length p - first) / entryLength * entryLength))
+short least k first p h = entries-short least k ((length p - first) / entryLength) first (drop first p) h (rw length-drop (omega arith))
 
-abbrev μ-loop : tie.MeasureT-loop
-μ-loop plane first k before at₀ left₀ last₀ at left last = left
+sub-there : tie.Need-sub-there
+sub-there c = search needs
 
-loop-holds : tie.Need-loop-holds Inv-loop μ-loop
-loop-holds c = (search needs, refl)
+ascending-requires : tie.Need-ascending-requires
+ascending-requires c κs = search needs
 
-sub-p : tie.Need-sub-p Inv-loop μ-loop
-sub-p c = search needs
+returns : tie.Need-returns
+returns c = search needs
 
-part-p-start : tie.Need-part-p-start Inv-loop μ-loop
-part-p-start c = search needs
+ascending-requires-2 : tie.Need-ascending-requires-2
+ascending-requires-2 c κs = search needs
 
-part-p-end : tie.Need-part-p-end Inv-loop μ-loop
-part-p-end c = search needs
+enum-known-e : tie.Need-enum-known-e
+enum-known-e c = search needs
 
-whole-requires : tie.Need-whole-requires Inv-loop μ-loop
-whole-requires c κs = search needs
+enum-told : tie.Need-enum-told
+enum-told c = search needs
 
-returns : tie.Need-returns Inv-loop μ-loop
-returns c =
-    let b = c .before .before .before .before in
-    let p = b .before .before .args .plane .now in
-    let at = b .loop .at in
-    let cut = rw (rest at p) at (refused (c .before .whole .result) (c .before .whole .ensures) (c .if1 .taken)) in
-    sym (b .loop .inv .1 ∙ entries-cut (suc (b .loop .last)) (b .loop .left) at (drop at p) (c .before .before .before .loop-test .taken) cut)
+mul-t12 : tie.Need-mul-t12
+mul-t12 c = search needs
 
--- the entry is not cut
-there : (c : tie.Else1 Inv-loop μ-loop) → whole entryKind entryBody (drop (c .before .before .before .before .loop .at) (c .before .before .before .before .before .before .args .plane .now)) ≡ true
-there c = rw rest at (passed (c .before .whole .result) (c .before .whole .ensures) (c .if1 .left))
+add-t13 : tie.Need-add-t13
+add-t13 c = search needs
 
-entry-word-requires : tie.Need-entry-word-requires Inv-loop μ-loop
-entry-word-requires c κs = search needs
-
-returns-2 : tie.Need-returns-2 Inv-loop μ-loop
+returns-2 : tie.Need-returns-2
 returns-2 c =
-    let b = c .before .before .before .before .before .before in
-    let p = b .before .before .args .plane .now in
-    let at = b .loop .at in
-    let word = rw (rest at p) at (c .before .entry-word .ensures) in
-    sym (b .loop .inv .1 ∙ entries-low (suc (b .loop .last)) (b .loop .left) at (c .before .entry-word .result) (drop at p)
-    (c .before .before .before .before .before .loop-test .taken) (there (c .before .before)) word (omega arith))
+    let a = c .before .before .before .before .before .before .args in
+    let e = sym (c .before .before .before .ascending2 .ensures) ∙ c .before .e .given .1 in
+    rw (short (suc (a .before)) (a .k) (a .first) (a .plane .now) (omega arith), e)
 
-add-at : tie.Need-add-at Inv-loop μ-loop
-add-at c = search needs
-
-sub-left : tie.Need-sub-left Inv-loop μ-loop
-sub-left c = search needs
-
-loop-less : tie.Need-loop-less Inv-loop μ-loop
-loop-less c = search needs
-
-loop-again : tie.Need-loop-again Inv-loop μ-loop
-loop-again c =
-    let b = c .before .before .before .before .before .before in
-    let p = b .before .before .args .plane .now in
-    let at = b .loop .at in
-    let word = rw (rest at p) at (c .before .entry-word .ensures) in (
-      whole-next 3 9 at p (there (c .before .before)),
-      b .loop .inv .1 ∙ entries-step (suc (b .loop .last)) (b .loop .left) at (c .before .entry-word .result) p
-          (c .before .before .before .before .before .loop-test .taken) (there (c .before .before)) word (omega arith),
-    )
-
-returns-3 : tie.Need-returns-3 Inv-loop μ-loop
-unfolding entriesWrong
+returns-3 : tie.Need-returns-3
 returns-3 c =
-    let z : c .before .loop .left ≡ 0 = omega arith in
-    sym (rw z at (c .before .loop .inv .1))
+    let a = c .before .before .before .before .before .args in
+    let e = sym (c .before .before .ascending2 .ensures) ∙ c .enum-told .given .1 in
+    rw (short (suc (a .before)) (a .k) (a .first) (a .plane .now) (omega arith), e)
 
 pub entries-after-spec : {M : Type 1} → statement M
 entries-after-spec =
     tie.close
     (tie.spec
-    Inv-loop
-    μ-loop
-    loop-holds
-    sub-p
-    part-p-start
-    part-p-end
-    whole-requires
+    sub-there
+    ascending-requires
     returns
-    entry-word-requires
+    ascending-requires-2
+    enum-known-e
+    enum-told
+    mul-t12
+    add-t13
     returns-2
-    add-at
-    sub-left
-    loop-less
-    loop-again
     returns-3)

@@ -1,0 +1,7 @@
+-- The laws of the crate.
+pub mod Shown
+pub mod Put
+pub mod Through
+pub mod Accepted
+pub mod Bounded
+pub mod Statements

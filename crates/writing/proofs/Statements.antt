@@ -1,0 +1,87 @@
+-- The statements of document 01 about the plane.
+-- Assumes nothing.
+use mathlib.Core.Logic.{_↔_}
+use mathlib.Core.Path.{_≡_, refl, ap, _∙_}
+use mathlib.Core.List.{List}
+use mathlib.Core.Option.{some}
+use Prim.Native.Nat.{ℕ, _+_, _*_}
+use native.Mathlib.Omega.{arith}
+use lib.ListN.{length, take}
+use Rattle.answer.specs.declared.Answer.the-variants.{Accepted}
+use Rattle.identifier.specs.Identifier.{readOf}
+use Rattle.identifier.specs.declared.Read.the-variants.{Word}
+use Rattle.identifier.proofs.Causes.{read-word}
+use Rattle.identifier.proofs.Words.{word-lt}
+use Rattle.model.specs.Model.{baseLimit}
+use Rattle.model.specs.History.{told}
+use Rattle.model.specs.Machine.{after}
+use Rattle.concrete.specs.Layout.{mostBuckets1, mostBuckets2}
+use Rattle.concrete.specs.Calls.{rows, solutions, tableOf, planIn, FlatSound}
+use Rattle.concrete.specs.History.{Put, tables, Opened, acceptedCalls}
+use Rattle.concrete.proofs.Statements.{sound-exactly, always-sound, plan}
+use Rattle.plane.specs.declared.Wrong.the-variants.{Nowhere}
+use Rattle.plane.specs.Plane.{Plane, planeBytes, planeLength, planeFrom, wrongAt}
+use Rattle.plane.specs.Lookup.{lookupCall}
+use Rattle.plane.specs.Fits.{Fits, OfPlane}
+use Rattle.writing.specs.Write.{planeOf, putFront, writeCall, shownTo}
+use Rattle.plane.proofs.Round.{plane-length, written-right, written-read}
+use Rattle.plane.proofs.Exact.{AllBytes, read-written, read-fits}
+use Rattle.writing.proofs.Accepted.{shows, was-shaped, was-sound, was-written}
+use Rattle.writing.proofs.Shown.{Words, Sols, narrow, live-shown}
+use Rattle.writing.proofs.Bounded.{after-sols}
+
+-- ---- "The plane", at every number r of solution words
+
+-- wrong nowhere exactly if the bytes are those of a plane within the limits
+pub right-exactly : (r : ℕ) (p : List ℕ) → AllBytes p → (wrongAt r p ≡ Nowhere) ↔ OfPlane r p
+right-exactly r p b = (
+  λ e. record { plane = planeFrom r p; fits = read-fits r p e b; bytes = read-written r p e b },
+  λ o. rw (o .bytes) at (written-right r (o .plane) (o .fits)),
+)
+
+-- the plane that was written is read
+pub read-back : (r : ℕ) (P : Plane) → Fits r P → planeFrom r (planeBytes P) ≡ P
+read-back = written-read
+
+-- "Length 10 + 66 × buckets + 10 × entries, so 142 to 5,930"
+pub length-is : (P : Plane) → Fits solutions P → length (planeBytes P) ≡ 10 + 66 * (length (P .level1) + length (P .level2)) + 10 * length (P .base)
+length-is P h = plane-length solutions P h ∙ omega arith
+
+pub shortest : planeLength solutions 2 0 ≡ 142
+shortest = refl
+
+pub longest : planeLength solutions (mostBuckets1 + mostBuckets2) baseLimit ≡ 5930
+longest = refl
+
+-- ---- statement 2, the plane's half
+
+module _ (t out : List ℕ) (n : ℕ) (e : writeCall t out .answer ≡ Accepted n) where
+  gives : Sols (tableOf t) → FlatSound t → (id : List ℕ) → lookupCall id (take n (writeCall t out .output)) ≡ shownTo (tableOf t) (readOf id)
+  gives s h id = ap (lookupCall id) (was-written t out n e) ∙ shows t s (was-shaped t out n e .0) h id
+
+  module _ (w : Words t) where
+    -- written from a table, whose numbers have 64 bits, and read again, the plane gives for each identifier, live or not, the answer of
+    -- the table's own XOR words or base list
+    pub statement-2 : (id : List ℕ) → lookupCall id (take n (writeCall t out .output)) ≡ shownTo (tableOf t) (readOf id)
+    statement-2 = gives (narrow rows solutions t w) (sound-exactly t (was-shaped t out n e .0) w .0 (was-sound t out n e .0))
+
+    -- so a live identifier gets its word's plan
+    pub live-plan : (id : List ℕ) (v p : ℕ) → readOf id ≡ Word v → planIn t v ≡ some p → lookupCall id (take n (writeCall t out .output)) ≡ Accepted p
+    live-plan id v p i h = statement-2 id ∙ ap (shownTo (tableOf t)) i ∙ ap Accepted (live-shown rows solutions (tableOf t) v p h)
+
+-- after any list of calls
+module _ (t : List ℕ) (o : Opened t) (ps : List Put) (out : List ℕ) (n : ℕ) (e : writeCall (after tables t ps) out .answer ≡ Accepted n) where
+  pub list-gives : (id : List ℕ) → lookupCall id (take n (writeCall (after tables t ps) out .output)) ≡ shownTo (tableOf (after tables t ps)) (readOf id)
+  list-gives = gives (after tables t ps) out n e (after-sols t o ps) (always-sound t o ps .2)
+
+  -- every live identifier gets its word's last accepted plan from the plane
+  pub last-plan : (id : List ℕ) (v p : ℕ) → readOf id ≡ Word v → told v (acceptedCalls t ps) ≡ some p → lookupCall id (take n (writeCall (after tables t ps) out .output)) ≡ Accepted p
+  last-plan id v p i h =
+      list-gives id ∙ ap (shownTo (tableOf (after tables t ps))) i
+      ∙ ap Accepted (live-shown rows solutions (tableOf (after tables t ps)) v p (plan t o ps v (rw (read-word id v .0 i .2) (word-lt id)) ∙ h))
+
+-- in a list of calls the writer meets no cause but 9
+pub list-writes : (t : List ℕ) → Opened t → (ps : List Put) (out : List ℕ)
+    → writeCall (after tables t ps) out ≡ putFront (planeBytes (planeOf (tableOf (after tables t ps)))) out
+unfolding writeCall
+list-writes t o ps out = rw (always-sound t o ps .0, always-sound t o ps .1)
