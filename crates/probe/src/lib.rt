@@ -1,6 +1,6 @@
 // Entries for other languages over the parts of the library: a program made without this code is compared with them.
 // Definitions: specs/Probe.antt (identifiers), specs/Steps.antt (one bucket), specs/Fill.antt (a table that is filled).
-// Cites answer, codec, hash, identifier, bucket, eliminate, table, adding and session. Nothing cites it.
+// Cites answer, codec, hash, identifier, bucket, eliminate, table, adding, text and session. Nothing cites it.
 use answer::Answer;
 use bucket::Bucket;
 use identifier::Identifier;
@@ -14,7 +14,8 @@ ghost use Rattle.hash.specs.Fnv.{fnvOf};
 ghost use Rattle.identifier.specs.Identifier.{readOf};
 ghost use Rattle.bucket.specs.Bucket.{add, withdraw};
 ghost use Prim.Native.Nat.{_*_};
-ghost use Rattle.session.specs.Run.{inputLimit, mostPrinted, output};
+ghost use Rattle.text.specs.Printed.{mostPrinted};
+ghost use Rattle.session.specs.Run.{inputLimit, output};
 ghost use Rattle.session.specs.Buffer.{Printed};
 ghost use Rattle.probe.specs.Steps.{probed, probedRow, probedMatrix};
 ghost use Rattle.model.specs.Machine.{accepted};

@@ -20,14 +20,15 @@ use Rattle.concrete.specs.Calls.{rows, solutions, openCall}
 use Rattle.concrete.specs.History.{PlanFits, flatState}
 use Rattle.concrete.proofs.Calls.{FlatStands}
 use Rattle.concrete.proofs.Statements.{refines, opening-stands, stands-sound, sound-stands}
-use Rattle.session.specs.declared.Number.{Number}
-use Rattle.session.specs.declared.Number.the-variants.{Of, Wrong}
-use Rattle.session.specs.Decimal.{numberTo}
-use Rattle.session.specs.Line.{lf, parted, Command, opening, ask, bad, openWord, addWord, setWord, delWord, getWord, mostBuckets, mostPlan, openWith, planned, ofTwo, ofThree, ofFields, commandOf}
-use Rattle.session.specs.Parsed.{AtMost}
+use Rattle.text.specs.declared.Number.{Number}
+use Rattle.text.specs.declared.Number.the-variants.{Of, Wrong}
+use Rattle.text.specs.Decimal.{numberTo}
+use Rattle.text.specs.Line.{lf, parted, Command, opening, ask, bad, openWord, addWord, setWord, delWord, getWord, mostBuckets, mostPlan, openWith, planned, ofTwo, ofThree, ofFields, commandOf}
+use Rattle.text.specs.Parsed.{AtMost}
+use Rattle.text.specs.Printed.{printed}
+use Rattle.text.proofs.Decimal.{number-most}
 use Rattle.session.specs.Buffer.{AllReady}
-use Rattle.session.specs.Run.{inputLimit, lineLimit, printed, Turn, obey, refuse, turn, outputFrom, outputOf, tables, output, states}
-use Rattle.session.proofs.Decimal.{number-most}
+use Rattle.session.specs.Run.{inputLimit, lineLimit, Turn, obey, refuse, turn, outputFrom, outputOf, tables, output, states}
 
 -- ---- the plan of a command is a byte
 

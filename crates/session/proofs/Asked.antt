@@ -12,10 +12,10 @@ use Rattle.concrete.specs.Calls.{turnedDown, served, call}
 use Rattle.concrete.specs.History.{flatState}
 use Rattle.concrete.proofs.Statements.{stands-sound, sound-stands}
 use Rattle.table.specs.Ready.{Ready, admitted}
-use Rattle.session.specs.declared.Kind.{Kind}
-use Rattle.session.specs.declared.Kind.the-variants.{Add, Set, Del, Get}
-use Rattle.session.specs.Parsed.{callOf}
 use Rattle.table.proofs.Calls.{call-word, call-refused, admits}
+use Rattle.text.specs.declared.Kind.{Kind}
+use Rattle.text.specs.declared.Kind.the-variants.{Add, Set, Del, Get}
+use Rattle.text.specs.Parsed.{callOf}
 
 -- neither cause 4 nor cause 5 is met
 admits-all : (t : List ℕ) → Ready t → (x : Read) → x ≡ admitted t x

@@ -7,29 +7,17 @@ use mathlib.Core.Option.{Option, none, some}
 use Prim.Native.Nat.{ℕ, suc, _+_, _≤_, _<_}
 use native.Mathlib.Omega.{arith}
 use lib.Dec.{leb}
-use lib.ListN.{length, drop, length-append, drop-of-length-le}
+use lib.ListN.{length, drop, drop-of-length-le}
 use lib.Seq.{drop-cons}
 use borrow.Author.Tests.{le-leb, lt-leb}
-use Rattle.answer.specs.declared.Answer.{Answer}
-use Rattle.answer.specs.Numbers.{numberOf, valueOf}
-use Rattle.model.specs.Machine.{accepted}
-use Rattle.session.specs.Decimal.{decimal}
-use Rattle.session.specs.Line.{lf, placeOf, parted, Command, opening, ask, bad, commandOf}
-use Rattle.session.specs.Parsed.{between}
-use Rattle.session.specs.Run.{lineLimit, mostPrinted, badLine, okStart, noStart, printed, Desk, refuse, obey, turn, outputFrom}
-use Rattle.session.proofs.Parted.{parted-some, parted-from, parted-last}
-use Rattle.session.proofs.Printed.{decimal-most}
+use Rattle.text.specs.Line.{lf, placeOf, parted, Command, opening, ask, bad, commandOf}
+use Rattle.text.specs.Parsed.{between}
+use Rattle.text.specs.Printed.{mostPrinted, badLine}
+use Rattle.text.proofs.Parted.{parted-some, parted-from, parted-last}
+use Rattle.text.proofs.Printed.{printed-most}
+use Rattle.session.specs.Run.{lineLimit, Desk, refuse, obey, turn, outputFrom}
 
 -- ---- the longest line that is printed
-
-printed-most : (a : Answer) → length (printed a) ≤ mostPrinted
-unfolding printed
-printed-most a = by-test (accepted a)
-  where
-    by-test : (t : Bool)
-        → length (cond t (okStart ++ (decimal (valueOf a) ++ (lf ∷ []))) (noStart ++ (decimal (numberOf a) ++ (lf ∷ [])))) ≤ mostPrinted
-    by-test true = rw (length-append (decimal (valueOf a)) (lf ∷ [])) (omega (arith, decimal-most (valueOf a)))
-    by-test false = rw (length-append (decimal (numberOf a)) (lf ∷ [])) (omega (arith, decimal-most (numberOf a)))
 
 module _ {T : Type 0} (D : Desk T) where
   obey-most : (m : Option T) (c : Command) → length (obey D m c .output) ≤ mostPrinted

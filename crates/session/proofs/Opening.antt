@@ -1,18 +1,16 @@
 -- What is open, in the first numbers of a buffer for the longest table.
 -- Assumes nothing.
 use mathlib.Core.Path.{_≡_, sym, ap, _∙_, subst}
-use mathlib.Core.Bool.{true, false}
+use mathlib.Core.Bool.{true}
 use mathlib.Core.List.{List, _++_}
-use mathlib.Core.Option.{Option, none, some}
-use Prim.Native.Nat.{ℕ, _+_, _≤_, _<_}
+use mathlib.Core.Option.{none, some}
+use Prim.Native.Nat.{ℕ, _+_, _≤_}
 use native.Mathlib.Omega.{arith}
 use lib.ListN.{length, take, drop}
 use lib.Seq.{length-take-le, take-append-le, take-all}
 use borrow.Author.Tests.{eq-eqb, ne-eqb}
-use Rattle.answer.specs.declared.Answer.{Answer}
-use Rattle.answer.specs.declared.Answer.the-variants.{WrongBuckets}
 use Rattle.concrete.specs.Layout.{inRange, lengthOf}
-use Rattle.concrete.specs.Calls.{rows, solutions, Outcome, openCall}
+use Rattle.concrete.specs.Calls.{rows, solutions, openCall}
 use Rattle.sound.proofs.Shape.{range}
 use Rattle.table.specs.Ready.{Ready}
 use Rattle.table.proofs.Opened.{accepted}

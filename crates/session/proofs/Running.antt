@@ -1,7 +1,7 @@
 -- A run at the start of a line: what is printed, and what the lines from there on add to it.
 -- Assumes nothing.
-use mathlib.Core.Path.{_≡_, refl, sym, ap, _∙_, subst, subst⁻¹}
-use mathlib.Core.List.{List, [], _++_}
+use mathlib.Core.Path.{_≡_, refl, sym, ap, _∙_, subst⁻¹}
+use mathlib.Core.List.{List, _++_}
 use mathlib.Core.Option.{Option, none}
 use Prim.Native.Nat.{ℕ, _+_, _*_, _≤_, _<_}
 use native.Mathlib.Nat.{zero-add}
@@ -9,10 +9,11 @@ use native.Mathlib.Omega.{arith}
 use lib.ListN.{length, take, drop, length-append, length-take}
 use Rattle.codec.specs.Parts.{written}
 use Rattle.codec.proofs.Part.{written-append, written-none}
+use Rattle.text.specs.Line.{lf, placeOf, parted}
+use Rattle.text.specs.Parsed.{between}
+use Rattle.text.specs.Printed.{mostPrinted, badLine}
 use Rattle.session.specs.declared.Progress.{Progress}
-use Rattle.session.specs.Line.{lf, placeOf, parted}
-use Rattle.session.specs.Parsed.{between}
-use Rattle.session.specs.Run.{inputLimit, mostPrinted, badLine, turn, outputFrom, tables, output}
+use Rattle.session.specs.Run.{inputLimit, turn, outputFrom, tables, output}
 use Rattle.session.specs.Buffer.{heldIn, AllReady, Holds, Did, Printed}
 use Rattle.session.proofs.Agree.{ready-next}
 use Rattle.session.proofs.Lines.{turn-most, from-line, from-unfinished, from-end}

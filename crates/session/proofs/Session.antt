@@ -7,9 +7,10 @@ use Rattle.codec.specs.Bytes.{eqList}
 use Rattle.hash.specs.Mix.{mixOf}
 use Rattle.hash.specs.Fnv.{fnvFrom}
 use Rattle.identifier.specs.Identifier.{allowed, folded, wordOf, firstRefused, readOf}
-use Rattle.session.specs.Decimal.{readOn, numberTo, digitsThen}
-use Rattle.session.specs.Line.{parted, ofTwo, ofThree}
-use Rattle.session.specs.Run.{printed, outputOf, output, states}
+use Rattle.text.specs.Decimal.{readOn, numberTo, digitsThen}
+use Rattle.text.specs.Line.{parted, ofTwo, ofThree}
+use Rattle.text.specs.Printed.{printed}
+use Rattle.session.specs.Run.{outputOf, output, states}
 use Rattle.session.proofs.Agree.{as-model}
 
 input : List ℕ

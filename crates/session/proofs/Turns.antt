@@ -3,7 +3,7 @@
 use mathlib.Core.Path.{_≡_, refl, sym, ap, _∙_, subst⁻¹}
 use mathlib.Core.Bool.{true, false}
 use mathlib.Core.List.{List, _++_}
-use mathlib.Core.Option.{Option, some}
+use mathlib.Core.Option.{some}
 use Prim.Native.Nat.{ℕ, _+_, _≤_}
 use native.Mathlib.Omega.{arith}
 use lib.ListN.{length, take, drop, length-append}
@@ -14,11 +14,12 @@ use Rattle.answer.specs.declared.Answer.the-variants.{WrongBuckets}
 use Rattle.model.specs.Model.{Call}
 use Rattle.concrete.specs.Layout.{inRange, lengthOf}
 use Rattle.concrete.specs.Calls.{rows, solutions, Outcome, openCall, call}
-use Rattle.session.specs.Line.{opening, ask}
-use Rattle.session.specs.Run.{badLine, printed, Turn, refuse, obey, tables}
-use Rattle.session.specs.Buffer.{heldIn, Holds, Did}
+use Rattle.text.specs.Line.{opening, ask}
+use Rattle.text.specs.Printed.{badLine, printed}
+use Rattle.session.specs.Run.{Turn, refuse, obey, tables}
+use Rattle.session.specs.Buffer.{heldIn, Did}
 use Rattle.session.proofs.Agree.{open-is}
-use Rattle.session.proofs.Opening.{longest, held-none, held-some, held-part, part-fits, part-length, part-some, opened-part}
+use Rattle.session.proofs.Opening.{longest, held-none, held-some, held-part, part-length, part-some, opened-part}
 
 module _ (at k : ℕ) (o o' : List ℕ) where
   -- the bytes l are printed, and k is the next index

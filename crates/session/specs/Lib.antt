@@ -1,5 +1,2 @@
-pub mod Decimal
-pub mod Line
-pub mod Parsed
 pub mod Run
 pub mod Buffer

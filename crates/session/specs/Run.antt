@@ -1,6 +1,6 @@
--- What the line program prints; document 01, "The line program".
+-- What the line program prints for an input; document 01, "The line program".
 -- Assumes nothing.
-use Prim.Native.Nat.{ℕ, suc, _+_}
+use Prim.Native.Nat.{ℕ, suc}
 use mathlib.Core.Bool.{cond}
 use mathlib.Core.List.{List, [], _∷_, _++_}
 use mathlib.Core.Option.{Option, none, some}
@@ -8,15 +8,14 @@ use lib.Dec.{leb}
 use lib.ListN.{length, take, replicate}
 use Rattle.answer.specs.declared.Answer.{Answer}
 use Rattle.answer.specs.declared.Answer.the-variants.{Accepted, WrongBuckets}
-use Rattle.answer.specs.Numbers.{numberOf, valueOf}
 use Rattle.model.specs.Model as M
 use Rattle.model.specs.Model.{State, Call}
 use Rattle.model.specs.Request.{serve}
 use Rattle.model.specs.Machine.{Machine, accepted}
 use Rattle.concrete.specs.Layout.{inRange, lengthOf}
 use Rattle.concrete.specs.Calls.{rows, solutions, openCall, call}
-use Rattle.session.specs.Decimal.{mostDigits, decimal}
-use Rattle.session.specs.Line.{lf, space, parted, Command, opening, ask, bad, commandOf}
+use Rattle.text.specs.Line.{lf, parted, Command, opening, ask, bad, commandOf}
+use Rattle.text.specs.Printed.{badLine, printed}
 
 -- the first 64 KiB count
 abbrev pub inputLimit : ℕ
@@ -25,26 +24,6 @@ inputLimit = 65536
 -- a line has at most 64 bytes with its LF
 abbrev pub lineLimit : ℕ
 lineLimit = 64
-
--- `bad`
-abbrev pub badLine : List ℕ
-badLine = 0x62 ∷ 0x61 ∷ 0x64 ∷ lf ∷ []
-
--- `ok `
-abbrev pub okStart : List ℕ
-okStart = 0x6f ∷ 0x6b ∷ space ∷ []
-
--- `no `
-abbrev pub noStart : List ℕ
-noStart = 0x6e ∷ 0x6f ∷ space ∷ []
-
--- an answer printed: `ok N`, the number returned, or `no N`, the cause
-unfoldable pub printed : Answer → List ℕ
-printed a = cond (accepted a) (okStart ++ (decimal (valueOf a) ++ (lf ∷ []))) (noStart ++ (decimal (numberOf a) ++ (lf ∷ [])))
-
--- the longest line that is printed: `ok `, the digits of a number and LF
-abbrev pub mostPrinted : ℕ
-mostPrinted = length okStart + (mostDigits + 1)
 
 -- what takes openings and calls: the answer to an opening, what an accepted one leaves, and the calls put to that
 pub record Desk (T : Type 0) : Type 0 where

@@ -2,7 +2,7 @@
 -- Assumes nothing.
 use mathlib.Core.Path.{sym}
 use lib.Seq.{length-take-le}
-use Rattle.session.specs.Parsed.{callOf}
+use Rattle.text.specs.Parsed.{callOf}
 use Rattle.session.proofs.Opening.{held-ready}
 use Rattle.session.proofs.Turns.{ask-bad, ask-did}
 use borrow.Author.Needs.{needs}

@@ -2,8 +2,8 @@
 -- Assumes nothing.
 use mathlib.Core.Path.{subst}
 use lib.ListN.{length}
-use Rattle.session.specs.declared.Parsed.the-variants.{Ask}
-use Rattle.session.specs.Parsed.{Within}
+use Rattle.text.specs.declared.Parsed.the-variants.{Ask}
+use Rattle.text.specs.Parsed.{Within}
 use Rattle.session.proofs.Turns.{bad-did}
 use borrow.Author.Needs.{needs}
 use Rattle.session.proofs.obey.Statement.{statement}

@@ -1,7 +1,6 @@
 -- `session::run` meets its contract.
 -- Assumes nothing.
 use mathlib.Core.Path.{refl, sym}
-use native.Mathlib.Omega.{arith}
 use lib.ListN.{take}
 use lib.Seq.{take-all, length-take-le}
 use Rattle.session.proofs.Running.{short, run-printed}

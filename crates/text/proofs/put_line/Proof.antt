@@ -1,10 +1,10 @@
--- `session::put_line` meets its contract: three parts are written one after the other.
+-- `text::put_line` meets its contract: three parts are written one after the other.
 -- Assumes nothing.
 use native.Mathlib.Omega.{arith}
-use Rattle.session.proofs.Printed.{decimal-most, line-written}
+use Rattle.text.proofs.Printed.{decimal-most, line-written}
 use borrow.Author.Needs.{needs}
-use Rattle.session.proofs.put_line.Statement.{statement}
-use Rattle.session.proofs.put_line.Tie as tie
+use Rattle.text.proofs.put_line.Statement.{statement}
+use Rattle.text.proofs.put_line.Tie as tie
 
 add-next : tie.Need-add-next
 add-next c = search needs

@@ -11,8 +11,8 @@ use lib.Dec.{eqb}
 use lib.ListN.{length, getD, take, drop, drop-of-length-le, length-drop}
 use lib.Seq.{drop-cons, drop-drop}
 use borrow.Author.Tests.{eq-eqb, ne-eqb}
-use Rattle.session.specs.Line.{space, placeOf, before, parted, bad, ofTwo, ofThree, ofFields, commandOf}
-use Rattle.session.specs.Parsed.{between}
+use Rattle.text.specs.Line.{space, placeOf, before, parted, bad, ofTwo, ofThree, ofFields, commandOf}
+use Rattle.text.specs.Parsed.{between}
 
 -- ---- the first place
 

@@ -6,9 +6,9 @@ use mathlib.Core.List.{List, [], _∷_}
 use lib.Dec.{eqb}
 use Rattle.codec.specs.Bytes.{eqList}
 use Rattle.model.specs.Model.{Call, add, change, withdraw, query}
-use Rattle.session.specs.declared.Number.{Number}
-use Rattle.session.specs.declared.Number.the-variants.{Of, Wrong}
-use Rattle.session.specs.Decimal.{numberTo}
+use Rattle.text.specs.declared.Number.{Number}
+use Rattle.text.specs.declared.Number.the-variants.{Of, Wrong}
+use Rattle.text.specs.Decimal.{numberTo}
 
 -- LF
 abbrev pub lf : ℕ

@@ -1,12 +1,12 @@
--- `session::three_fields` meets its contract.
+-- `text::three_fields` meets its contract.
 -- Assumes nothing.
 use mathlib.Core.Path.{sym, _∙_}
 use native.Mathlib.Omega.{arith}
 use lib.Seq.{length-take-le}
-use Rattle.session.proofs.Forms.{three-open, three-add, three-set, three-bad}
+use Rattle.text.proofs.Forms.{three-open, three-add, three-set, three-bad}
 use borrow.Author.Needs.{needs}
-use Rattle.session.proofs.three_fields.Statement.{statement}
-use Rattle.session.proofs.three_fields.Tie as tie
+use Rattle.text.proofs.three_fields.Statement.{statement}
+use Rattle.text.proofs.three_fields.Tie as tie
 
 add-start : tie.Need-add-start
 add-start c = search needs

@@ -12,9 +12,10 @@ use Rattle.codec.specs.Parts.{written}
 use Rattle.codec.proofs.Part.{written-append}
 use Rattle.answer.specs.declared.Answer.{Answer}
 use Rattle.answer.specs.Numbers.{numberOf, valueOf}
-use Rattle.session.specs.Decimal.{digitOf, digitsThen, mostDigits, decimal}
-use Rattle.session.specs.Line.{lf}
-use Rattle.session.specs.Run.{okStart, noStart, printed}
+use Rattle.model.specs.Machine.{accepted}
+use Rattle.text.specs.Decimal.{digitOf, digitsThen, mostDigits, decimal}
+use Rattle.text.specs.Line.{lf}
+use Rattle.text.specs.Printed.{okStart, noStart, printed, mostPrinted}
 
 -- ---- lengths
 
@@ -30,6 +31,16 @@ digits-most (suc k) n s = by-test (ltb n 10) (digits-most k (n / 10) (digitOf (n
 
 pub decimal-most : (n : ℕ) → length (decimal n) ≤ mostDigits
 decimal-most n = digits-most mostDigits n []
+
+-- the longest line that is printed
+pub printed-most : (a : Answer) → length (printed a) ≤ mostPrinted
+unfolding printed
+printed-most a = by-test (accepted a)
+  where
+    by-test : (t : Bool)
+        → length (cond t (okStart ++ (decimal (valueOf a) ++ (lf ∷ []))) (noStart ++ (decimal (numberOf a) ++ (lf ∷ [])))) ≤ mostPrinted
+    by-test true = rw (length-append (decimal (valueOf a)) (lf ∷ [])) (omega (arith, decimal-most (valueOf a)))
+    by-test false = rw (length-append (decimal (numberOf a)) (lf ∷ [])) (omega (arith, decimal-most (numberOf a)))
 
 -- ---- an answer
 

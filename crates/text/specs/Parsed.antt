@@ -4,13 +4,13 @@ use Prim.Native.Nat.{ℕ, _-_, _≤_}
 use mathlib.Core.List.{List}
 use Rattle.codec.specs.Parts.{partAt}
 use Rattle.model.specs.Model.{Call, add, change, withdraw, query}
-use Rattle.session.specs.declared.Kind.{Kind}
-use Rattle.session.specs.declared.Kind.the-variants.{Add, Set, Del, Get}
-use Rattle.session.specs.declared.Number.{Number}
-use Rattle.session.specs.declared.Number.the-variants.{Of, Wrong}
-use Rattle.session.specs.declared.Parsed.{Parsed}
-use Rattle.session.specs.declared.Parsed.the-variants.{Open, Ask, Bad}
-use Rattle.session.specs.Line.{Command, opening, ask, bad, mostBuckets, mostPlan}
+use Rattle.text.specs.declared.Kind.{Kind}
+use Rattle.text.specs.declared.Kind.the-variants.{Add, Set, Del, Get}
+use Rattle.text.specs.declared.Number.{Number}
+use Rattle.text.specs.declared.Number.the-variants.{Of, Wrong}
+use Rattle.text.specs.declared.Parsed.{Parsed}
+use Rattle.text.specs.declared.Parsed.the-variants.{Open, Ask, Bad}
+use Rattle.text.specs.Line.{Command, opening, ask, bad, mostBuckets, mostPlan}
 
 -- the bytes of the line s from index start to before end
 abbrev pub between : ℕ → ℕ → List ℕ → List ℕ

@@ -1,10 +1,10 @@
--- `session::open_form` meets its contract.
+-- `text::open_form` meets its contract.
 -- Assumes nothing.
 use mathlib.Core.Path.{sym, ap₂}
-use Rattle.session.specs.Parsed.{openForm}
+use Rattle.text.specs.Parsed.{openForm}
 use borrow.Author.Needs.{needs}
-use Rattle.session.proofs.open_form.Statement.{statement}
-use Rattle.session.proofs.open_form.Tie as tie
+use Rattle.text.proofs.open_form.Statement.{statement}
+use Rattle.text.proofs.open_form.Tie as tie
 
 enum-known-x : tie.Need-enum-known-x
 enum-known-x c = search needs

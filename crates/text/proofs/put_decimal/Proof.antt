@@ -1,4 +1,4 @@
--- `session::put_decimal` meets its contract. The loop's invariant: the digits of left, before those that are stored, are those of x.
+-- `text::put_decimal` meets its contract. The loop's invariant: the digits of left, before those that are stored, are those of x.
 -- Assumes nothing.
 use mathlib.Core.Path.{_≡_, refl, sym, ap, _∙_}
 use mathlib.Core.List.{List}
@@ -6,11 +6,11 @@ use Prim.Native.Nat.{ℕ, _+_, _^_, _<_}
 use native.Mathlib.Omega.{arith}
 use lib.ListN.{length, drop, set, length-set}
 use Rattle.codec.specs.Parts.{written}
-use Rattle.session.specs.Decimal.{mostDigits, digitsThen, decimal}
-use Rattle.session.proofs.Decimal.{room, fewer, digits-step, digits-end, digits-cut}
+use Rattle.text.specs.Decimal.{mostDigits, digitsThen, decimal}
+use Rattle.text.proofs.Decimal.{room, fewer, digits-step, digits-end, digits-cut}
 use borrow.Author.Needs.{needs}
-use Rattle.session.proofs.put_decimal.Statement.{statement}
-use Rattle.session.proofs.put_decimal.Tie as tie
+use Rattle.text.proofs.put_decimal.Statement.{statement}
+use Rattle.text.proofs.put_decimal.Tie as tie
 
 abbrev Inv-loop : tie.InvT-loop
 Inv-loop out at x digits₀ left₀ i₀ digits left i =

@@ -1,10 +1,10 @@
--- `session::ask_form` meets its contract.
+-- `text::ask_form` meets its contract.
 -- Assumes nothing.
 use mathlib.Core.Path.{sym, ap}
-use Rattle.session.specs.Parsed.{askForm}
+use Rattle.text.specs.Parsed.{askForm}
 use borrow.Author.Needs.{needs}
-use Rattle.session.proofs.ask_form.Statement.{statement}
-use Rattle.session.proofs.ask_form.Tie as tie
+use Rattle.text.proofs.ask_form.Statement.{statement}
+use Rattle.text.proofs.ask_form.Tie as tie
 
 enum-known-x : tie.Need-enum-known-x
 enum-known-x c = search needs

@@ -1,10 +1,10 @@
--- `session::put_answer` meets its contract.
+-- `text::put_answer` meets its contract.
 -- Assumes nothing.
 use mathlib.Core.Path.{sym, _∙_}
-use Rattle.session.proofs.Printed.{printed-ok, printed-no}
+use Rattle.text.proofs.Printed.{printed-ok, printed-no}
 use borrow.Author.Needs.{needs}
-use Rattle.session.proofs.put_answer.Statement.{statement}
-use Rattle.session.proofs.put_answer.Tie as tie
+use Rattle.text.proofs.put_answer.Statement.{statement}
+use Rattle.text.proofs.put_answer.Tie as tie
 
 number-requires : tie.Need-number-requires
 number-requires c κs = search needs

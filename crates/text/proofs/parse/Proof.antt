@@ -1,11 +1,11 @@
--- `session::parse` meets its contract: the places of the first three spaces settle how many fields there are.
+-- `text::parse` meets its contract: the places of the first three spaces settle how many fields there are.
 -- Assumes nothing.
 use mathlib.Core.Path.{sym, _∙_}
 use native.Mathlib.Omega.{arith}
-use Rattle.session.proofs.Parted.{command-one, command-two, command-three, command-over}
+use Rattle.text.proofs.Parted.{command-one, command-two, command-three, command-over}
 use borrow.Author.Needs.{needs}
-use Rattle.session.proofs.parse.Statement.{statement}
-use Rattle.session.proofs.parse.Tie as tie
+use Rattle.text.proofs.parse.Statement.{statement}
+use Rattle.text.proofs.parse.Tie as tie
 
 place-requires : tie.Need-place-requires
 place-requires c κs = search needs

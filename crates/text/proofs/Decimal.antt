@@ -11,9 +11,9 @@ use lib.Dec.{eqb, leb}
 use lib.ListN.{length, getD, take, drop, set, length-set, length-drop, drop-of-length-le}
 use lib.Seq.{take-all, drop-cons, getD-set-same, drop-set-lt}
 use borrow.Author.Tests.{le-leb, lt-leb, lt-ltb, le-ltb, eq-eqb, ne-eqb, leb-true}
-use Rattle.session.specs.declared.Number.the-variants.{Of, Wrong}
-use Rattle.session.specs.Decimal.{digitOf, isDigit, grown, readOn, numberTo, digitsThen, mostDigits}
-use Rattle.session.specs.Parsed.{AtMost}
+use Rattle.text.specs.declared.Number.the-variants.{Of, Wrong}
+use Rattle.text.specs.Decimal.{digitOf, isDigit, grown, readOn, numberTo, digitsThen, mostDigits}
+use Rattle.text.specs.Parsed.{AtMost}
 
 -- ---- a field
 

@@ -1,14 +1,14 @@
--- `session::place` meets its contract. The loop's invariant: the first place is still to come.
+-- `text::place` meets its contract. The loop's invariant: the first place is still to come.
 -- Assumes nothing.
 use mathlib.Core.Path.{_≡_, refl}
 use Prim.Native.Nat.{_+_, _-_, _≤_}
 use native.Mathlib.Omega.{arith}
 use lib.ListN.{length, drop}
-use Rattle.session.specs.Line.{placeOf}
-use Rattle.session.proofs.Parted.{place-here, place-later, place-end}
+use Rattle.text.specs.Line.{placeOf}
+use Rattle.text.proofs.Parted.{place-here, place-later, place-end}
 use borrow.Author.Needs.{needs}
-use Rattle.session.proofs.place.Statement.{statement}
-use Rattle.session.proofs.place.Tie as tie
+use Rattle.text.proofs.place.Statement.{statement}
+use Rattle.text.proofs.place.Tie as tie
 
 abbrev Inv-loop : tie.InvT-loop
 Inv-loop s b a i₀ i = (i ≤ length s) × (i + placeOf b (drop i s) ≡ a + placeOf b (drop a s))

@@ -1,14 +1,14 @@
--- `session::read_number` meets its contract. The loop's invariant: reading on from n and what is left decides.
+-- `text::read_number` meets its contract. The loop's invariant: reading on from n and what is left decides.
 -- Assumes nothing.
 use mathlib.Core.Path.{_≡_, sym, _∙_}
 use Prim.Native.Nat.{_-_, _≤_}
 use native.Mathlib.Omega.{arith}
 use lib.ListN.{length, drop}
-use Rattle.session.specs.Decimal.{readOn, numberTo}
-use Rattle.session.proofs.Decimal.{number-none, number-zero, number-leading, number-read, read-low, read-high, read-over, read-more, read-end}
+use Rattle.text.specs.Decimal.{readOn, numberTo}
+use Rattle.text.proofs.Decimal.{number-none, number-zero, number-leading, number-read, read-low, read-high, read-over, read-more, read-end}
 use borrow.Author.Needs.{needs}
-use Rattle.session.proofs.read_number.Statement.{statement}
-use Rattle.session.proofs.read_number.Tie as tie
+use Rattle.text.proofs.read_number.Statement.{statement}
+use Rattle.text.proofs.read_number.Tie as tie
 
 abbrev Inv-loop : tie.InvT-loop
 Inv-loop s limit n₀ i₀ n i = (i ≤ length s) × (n ≤ limit) × (readOn limit n (drop i s) ≡ numberTo limit s)

@@ -4,8 +4,8 @@ use Prim.Native.Nat.{ℕ, zero, suc, _+_, _-_, _*_, _/_, _%_}
 use mathlib.Core.Bool.{Bool, cond, _&&_}
 use mathlib.Core.List.{List, [], _∷_}
 use lib.Dec.{leb, ltb, eqb}
-use Rattle.session.specs.declared.Number.{Number}
-use Rattle.session.specs.declared.Number.the-variants.{Of, Wrong}
+use Rattle.text.specs.declared.Number.{Number}
+use Rattle.text.specs.declared.Number.the-variants.{Of, Wrong}
 
 -- the byte of the digit d
 abbrev pub digitOf : ℕ → ℕ

@@ -8,16 +8,16 @@ use native.Mathlib.Omega.{arith}
 use lib.ListN.{length, take, drop}
 use Rattle.codec.specs.Bytes.{eqList}
 use Rattle.codec.proofs.Part.{part-rest}
-use Rattle.session.specs.declared.Number.{Number}
-use Rattle.session.specs.declared.Number.the-variants.{Of, Wrong}
-use Rattle.session.specs.declared.Kind.{Kind}
-use Rattle.session.specs.declared.Kind.the-variants.{Add, Set, Del, Get}
-use Rattle.session.specs.declared.Parsed.{Parsed}
-use Rattle.session.specs.declared.Parsed.the-variants.{Ask, Bad}
-use Rattle.session.specs.Decimal.{numberTo}
-use Rattle.session.specs.Line.{Command, openWord, addWord, setWord, delWord, getWord, mostBuckets, mostPlan, openWith, planned, ofTwo, ofThree}
-use Rattle.session.specs.Parsed.{between, meant, AtMost, Within, openForm, askForm, callOf}
-use Rattle.session.proofs.Decimal.{number-most}
+use Rattle.text.specs.declared.Number.{Number}
+use Rattle.text.specs.declared.Number.the-variants.{Of, Wrong}
+use Rattle.text.specs.declared.Kind.{Kind}
+use Rattle.text.specs.declared.Kind.the-variants.{Add, Set, Del, Get}
+use Rattle.text.specs.declared.Parsed.{Parsed}
+use Rattle.text.specs.declared.Parsed.the-variants.{Ask, Bad}
+use Rattle.text.specs.Decimal.{numberTo}
+use Rattle.text.specs.Line.{Command, openWord, addWord, setWord, delWord, getWord, mostBuckets, mostPlan, openWith, planned, ofTwo, ofThree}
+use Rattle.text.specs.Parsed.{between, meant, AtMost, Within, openForm, askForm, callOf}
+use Rattle.text.proofs.Decimal.{number-most}
 
 -- r stands for the command k, in the line s
 abbrev pub Stands : List ℕ → Parsed → Command → Type 0

@@ -1,0 +1,4 @@
+pub mod Decimal
+pub mod Parted
+pub mod Forms
+pub mod Printed
