@@ -5,7 +5,7 @@ use native.Mathlib.Numerals.{add-one}
 use native.Mathlib.Omega.{arith}
 use mathlib.Core.Path.{_≡_, refl, sym, ap, _∙_, subst⁻¹}
 use mathlib.Core.Bool.{Bool, true, false, true≢false, cond}
-use mathlib.Core.List.{List, [], _∷_}
+use mathlib.Core.List.{List, []}
 use lib.Dec.{eqb}
 use lib.ListN.{length, getD, drop, drop-of-length-le}
 use lib.Seq.{drop-cons}
@@ -15,7 +15,7 @@ use Rattle.lists.proofs.Tests.{by-test, cond-true, cond-false}
 use Rattle.model.specs.Model.{add}
 use Rattle.model.specs.Machine.{accepted}
 use Rattle.concrete.specs.Layout.{inRange, lengthOf}
-use Rattle.concrete.specs.Calls.{rows, solutions, Outcome, openCall, served}
+use Rattle.concrete.specs.Calls.{rows, solutions, Outcome, openCall}
 use Rattle.concrete.proofs.Statements.{opening-stands, stands-sound, served-sound}
 use Rattle.table.specs.Ready.{Ready}
 use Rattle.probe.specs.Steps.{Probed}
