@@ -24,7 +24,7 @@ use Rattle.concrete.specs.Table.{Table, index, put, nth, bucketOf}
 use Rattle.concrete.specs.Layout.{header, baseNumbers, mostBuckets1, mostBuckets2, inRange, levelNumbers, pairsFrom, basePairs, numbersOf, bucketPlace, tableFrom, lengthOf}
 use Rattle.concrete.specs.Test.{shapeTest}
 use Rattle.concrete.proofs.Numbers.{ShapedTable, length-base, length-level, header-read, back, laid, write-first, write-second, write-base}
-use Rattle.sound.proofs.Shape.{Shape, range, first-lt, second-lt, first-bucket, second-bucket, first-in, second-in}
+use Rattle.layout.proofs.Shape.{Shape, range, first-lt, second-lt, first-bucket, second-bucket, first-in, second-in}
 use Rattle.base.specs.Base.{Pairs}
 use Rattle.adding.specs.Arrivals.{storedAt, withFirst, withSecond, withBase, Kept, FlatKept}
 use Rattle.adding.proofs.Base.{from-pairs, pairs-of}

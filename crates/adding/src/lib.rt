@@ -1,14 +1,14 @@
 // The call `add`: what leaves level 1 goes to level 2, and what leaves that to the base list. Nothing is written before it is known that
 // the base list has room; then only the stretches of the buckets that changed, the base list and the header are.
 // specs/Arrivals.antt has the steps as the code goes about them, proofs/Arrivals.antt that they lead to the table of concrete's `addedTo`.
-// Cites settle (one bucket), base, sound (places, the tests) and table (the query). The library and the line program build on it.
+// Cites settle (one bucket), base, layout (places) and table (the query). The library and the line program build on it.
 use answer::Answer;
 use base::Found;
 use bucket::Bucket;
 use identifier::Read;
+use layout::Table;
 use settle::Outgoing;
 use settle::Settled;
-use sound::Table;
 ghost use mathlib.Core.Path.{_≡_};
 ghost use mathlib.Core.List.{[]};
 ghost use Prim.Native.Nat.{_+_, _^_, _<_, _≤_};
@@ -31,7 +31,7 @@ pub(crate) fn settled_at(t: &[u64], at: usize, v: u64, plan: u64) -> Settled
     requires { do ⌜ (at + (← ⟦Bucket::WORDS⟧) ≤ length (now t)) × SoundBucket rows solutions (bucketFrom rows solutions (drop at (now t))) ⌝ }
     ensures { λ r. do ⌜ r ≡ settledOf (← ⟦Outgoing::MOST⟧ .entry) (settledAt rows solutions thresholdOf at (record { word = v; plan = plan }) (now (t .entry))) ⌝ }
 {
-    settle::settle(sound::bucket_at(t, at), v, plan)
+    settle::settle(layout::bucket_at(t, at), v, plan)
 }
 
 // The bucket into its stretch of the table.
@@ -49,7 +49,7 @@ pub(crate) fn put_straight(t: &mut [u64], at: usize, v: u64, plan: u64) -> bool
     requires { do ⌜ at + (← ⟦Bucket::WORDS⟧) ≤ length (now t) ⌝ }
     ensures { λ r. ⌜ Straight rows solutions thresholdOf at (record { word = v; plan = plan }) (now (t .entry)) r (now (t .exit)) ⌝ }
 {
-    let b = sound::bucket_at(t, at);
+    let b = layout::bucket_at(t, at);
     if identifier::threshold(v) < b.bound {
         let tried = b.add(v, plan);
         if tried.done {
@@ -81,7 +81,7 @@ pub(crate) fn enter_base(t: &mut [u64], out: Outgoing)
     requires { ⌜ FlatKept rows solutions (now t) × (getD (now t) 2 0 + out .count ≤ baseLimit) ⌝ }
     ensures { λ _. ⌜ now (t .exit) ≡ numbersOf (withBase (tableOf (now (t .entry))) (insertAll (entriesOf out) (tableOf (now (t .entry)) .base))) ⌝ }
 {
-    let a = sound::base_place(t);
+    let a = layout::base_place(t);
     let count = t[Table::BASE_COUNT_AT] as usize;
     let more = out.count;
     insert_all(&mut t[a..], count, out);
@@ -93,7 +93,7 @@ pub(crate) fn settle_second(t: &mut [u64], v: u64, plan: u64) -> bool
     requires { ⌜ FlatKept rows solutions (now t) ⌝ }
     ensures { λ r. ⌜ Passed rows solutions (now (t .entry)) (toSecond rows solutions mixOf (tableOf (now (t .entry))) (record { word = v; plan = plan })) r (now (t .exit)) ⌝ }
 {
-    let at = sound::second_place(t, v);
+    let at = layout::second_place(t, v);
     let s = settled_at(t, at, v, plan);
     let out = s.out;
     let more = out.count as u64;
@@ -111,7 +111,7 @@ pub(crate) fn arrive_second(t: &mut [u64], v: u64, plan: u64) -> bool
     requires { ⌜ FlatKept rows solutions (now t) ⌝ }
     ensures { λ r. ⌜ Passed rows solutions (now (t .entry)) (toSecond rows solutions mixOf (tableOf (now (t .entry))) (record { word = v; plan = plan })) r (now (t .exit)) ⌝ }
 {
-    let at = sound::second_place(t, v);
+    let at = layout::second_place(t, v);
     if put_straight(t, at, v, plan) {
         return true;
     }
@@ -146,8 +146,8 @@ pub(crate) fn take_buckets(t: &mut [u64], from: &[u64], out: Outgoing)
     let count = out.count;
     let mut i: usize = 0;
     while i < count {
-        let at = sound::second_place(from, identifier::second(vectors[i]));
-        store_at(t, at, sound::bucket_at(from, at));
+        let at = layout::second_place(from, identifier::second(vectors[i]));
+        store_at(t, at, layout::bucket_at(from, at));
         i += 1;
     }
 }
@@ -157,7 +157,7 @@ pub(crate) fn take_base(t: &mut [u64], from: &[u64])
     requires { ⌜ Alike rows solutions (now t) (now from) ⌝ }
     ensures { λ _. ⌜ now (t .exit) ≡ numbersOf (withBase (tableOf (now (t .entry))) (tableOf (now (from .entry)) .base)) ⌝ }
 {
-    let a = sound::base_place(t);
+    let a = layout::base_place(t);
     bucket::put(&mut t[a..], &from[a..]);
     t[Table::BASE_COUNT_AT] = from[Table::BASE_COUNT_AT];
 }
@@ -210,7 +210,7 @@ pub(crate) fn enter_settling(t: &mut [u64], w: u64, plan: u64) -> Answer
     requires { ⌜ Ready (now t) ⌝ }
     ensures { λ r. ⌜ (r ≡ entering (now (t .entry)) (record { word = w; plan = plan }) .answer) × (now (t .exit) ≡ entering (now (t .entry)) (record { word = w; plan = plan }) .table) ⌝ }
 {
-    let at = sound::first_place(t, w);
+    let at = layout::first_place(t, w);
     let s = settled_at(t, at, w, plan);
     let out = s.out;
     if pass_on(t, out) {
@@ -226,11 +226,11 @@ pub(crate) fn enter(t: &mut [u64], w: u64, plan: u64) -> Answer
     requires { ⌜ Ready (now t) ⌝ }
     ensures { λ r. ⌜ (r ≡ entering (now (t .entry)) (record { word = w; plan = plan }) .answer) × (now (t .exit) ≡ entering (now (t .entry)) (record { word = w; plan = plan }) .table) ⌝ }
 {
-    let at = sound::first_place(t, w);
+    let at = layout::first_place(t, w);
     if put_straight(t, at, w, plan) {
         return count_one(t);
     }
-    if sound::holds_first(t, w) {
+    if layout::holds_first(t, w) {
         return enter_settling(t, w, plan);
     }
     if arrive_second(t, identifier::second(w), plan) {

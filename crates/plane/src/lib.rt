@@ -2,12 +2,12 @@
 // Definitions, in document 01's words: specs/Record.antt and specs/Plane.antt (the bytes, which planes are wrong, what the bytes say),
 // specs/Lookup.antt (the call), specs/Fits.antt (its limits). Laws: proofs/Round.antt and proofs/Exact.antt (just the planes within
 // the limits have bytes that are wrong nowhere); the statements stand with the writer.
-// Cites codec, identifier, bucket, concrete and sound (the numbers of buckets). The writer and the library for C cite it.
+// Cites codec, identifier, bucket, concrete and layout (the numbers of buckets). The writer and the library for C cite it.
 use answer::Answer;
 use bucket::Bucket;
 use identifier::Identifier;
 use identifier::Read;
-use sound::Table;
+use layout::Table;
 ghost use mathlib.Core.Path.{_≡_};
 ghost use Prim.Native.Nat.{suc, _+_, _*_, _≤_, _<_};
 ghost use lib.ListN.{length, getD, drop};
@@ -106,7 +106,7 @@ pub(crate) fn header_fits(p: &[u8]) -> bool
     if p[1] != Record::FORMAT {
         return false;
     }
-    if !sound::in_range(wide(p[2]), wide(p[3])) {
+    if !layout::in_range(wide(p[2]), wide(p[3])) {
         return false;
     }
     wide(p[4]) <= Table::BASE_ENTRIES

@@ -11,7 +11,7 @@ use lib.Seq.{length-take-le, take-append-le, take-all}
 use borrow.Author.Tests.{eq-eqb, ne-eqb}
 use Rattle.concrete.specs.Layout.{inRange, lengthOf}
 use Rattle.concrete.specs.Calls.{rows, solutions, openCall}
-use Rattle.sound.proofs.Shape.{range}
+use Rattle.layout.proofs.Shape.{range}
 use Rattle.table.specs.Ready.{Ready}
 use Rattle.table.proofs.Opened.{accepted}
 use Rattle.session.specs.Run.{tables}

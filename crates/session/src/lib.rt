@@ -3,12 +3,12 @@
 // Definitions: specs/Run.antt (what is printed for an input: the calls of concrete folded over the lines); specs/Buffer.antt has what is
 // open, in the code's buffer, and what the code does at a line.
 // Laws: proofs/Agree.antt (the model would print the same; the table is sound at each line), proofs/Session.antt (document 01's session).
-// Cites text (a line and what is printed for it), codec, answer, identifier, sound, table and adding. lines is the program over it, and
+// Cites text (a line and what is printed for it), codec, answer, identifier, layout, table and adding. lines is the program over it, and
 // probe has an entry to it.
 use answer::Answer;
 use identifier::Identifier;
 use identifier::Read;
-use sound::Table;
+use layout::Table;
 use text::Kind;
 use text::Parsed;
 ghost use mathlib.Core.Path.{_≡_};
@@ -67,8 +67,8 @@ pub(crate) fn open_line(
     requires { do ⌜ (length (now t) ≡ (← ⟦Table::LONGEST⟧)) × (at < 2 ^ 31) × (held ≤ length (now t)) ⌝ }
     ensures { λ r. ⌜ Did (obey tables (heldIn held (now (t .entry))) (opening b1 b2)) at (now (out .entry)) r (now (t .exit)) (now (out .exit)) ⌝ }
 {
-    if sound::in_range(b1, b2) {
-        let n = sound::length_of(b1, b2);
+    if layout::in_range(b1, b2) {
+        let n = layout::length_of(b1, b2);
         let a = table::open(&mut t[..n], b1, b2);
         return Progress {
             held: n,

@@ -1,4 +1,3 @@
 -- The laws of the crate.
-pub mod Shape
 pub mod Loops
 pub mod Held

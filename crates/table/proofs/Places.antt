@@ -18,7 +18,7 @@ use Rattle.concrete.specs.Layout.{header, bucketPlace}
 use Rattle.concrete.specs.Calls.{rows, solutions, tableOf}
 use Rattle.concrete.proofs.Numbers.{ShapedTable, Laid}
 use Rattle.concrete.proofs.Calls.{sound-shaped, sound-laid}
-use Rattle.sound.proofs.Shape.{Shape, shape, first-in, second-in}
+use Rattle.layout.proofs.Shape.{Shape, shape, first-in, second-in}
 use Rattle.table.specs.Ready.{Ready}
 
 module _ {t : List ℕ} (h : Ready t) where

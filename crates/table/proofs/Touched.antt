@@ -18,7 +18,7 @@ use Rattle.settle.specs.Settle.{planOf}
 use Rattle.concrete.specs.Table.{Table, second, index, put, bucketOf, holds, planIn, touch}
 use Rattle.concrete.specs.Layout.{basePairs, pairsFrom, numbersOf, tableFrom, bucketPlace}
 use Rattle.concrete.proofs.Numbers.{ShapedTable, Laid, write-count, header-read, from-part, write-first, write-second, write-base, forth}
-use Rattle.sound.proofs.Shape.{Shape, first-lt, second-lt, first-bucket, second-bucket}
+use Rattle.layout.proofs.Shape.{Shape, first-lt, second-lt, first-bucket, second-bucket}
 use Rattle.base.specs.Base.{Pairs}
 use Rattle.table.proofs.Stretch.{stretch}
 

@@ -2,13 +2,13 @@
 // and withdrawal. Each is an equation with a definition of concrete (specs/Calls.antt): the answer, causes in document 01's order, and
 // every number of the table afterwards. specs/Ready.antt has what every call tests first; the functions by word, which ask for a table
 // that passes, are for callers that know it does. proofs/Touched.antt has what one touched bucket or base list does to the numbers.
-// Cites concrete, sound (shape, soundness, places), base, bucket and identifier. The C entries and the line program build on it.
+// Cites concrete, layout (shape, places), sound, base, bucket and identifier. The C entries and the line program build on it.
 use answer::Answer;
 use base::Found;
 use bucket::Bucket;
 use identifier::Identifier;
 use identifier::Read;
-use sound::Table;
+use layout::Table;
 ghost use mathlib.Core.Path.{_≡_};
 ghost use mathlib.Core.Bool.{true};
 ghost use mathlib.Core.List.{[], _∷_};
@@ -72,7 +72,7 @@ pub(crate) fn lay_out(t: &mut [u64], b1: u64, b2: u64)
     put_header(t, b1, b2);
     let count = (b1 + b2) as usize;
     let first = Table::HEADER;
-    let base = sound::bucket_place(count);
+    let base = layout::bucket_place(count);
     empty_buckets(&mut t[first..base], count);
     clear(&mut t[base..]);
 }
@@ -81,9 +81,9 @@ pub(crate) fn lay_out(t: &mut [u64], b1: u64, b2: u64)
 pub fn open(t: &mut [u64], b1: u64, b2: u64) -> Answer
     ensures { λ r. ⌜ (r ≡ openCall b1 b2 (now (t .entry)) .answer) × (now (t .exit) ≡ openCall b1 b2 (now (t .entry)) .table) ⌝ }
 {
-    if sound::in_range(b1, b2) {
+    if layout::in_range(b1, b2) {
         let size = t.len();
-        if size == sound::length_of(b1, b2) {
+        if size == layout::length_of(b1, b2) {
             lay_out(t, b1, b2);
             return Answer::Accepted(0);
         }
@@ -107,14 +107,14 @@ pub fn plan_in(t: &[u64], w: u64) -> Found
     requires { ⌜ Ready (now t) ⌝ }
     ensures { λ r. ⌜ r ≡ foundOf (planIn (now (t .entry)) w) ⌝ }
 {
-    if sound::holds_first(t, w) {
-        return plan_of(sound::bucket_at(t, sound::first_place(t, w)), w);
+    if layout::holds_first(t, w) {
+        return plan_of(layout::bucket_at(t, layout::first_place(t, w)), w);
     }
     let v = identifier::second(w);
-    if sound::holds_second(t, v) {
-        return plan_of(sound::bucket_at(t, sound::second_place(t, v)), v);
+    if layout::holds_second(t, v) {
+        return plan_of(layout::bucket_at(t, layout::second_place(t, v)), v);
     }
-    let a = sound::base_place(t);
+    let a = layout::base_place(t);
     let count = t[Table::BASE_COUNT_AT] as usize;
     base::find(&t[a..], count, v)
 }
@@ -173,20 +173,20 @@ pub(crate) fn touch(t: &mut [u64], w: u64, edit: Edit)
     requires { ⌜ Ready (now t) ⌝ }
     ensures { λ _. ⌜ now (t .exit) ≡ numbersOf (touched edit w (tableOf (now (t .entry)))) ⌝ }
 {
-    if sound::holds_first(t, w) {
-        let a = sound::first_place(t, w);
+    if layout::holds_first(t, w) {
+        let a = layout::first_place(t, w);
         let e = a + Bucket::WORDS;
         edit_bucket(&mut t[a..e], w, edit);
         return;
     }
     let v = identifier::second(w);
-    if sound::holds_second(t, v) {
-        let a = sound::second_place(t, v);
+    if layout::holds_second(t, v) {
+        let a = layout::second_place(t, v);
         let e = a + Bucket::WORDS;
         edit_bucket(&mut t[a..e], v, edit);
         return;
     }
-    let a = sound::base_place(t);
+    let a = layout::base_place(t);
     let count = t[Table::BASE_COUNT_AT] as usize;
     t[Table::BASE_COUNT_AT] = edit_base(&mut t[a..], count, v, edit) as u64;
 }
@@ -243,7 +243,7 @@ pub fn admit(t: &[u64], id: &[u8]) -> Read
     let read = Identifier::read(id);
     match read {
         Read::Word(w) => {
-            if sound::shaped(t) {
+            if layout::shaped(t) {
                 if sound::sound(t) {
                     return Read::Word(w);
                 }

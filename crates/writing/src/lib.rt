@@ -1,11 +1,11 @@
 // The writer of planes: the plane of a table of any numbers, to the front of the output.
 // Definitions: specs/Write.antt (the call, in document 01's words, and what the plane of a table gives); specs/Steps.antt is for the
 // inner steps alone. Statements of the plane: proofs/Statements.antt.
-// Cites codec, bucket, concrete (the table), sound (its test) and plane (the records). The library for C cites it.
+// Cites codec, bucket, concrete (the table), layout and sound (its tests) and plane (the records). The library for C cites it.
 use answer::Answer;
 use bucket::Bucket;
+use layout::Table;
 use plane::Record;
-use sound::Table;
 ghost use mathlib.Core.Path.{_≡_};
 ghost use mathlib.Core.Bool.{true};
 ghost use Prim.Native.Nat.{ℕ, _+_, _*_, _≤_, _<_};
@@ -165,7 +165,7 @@ pub(crate) fn write_sound(t: &[u64], out: &mut [u8]) -> Answer
 pub fn write(t: &[u64], out: &mut [u8]) -> Answer
     ensures { λ r. ⌜ (r ≡ writeCall (now (t .entry)) (now (out .entry)) .answer) × (now (out .exit) ≡ writeCall (now (t .entry)) (now (out .entry)) .output) ⌝ }
 {
-    if sound::shaped(t) {
+    if layout::shaped(t) {
         if sound::sound(t) {
             return write_sound(t, out);
         }

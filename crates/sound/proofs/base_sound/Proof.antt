@@ -9,7 +9,7 @@ use Rattle.concrete.specs.Layout.{pairsFrom}
 use Rattle.concrete.specs.Test.{allOf}
 use Rattle.concrete.specs.Calls.{rows, solutions}
 use Rattle.sound.specs.Held.{pairTest}
-use Rattle.sound.proofs.Shape.{shape}
+use Rattle.layout.proofs.Shape.{shape}
 use Rattle.sound.proofs.Held.{holding, failing, ascending, unused}
 use Rattle.sound.proofs.base_sound.Statement.{statement}
 use Rattle.sound.proofs.base_sound.Tie as tie

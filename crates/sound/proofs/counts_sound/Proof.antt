@@ -6,7 +6,7 @@ use lib.Dec.{eqb}
 use lib.ListN.{getD}
 use borrow.Author.Tests.{le-leb, lt-leb}
 use Rattle.concrete.specs.Calls.{rows, solutions}
-use Rattle.sound.proofs.Shape.{shape}
+use Rattle.layout.proofs.Shape.{shape}
 use Rattle.sound.proofs.Held.{holding, failing}
 use Rattle.sound.proofs.counts_sound.Statement.{statement}
 use Rattle.sound.proofs.counts_sound.Tie as tie

@@ -7,7 +7,7 @@ use lib.ListN.{getD}
 use borrow.Author.Needs.{needs}
 use Rattle.concrete.specs.Calls.{rows, solutions}
 use Rattle.sound.specs.Held.{levelSound}
-use Rattle.sound.proofs.Shape.{shape}
+use Rattle.layout.proofs.Shape.{shape}
 use Rattle.sound.proofs.Held.{holding, failing, base-fits, whole}
 use Rattle.sound.proofs.sound.Statement.{statement}
 use Rattle.sound.proofs.sound.Tie as tie

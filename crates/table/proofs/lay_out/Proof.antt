@@ -3,7 +3,7 @@
 use native.Mathlib.Omega.{arith}
 use borrow.Author.Needs.{needs}
 use Rattle.concrete.specs.Calls.{rows, solutions}
-use Rattle.sound.proofs.Shape.{range}
+use Rattle.layout.proofs.Shape.{range}
 use Rattle.table.proofs.Opened.{laid-out}
 use Rattle.table.proofs.lay_out.Statement.{statement}
 use Rattle.table.proofs.lay_out.Tie as tie

@@ -1,4 +1,4 @@
--- `sound::bucket_at` meets its contract.
+-- `layout::bucket_at` meets its contract.
 -- Assumes nothing.
 use mathlib.Core.Path.{_≡_, ap, _∙_}
 use Prim.Native.Nat.{ℕ, _+_, _-_}
@@ -8,8 +8,8 @@ use borrow.Author.Needs.{needs}
 use Rattle.bucket.specs.Words.{bucketWords, bucketFrom}
 use Rattle.concrete.proofs.Numbers.{from-part}
 use Rattle.concrete.specs.Calls.{rows, solutions}
-use Rattle.sound.proofs.bucket_at.Statement.{statement}
-use Rattle.sound.proofs.bucket_at.Tie as tie
+use Rattle.layout.proofs.bucket_at.Statement.{statement}
+use Rattle.layout.proofs.bucket_at.Tie as tie
 
 add-end : tie.Need-add-end
 add-end c = search needs

@@ -1,12 +1,12 @@
--- `sound::second_place` meets its contract.
+-- `layout::second_place` meets its contract.
 -- Assumes nothing.
 use native.Mathlib.Omega.{arith}
 use borrow.Author.Needs.{needs}
 use Rattle.hash.specs.Mix.{mixOf}
 use Rattle.concrete.specs.Calls.{rows, solutions}
-use Rattle.sound.proofs.Shape.{shape, second-lt}
-use Rattle.sound.proofs.second_place.Statement.{statement}
-use Rattle.sound.proofs.second_place.Tie as tie
+use Rattle.layout.proofs.Shape.{shape, second-lt}
+use Rattle.layout.proofs.second_place.Statement.{statement}
+use Rattle.layout.proofs.second_place.Tie as tie
 
 second-index-requires : tie.Need-second-index-requires
 second-index-requires c κs = search needs

@@ -1,11 +1,11 @@
--- `sound::first_index` meets its contract.
+-- `layout::first_index` meets its contract.
 -- Assumes nothing.
 use native.Mathlib.Omega.{arith}
 use borrow.Author.Needs.{needs}
 use Rattle.concrete.specs.Calls.{rows, solutions}
-use Rattle.sound.proofs.Shape.{shape}
-use Rattle.sound.proofs.first_index.Statement.{statement}
-use Rattle.sound.proofs.first_index.Tie as tie
+use Rattle.layout.proofs.Shape.{shape}
+use Rattle.layout.proofs.first_index.Statement.{statement}
+use Rattle.layout.proofs.first_index.Tie as tie
 
 shared-slice-read-bucket : tie.Need-shared-slice-read-bucket
 shared-slice-read-bucket c = let s = shape rows solutions (c .before .before .args .t .now) (c .before .before .pre) in omega arith

@@ -1,12 +1,12 @@
--- `sound::first_place` meets its contract.
+-- `layout::first_place` meets its contract.
 -- Assumes nothing.
 use native.Mathlib.Omega.{arith}
 use borrow.Author.Needs.{needs}
 use Rattle.hash.specs.Mix.{mixOf}
 use Rattle.concrete.specs.Calls.{rows, solutions}
-use Rattle.sound.proofs.Shape.{shape, first-lt}
-use Rattle.sound.proofs.first_place.Statement.{statement}
-use Rattle.sound.proofs.first_place.Tie as tie
+use Rattle.layout.proofs.Shape.{shape, first-lt}
+use Rattle.layout.proofs.first_place.Statement.{statement}
+use Rattle.layout.proofs.first_place.Tie as tie
 
 first-index-requires : tie.Need-first-index-requires
 first-index-requires c κs = search needs

@@ -1,11 +1,11 @@
--- `sound::shaped` meets its contract.
+-- `layout::shaped` meets its contract.
 -- Assumes nothing.
 use mathlib.Core.Path.{sym, _∙_}
 use borrow.Author.Needs.{needs}
 use borrow.Author.Tests.{le-leb, lt-leb}
 use Rattle.concrete.specs.Test.{shapeTest}
-use Rattle.sound.proofs.shaped.Statement.{statement}
-use Rattle.sound.proofs.shaped.Tie as tie
+use Rattle.layout.proofs.shaped.Statement.{statement}
+use Rattle.layout.proofs.shaped.Tie as tie
 
 returns : tie.Need-returns
 unfolding shapeTest

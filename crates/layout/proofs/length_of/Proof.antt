@@ -1,10 +1,10 @@
--- `sound::length_of` meets its contract.
+-- `layout::length_of` meets its contract.
 -- Assumes nothing.
 use native.Mathlib.Omega.{arith}
 use borrow.Author.Needs.{needs}
-use Rattle.sound.proofs.Shape.{range}
-use Rattle.sound.proofs.length_of.Statement.{statement}
-use Rattle.sound.proofs.length_of.Tie as tie
+use Rattle.layout.proofs.Shape.{range}
+use Rattle.layout.proofs.length_of.Statement.{statement}
+use Rattle.layout.proofs.length_of.Tie as tie
 
 add-bucket-place : tie.Need-add-bucket-place
 add-bucket-place c = let s = range (c .args .b1) (c .args .b2) (c .pre) in omega arith

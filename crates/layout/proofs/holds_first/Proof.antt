@@ -1,12 +1,12 @@
--- `sound::holds_first` meets its contract.
+-- `layout::holds_first` meets its contract.
 -- Assumes nothing.
 use native.Mathlib.Omega.{arith}
 use borrow.Author.Needs.{needs}
 use Rattle.hash.specs.Mix.{mixOf}
 use Rattle.concrete.specs.Calls.{rows, solutions}
-use Rattle.sound.proofs.Shape.{shape, first-lt, first-bucket}
-use Rattle.sound.proofs.holds_first.Statement.{statement}
-use Rattle.sound.proofs.holds_first.Tie as tie
+use Rattle.layout.proofs.Shape.{shape, first-lt, first-bucket}
+use Rattle.layout.proofs.holds_first.Statement.{statement}
+use Rattle.layout.proofs.holds_first.Tie as tie
 
 threshold-requires : tie.Need-threshold-requires
 threshold-requires c κs = search needs

@@ -1,12 +1,12 @@
--- `sound::second_index` meets its contract.
+-- `layout::second_index` meets its contract.
 -- Assumes nothing.
 use native.Mathlib.Omega.{arith}
 use borrow.Author.Needs.{needs}
 use Rattle.hash.specs.Mix.{mixOf}
 use Rattle.concrete.specs.Calls.{rows, solutions}
-use Rattle.sound.proofs.Shape.{shape, second-lt}
-use Rattle.sound.proofs.second_index.Statement.{statement}
-use Rattle.sound.proofs.second_index.Tie as tie
+use Rattle.layout.proofs.Shape.{shape, second-lt}
+use Rattle.layout.proofs.second_index.Statement.{statement}
+use Rattle.layout.proofs.second_index.Tie as tie
 
 shared-slice-read-result : tie.Need-shared-slice-read-result
 shared-slice-read-result c = let s = shape rows solutions (c .before .before .args .t .now) (c .before .before .pre) in omega arith

@@ -1,8 +1,8 @@
--- `sound::in_range` meets its contract.
+-- `layout::in_range` meets its contract.
 -- Assumes nothing.
 use borrow.Author.Tests.{le-leb, lt-leb}
-use Rattle.sound.proofs.in_range.Statement.{statement}
-use Rattle.sound.proofs.in_range.Tie as tie
+use Rattle.layout.proofs.in_range.Statement.{statement}
+use Rattle.layout.proofs.in_range.Tie as tie
 
 returns : tie.Need-returns
 returns c = simp (lt-leb _ _ (c .if1 .taken))

@@ -1,11 +1,11 @@
--- `sound::base_place` meets its contract.
+-- `layout::base_place` meets its contract.
 -- Assumes nothing.
 use native.Mathlib.Omega.{arith}
 use borrow.Author.Needs.{needs}
 use Rattle.concrete.specs.Calls.{rows, solutions}
-use Rattle.sound.proofs.Shape.{shape}
-use Rattle.sound.proofs.base_place.Statement.{statement}
-use Rattle.sound.proofs.base_place.Tie as tie
+use Rattle.layout.proofs.Shape.{shape}
+use Rattle.layout.proofs.base_place.Statement.{statement}
+use Rattle.layout.proofs.base_place.Tie as tie
 
 shared-slice-read-bucket-place : tie.Need-shared-slice-read-bucket-place
 shared-slice-read-bucket-place c = let z = c .before .before in let s = shape rows solutions (z .args .t .now) (z .pre) in omega arith

@@ -1,13 +1,13 @@
--- `sound::bound_at` meets its contract.
+-- `layout::bound_at` meets its contract.
 -- Assumes nothing.
 use mathlib.Core.Path.{sym, ap, _∙_}
 use Prim.Native.Nat.{ℕ, _+_}
 use native.Mathlib.Omega.{arith}
 use lib.ListN.{getD}
 use Rattle.concrete.specs.Calls.{rows, solutions}
-use Rattle.sound.proofs.Shape.{shape, bound-is}
-use Rattle.sound.proofs.bound_at.Statement.{statement}
-use Rattle.sound.proofs.bound_at.Tie as tie
+use Rattle.layout.proofs.Shape.{shape, bound-is}
+use Rattle.layout.proofs.bound_at.Statement.{statement}
+use Rattle.layout.proofs.bound_at.Tie as tie
 
 bucket-place-requires : tie.Need-bucket-place-requires
 bucket-place-requires c κs = let s = shape rows solutions (c .before .args .t .now) (c .before .pre .0) in omega arith
