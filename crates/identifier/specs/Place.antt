@@ -14,10 +14,14 @@ firstOf v = unmixOf (unmixOf v)
 abbrev pub placeOf : ℕ → ℕ
 placeOf v = mixOf v
 
+-- the number of thresholds
+abbrev pub thresholds : ℕ
+thresholds = 8
+
 -- the threshold that a place gives
 abbrev pub thresholdAt : ℕ → ℕ
-thresholdAt place = place % 8
+thresholdAt place = place % thresholds
 
 -- the bucket, of n, that a place gives
 abbrev pub bucketAt : ℕ → ℕ → ℕ
-bucketAt n place = place / 8 % n
+bucketAt n place = place / thresholds % n

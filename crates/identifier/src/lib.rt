@@ -26,6 +26,9 @@ impl Identifier {
 
     pub const MAX_LEN: usize = 20;
 
+    // The threshold of a word at a level is a number below this.
+    pub const THRESHOLDS: u64 = 8;
+
     // The word of the bytes, or the cause for which they are turned down. One pass; the table of bytes is made once.
     pub fn read(s: &[u8]) -> Read
         ensures { λ r. ⌜ r ≡ readOf (now (s .entry)) ⌝ }
@@ -56,7 +59,7 @@ impl Identifier {
 pub fn threshold(v: u64) -> u64
     ensures { λ r. ⌜ r ≡ thresholdAt (placeOf v) ⌝ }
 {
-    hash::mix(v) % 8
+    hash::mix(v) % Identifier::THRESHOLDS
 }
 
 // The bucket of the vector v, of n buckets. Modulo 0 a number stays as it is.
@@ -65,9 +68,9 @@ pub fn bucket(v: u64, n: u64) -> u64
 {
     let place = hash::mix(v);
     if n == 0 {
-        return place / 8;
+        return place / Identifier::THRESHOLDS;
     }
-    place / 8 % n
+    place / Identifier::THRESHOLDS % n
 }
 
 // The vector at level 2 of the word w.

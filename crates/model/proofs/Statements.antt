@@ -2,19 +2,22 @@
 -- `arrivals` and `lift-fits` also take the definitions that they name. What stands before a dot is the file with the proof.
 -- Assumes nothing.
 use Prim.Native.Nat.{ℕ, _+_, _<_, _≤_}
+use native.Mathlib.Nat.{mod-lt}
 use native.Mathlib.Omega.{arith}
 use mathlib.Core.Path.{_≡_, refl}
 use mathlib.Core.Bool.{true, false}
 use mathlib.Core.Logic.{_↔_}
 use mathlib.Core.Option.{none}
 use mathlib.Core.List.{List, map, _++_, List·Permᴰ}
+use lib.Dec.{lit<}
 use lib.ListN.{length, getD}
 use Rattle.lists.specs.Entries.{Entry, words, find, insert}
 use Rattle.lists.proofs.Keep.{tabulate-at}
 use Rattle.gf2.specs.Bound.{Largest}
+use Rattle.bucket.specs.Bucket.{largestBound}
 use Rattle.answer.specs.Numbers.{numberOf}
 use Rattle.answer.specs.declared.Answer.the-variants.{Full}
-use Rattle.model.specs.Levels.{Level, firstLevel, secondLevel, passed, due, lower}
+use Rattle.model.specs.Levels.{Level, firstLevel, secondLevel, threshold, passed, due, lower}
 use Rattle.model.specs.Model.{State, Call, addOf, change, withdraw, query, Outcome, opened, wouldLeave, base, step, lifted}
 use Rattle.model.specs.Request.{byWord, serve}
 use Rattle.model.specs.Machine.{Machine, accepted, after, answers, AllAccepted, Alike, Refines, Compares}
@@ -37,6 +40,10 @@ opening-first b1 b2 i h = tabulate-at (λ j. 8) b1 i h
 
 pub opening-second : (b1 b2 i : ℕ) → i < b2 → getD (opened b1 b2 .bounds2) i 0 ≡ 8
 opening-second b1 b2 i h = tabulate-at (λ j. 8) b2 i h
+
+-- no threshold reaches the largest bound, so under it every word due there is held
+pub all-below : (L : Level) (w : ℕ) → threshold L w < largestBound
+all-below L w = mod-lt (L .place w) (lit< tt)
 
 module _ (L1 L2 : Level) (s : State) (e : Entry) where
   -- what the add of e does
