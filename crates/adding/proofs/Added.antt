@@ -1,7 +1,7 @@
 -- A word that is not live arrives at level 1: what that leaves is document 01's add. At every number n of rows and r of solution words, and for
 -- every mix S; then at 64 and 8.
 -- Assumes nothing.
-use Prim.Native.Nat.{ℕ, suc, _+_, _*_, _^_, _≤_, _<_}
+use Prim.Native.Nat.{ℕ, zero, suc, _+_, _*_, _^_, _≤_, _<_}
 use native.Mathlib.Omega.{arith}
 use mathlib.Core.Path.{_≡_, refl, sym, ap, ap₂, _∙_, subst, subst⁻¹}
 use mathlib.Core.Bool.{Bool, true, false}
@@ -19,7 +19,7 @@ use Rattle.hash.specs.Mix.{mixOf}
 use Rattle.bucket.specs.declared.Bucket.{Bucket}
 use Rattle.bucket.specs.Words.{bucketWords, bucketFrom}
 use Rattle.settle.specs.declared.Settled.{Settled}
-use Rattle.settle.specs.Settle.{SoundBucket}
+use Rattle.settle.specs.Settle.{SoundBucket, settle}
 use Rattle.settle.specs.Outgoing.{outgoing, settledOf}
 use Rattle.model.specs.Model.{baseLimit, add}
 use Rattle.concrete.specs.Table.{Table, thr, index, onSecond, put, nth, bucketOf, holds, arriveAt, addedTo}
@@ -30,11 +30,13 @@ use Rattle.concrete.specs.Test.{shapeTest}
 use Rattle.concrete.proofs.Numbers.{header-read, forth}
 use Rattle.table.specs.Ready.{Ready}
 use Rattle.table.proofs.Places.{shape-of, laid-of}
-use Rattle.adding.specs.Arrivals.{seconds, settledAt, storedAt, withFirst, toSecond, allToSecond, Straight, Passed, Kept, FlatKept, entering}
-use Rattle.adding.proofs.Tables.{first-room, first-here, first-sound, first-stored, stored-same, numbers-table, numbers-kept}
+use Rattle.arriving.specs.Arrival.{settledAt, storedAt, toSecond, Straight, Passed, Kept, FlatKept}
+use Rattle.arriving.proofs.Tables.{numbers-table, numbers-kept}
+use Rattle.arriving.proofs.Settled.{straightly, straight-is, bucket-is, out-is, out-few}
+use Rattle.adding.specs.Arrivals.{seconds, withFirst, allToSecond, entering}
+use Rattle.adding.proofs.Tables.{first-room, first-here, first-sound, first-stored, stored-same}
 use Rattle.adding.proofs.Arrivals.{all-law, add-law}
 use Rattle.adding.proofs.Passing.{pass-none, pass-one}
-use Rattle.adding.proofs.Settled.{settle-passes, straightly, straight-is, bucket-is, out-is, out-few}
 
 pub passed-as : (n r : ℕ) (t : List ℕ) (U : Table) (done b : Bool) (u : List ℕ) → done ≡ b → Passed n r t U done u → Passed n r t U b u
 passed-as n r t U done b u y g = subst (λ (x : Bool). Passed n r t U x u) y g
@@ -138,6 +140,11 @@ module _ (n r : ℕ) (S : ℕ → ℕ) (t : List ℕ) (h : FlatKept n r t) (e : 
           }
 
 -- ---- a word that settles at once: straight into its bucket, or in none at level 1. Either way u is the table before it is counted
+
+module _ (n : ℕ) (thr : ℕ → ℕ) (e : Entry) (b : Bucket) where
+  settle-passes : (x : ℕ) → x ≤ thr (e .word) → settle n thr e x b ≡ record { bucket = b; out = e ∷ [] }
+  settle-passes zero h = refl
+  settle-passes (suc t) h = cond-false _ _ (le-ltb (thr (e .word)) (suc t) h)
 
 module _ (n r : ℕ) (S : ℕ → ℕ) (t : List ℕ) (h : FlatKept n r t) (e : Entry) (small : e .word < 2 ^ n) (at : ℕ) (p : at ≡ bucketPlace n r (index S (getD t 0 0) (e .word))) where
   pub counted-straight : (u : List ℕ) → Straight n r (thr S) at e t true u → Counted n r S t e u

@@ -17,9 +17,11 @@ use Rattle.model.specs.Model.{baseLimit}
 use Rattle.concrete.specs.Table.{Table, index, onSecond, put, bucketOf}
 use Rattle.concrete.specs.Layout.{inRange, numbersOf, bucketPlace, tableFrom}
 use Rattle.concrete.proofs.Numbers.{header-read}
-use Rattle.adding.specs.Arrivals.{entriesFrom, entriesOf, seconds, storedAt, withSecond, withBase, toSecond, allToSecond, takeOver, Passed, Drafted, Kept, FlatKept, Alike}
-use Rattle.adding.proofs.Tables.{second-room, second-here, second-sound, second-stored, second-kept, numbers-table, numbers-kept}
-use Rattle.adding.proofs.Arrivals.{entries-next, entries-length, all-law, base-grows, second-length, taken-all}
+use Rattle.arriving.specs.Arrival.{entriesFrom, entriesOf, storedAt, withSecond, withBase, toSecond, Passed, Kept, FlatKept}
+use Rattle.arriving.proofs.Tables.{second-room, second-here, second-sound, second-stored, second-kept, numbers-table, numbers-kept}
+use Rattle.arriving.proofs.Arrival.{entries-next, entries-length}
+use Rattle.adding.specs.Arrivals.{seconds, allToSecond, takeOver, Drafted, Alike}
+use Rattle.adding.proofs.Arrivals.{all-law, base-grows, second-length, taken-all}
 
 drop-map : {A B : Type 0} (f : A → B) (i : ℕ) (xs : List A) → drop i (map f xs) ≡ map f (drop i xs)
 drop-map f zero xs = refl

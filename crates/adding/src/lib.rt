@@ -1,122 +1,28 @@
 // The call `add`: what leaves level 1 goes to level 2, and what leaves that to the base list. Nothing is written before it is known that
 // the base list has room; then only the stretches of the buckets that changed, the base list and the header are.
-// specs/Arrivals.antt has the steps as the code goes about them, proofs/Arrivals.antt that they lead to the table of concrete's `addedTo`.
-// Cites settle (one bucket), base, layout (places) and table (the query). The library and the line program build on it.
+// specs/Arrivals.antt has the words that go on, one after the other, as the code goes about them. Laws: proofs/Arrivals.antt (they lead to
+// the table of concrete's `addedTo`), proofs/Passing.antt (the loops over them and the draft), proofs/Tables.antt (a bucket of level 1),
+// proofs/Added.antt (what a word that arrives at level 1 leaves is the call's table).
+// Cites arriving (the arrival of one word), table (the tests of a call, the query), concrete, layout (places), settle (the words that leave
+// a bucket), identifier, bucket and base. The library, the line program and probe build on it.
 use answer::Answer;
 use base::Found;
-use bucket::Bucket;
 use identifier::Read;
 use layout::Table;
 use settle::Outgoing;
-use settle::Settled;
 ghost use mathlib.Core.Path.{_≡_};
 ghost use mathlib.Core.List.{[]};
 ghost use Prim.Native.Nat.{_+_, _^_, _<_, _≤_};
-ghost use lib.ListN.{length, getD, set, drop};
-ghost use Rattle.lists.specs.Entries.{words, insertAll};
+ghost use lib.ListN.{length, getD, set};
+ghost use Rattle.lists.specs.Entries.{words};
 ghost use Rattle.hash.specs.Mix.{mixOf};
 ghost use Rattle.answer.specs.declared.Answer.the-variants.{Accepted};
-ghost use Rattle.bucket.specs.Words.{bucketFrom};
-ghost use Rattle.settle.specs.Settle.{SoundBucket, thresholdOf, settle};
-ghost use Rattle.settle.specs.Outgoing.{settledOf};
-ghost use Rattle.model.specs.Model.{baseLimit, add};
-ghost use Rattle.concrete.specs.Layout.{pairsFrom, basePairs, numbersOf};
+ghost use Rattle.model.specs.Model.{add};
+ghost use Rattle.concrete.specs.Layout.{numbersOf};
 ghost use Rattle.concrete.specs.Calls.{rows, solutions, tableOf, served, call};
-ghost use Rattle.base.specs.Base.{Pairs};
 ghost use Rattle.table.specs.Ready.{Ready};
-ghost use Rattle.adding.specs.Arrivals.{entriesOf, seconds, settledAt, storedAt, withBase, toSecond, allToSecond, takeOver, Straight, Passed, Drafted, FlatKept, Alike, entering};
-
-// v with its plan settles in the bucket at a place. Nothing is written.
-pub(crate) fn settled_at(t: &[u64], at: usize, v: u64, plan: u64) -> Settled
-    requires { do ⌜ (at + (← ⟦Bucket::WORDS⟧) ≤ length (now t)) × SoundBucket rows solutions (bucketFrom rows solutions (drop at (now t))) ⌝ }
-    ensures { λ r. do ⌜ r ≡ settledOf (← ⟦Outgoing::MOST⟧ .entry) (settledAt rows solutions thresholdOf at (record { word = v; plan = plan }) (now (t .entry))) ⌝ }
-{
-    settle::settle(layout::bucket_at(t, at), v, plan)
-}
-
-// The bucket into its stretch of the table.
-pub(crate) fn store_at(t: &mut [u64], at: usize, b: Bucket)
-    requires { do ⌜ at + (← ⟦Bucket::WORDS⟧) ≤ length (now t) ⌝ }
-    ensures { λ _. ⌜ now (t .exit) ≡ storedAt rows solutions at b (now (t .entry)) ⌝ }
-{
-    let end = at + Bucket::WORDS;
-    bucket::store(&mut t[at..end], b);
-}
-
-// The word v goes straight into the bucket at a place, where its threshold is below the bound and it does not depend. False if not: then
-// nothing is written.
-pub(crate) fn put_straight(t: &mut [u64], at: usize, v: u64, plan: u64) -> bool
-    requires { do ⌜ at + (← ⟦Bucket::WORDS⟧) ≤ length (now t) ⌝ }
-    ensures { λ r. ⌜ Straight rows solutions thresholdOf at (record { word = v; plan = plan }) (now (t .entry)) r (now (t .exit)) ⌝ }
-{
-    let b = layout::bucket_at(t, at);
-    if identifier::threshold(v) < b.bound {
-        let tried = b.add(v, plan);
-        if tried.done {
-            let next = tried.bucket;
-            store_at(t, at, next);
-            return true;
-        }
-    }
-    false
-}
-
-// The words into the base list, one after the other.
-pub(crate) fn insert_all(pairs: &mut [u64], count: usize, out: Outgoing)
-    requires { ⌜ Pairs count (now pairs) × (count + out .count ≤ baseLimit) ⌝ }
-    ensures { λ _. ⌜ now (pairs .exit) ≡ basePairs (insertAll (entriesOf out) (pairsFrom count (now (pairs .entry)))) ⌝ }
-{
-    let vectors = out.vectors;
-    let plans = out.plans;
-    let more = out.count;
-    let mut i: usize = 0;
-    while i < more {
-        base::insert(pairs, count + i, vectors[i], plans[i]);
-        i += 1;
-    }
-}
-
-// The words into the base list of a table, and its count.
-pub(crate) fn enter_base(t: &mut [u64], out: Outgoing)
-    requires { ⌜ FlatKept rows solutions (now t) × (getD (now t) 2 0 + out .count ≤ baseLimit) ⌝ }
-    ensures { λ _. ⌜ now (t .exit) ≡ numbersOf (withBase (tableOf (now (t .entry))) (insertAll (entriesOf out) (tableOf (now (t .entry)) .base))) ⌝ }
-{
-    let a = layout::base_place(t);
-    let count = t[Table::BASE_COUNT_AT] as usize;
-    let more = out.count;
-    insert_all(&mut t[a..], count, out);
-    t[Table::BASE_COUNT_AT] = (count + more) as u64;
-}
-
-// The word v settles at level 2, and what leaves that arrives at the base list. False if that has no room: then nothing is written.
-pub(crate) fn settle_second(t: &mut [u64], v: u64, plan: u64) -> bool
-    requires { ⌜ FlatKept rows solutions (now t) ⌝ }
-    ensures { λ r. ⌜ Passed rows solutions (now (t .entry)) (toSecond rows solutions mixOf (tableOf (now (t .entry))) (record { word = v; plan = plan })) r (now (t .exit)) ⌝ }
-{
-    let at = layout::second_place(t, v);
-    let s = settled_at(t, at, v, plan);
-    let out = s.out;
-    let more = out.count as u64;
-    if Table::BASE_ENTRIES < t[Table::BASE_COUNT_AT] + more {
-        return false;
-    }
-    let b = s.bucket;
-    store_at(t, at, b);
-    enter_base(t, out);
-    true
-}
-
-// The word v arrives at level 2: straight into its bucket, or it settles there.
-pub(crate) fn arrive_second(t: &mut [u64], v: u64, plan: u64) -> bool
-    requires { ⌜ FlatKept rows solutions (now t) ⌝ }
-    ensures { λ r. ⌜ Passed rows solutions (now (t .entry)) (toSecond rows solutions mixOf (tableOf (now (t .entry))) (record { word = v; plan = plan })) r (now (t .exit)) ⌝ }
-{
-    let at = layout::second_place(t, v);
-    if put_straight(t, at, v, plan) {
-        return true;
-    }
-    settle_second(t, v, plan)
-}
+ghost use Rattle.arriving.specs.Arrival.{withBase, Passed, FlatKept};
+ghost use Rattle.adding.specs.Arrivals.{seconds, allToSecond, takeOver, Drafted, Alike, entering};
 
 // The words that leave level 1 arrive at level 2 one after the other. False as soon as the base list has no room.
 pub(crate) fn carry(t: &mut [u64], out: Outgoing) -> bool
@@ -128,7 +34,7 @@ pub(crate) fn carry(t: &mut [u64], out: Outgoing) -> bool
     let count = out.count;
     let mut i: usize = 0;
     while i < count {
-        if arrive_second(t, identifier::second(vectors[i]), plans[i]) {
+        if arriving::arrive_second(t, identifier::second(vectors[i]), plans[i]) {
             i += 1;
         } else {
             return false;
@@ -147,7 +53,7 @@ pub(crate) fn take_buckets(t: &mut [u64], from: &[u64], out: Outgoing)
     let mut i: usize = 0;
     while i < count {
         let at = layout::second_place(from, identifier::second(vectors[i]));
-        store_at(t, at, layout::bucket_at(from, at));
+        arriving::store_at(t, at, layout::bucket_at(from, at));
         i += 1;
     }
 }
@@ -188,7 +94,7 @@ pub(crate) fn pass_on(t: &mut [u64], out: Outgoing) -> bool
     if count == 1 {
         let vectors = out.vectors;
         let plans = out.plans;
-        return arrive_second(t, identifier::second(vectors[0]), plans[0]);
+        return arriving::arrive_second(t, identifier::second(vectors[0]), plans[0]);
     }
     let n = t.len();
     let mut draft = [0u64; Table::LONGEST];
@@ -211,11 +117,11 @@ pub(crate) fn enter_settling(t: &mut [u64], w: u64, plan: u64) -> Answer
     ensures { λ r. ⌜ (r ≡ entering (now (t .entry)) (record { word = w; plan = plan }) .answer) × (now (t .exit) ≡ entering (now (t .entry)) (record { word = w; plan = plan }) .table) ⌝ }
 {
     let at = layout::first_place(t, w);
-    let s = settled_at(t, at, w, plan);
+    let s = arriving::settled_at(t, at, w, plan);
     let out = s.out;
     if pass_on(t, out) {
         let b = s.bucket;
-        store_at(t, at, b);
+        arriving::store_at(t, at, b);
         return count_one(t);
     }
     Answer::Full // and the bucket stays as it was
@@ -227,13 +133,13 @@ pub(crate) fn enter(t: &mut [u64], w: u64, plan: u64) -> Answer
     ensures { λ r. ⌜ (r ≡ entering (now (t .entry)) (record { word = w; plan = plan }) .answer) × (now (t .exit) ≡ entering (now (t .entry)) (record { word = w; plan = plan }) .table) ⌝ }
 {
     let at = layout::first_place(t, w);
-    if put_straight(t, at, w, plan) {
+    if arriving::put_straight(t, at, w, plan) {
         return count_one(t);
     }
     if layout::holds_first(t, w) {
         return enter_settling(t, w, plan);
     }
-    if arrive_second(t, identifier::second(w), plan) {
+    if arriving::arrive_second(t, identifier::second(w), plan) {
         return count_one(t);
     }
     Answer::Full

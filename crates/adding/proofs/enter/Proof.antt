@@ -8,9 +8,9 @@ use Rattle.lists.specs.Entries.{Entry}
 use Rattle.hash.specs.Mix.{mixOf}
 use Rattle.settle.specs.Settle.{thresholdOf}
 use Rattle.table.specs.Ready.{Ready}
+use Rattle.arriving.proofs.Settled.{straight-as, straight-left}
 use Rattle.adding.specs.Arrivals.{entering}
 use Rattle.adding.proofs.Tables.{first-room}
-use Rattle.adding.proofs.Settled.{straight-as, straight-left}
 use Rattle.adding.proofs.Added.{passed-as, Counted, counted-straight, counted-second, full-second, ready-kept, count-room, entered-full, entered-done}
 use borrow.Author.Needs.{needs}
 use Rattle.adding.proofs.enter.Statement.{statement}

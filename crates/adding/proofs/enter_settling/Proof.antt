@@ -1,15 +1,13 @@
 -- `adding::enter_settling` meets its contract.
 -- Assumes nothing.
-use Prim.Native.Nat.{_<_}
-use native.Mathlib.Omega.{arith}
 use mathlib.Core.Path.{subst⁻¹}
 use mathlib.Core.Bool.{true}
-use lib.ListN.{length, length-set}
 use Rattle.lists.specs.Entries.{Entry}
 use Rattle.hash.specs.Mix.{mixOf}
 use Rattle.settle.specs.Settle.{SoundBucket}
 use Rattle.concrete.specs.Calls.{tableOf}
-use Rattle.adding.specs.Arrivals.{seconds, allToSecond, Passed}
+use Rattle.arriving.specs.Arrival.{Passed}
+use Rattle.adding.specs.Arrivals.{seconds, allToSecond}
 use Rattle.adding.proofs.Tables.{first-room, first-here, first-sound}
 use Rattle.adding.proofs.Added.{passed-as, enter-few, Counted, enter-full, enter-room, enter-counted, ready-kept, count-room, entered-full, entered-done}
 use borrow.Author.Needs.{needs}

@@ -6,7 +6,8 @@ use mathlib.Core.List.{List}
 use Rattle.lists.specs.Entries.{Entry}
 use Rattle.hash.specs.Mix.{mixOf}
 use Rattle.concrete.specs.Calls.{tableOf}
-use Rattle.adding.specs.Arrivals.{seconds, allToSecond, FlatKept, Drafted}
+use Rattle.arriving.specs.Arrival.{FlatKept}
+use Rattle.adding.specs.Arrivals.{seconds, allToSecond, Drafted}
 use Rattle.adding.proofs.Passing.{draft-alike, drafted-alike, drafted, from-draft, not-drafted}
 use borrow.Author.Needs.{needs}
 use Rattle.adding.proofs.pass_drafted.Statement.{statement}

@@ -5,7 +5,8 @@ use native.Mathlib.Omega.{arith}
 use mathlib.Core.Path.{_≡_, sym, ap₂, _∙_}
 use lib.ListN.{length, getD}
 use Rattle.concrete.specs.Layout.{bucketPlace}
-use Rattle.adding.proofs.Tables.{count0, shape, long, place-le, last-is, last-length, last-room, last-put}
+use Rattle.arriving.proofs.Tables.{count0, shape, long, place-le, last-is, last-room, last-put}
+use Rattle.adding.proofs.Tables.{last-length}
 use borrow.Author.Needs.{needs}
 use Rattle.adding.proofs.take_base.Statement.{statement}
 use Rattle.adding.proofs.take_base.Tie as tie

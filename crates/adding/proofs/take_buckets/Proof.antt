@@ -9,8 +9,8 @@ use Rattle.lists.specs.Entries.{words}
 use Rattle.hash.specs.Mix.{mixOf}
 use Rattle.concrete.specs.Layout.{numbersOf}
 use Rattle.concrete.specs.Calls.{tableOf}
+use Rattle.arriving.proofs.Tables.{shape, second-room}
 use Rattle.adding.specs.Arrivals.{seconds, takeOver}
-use Rattle.adding.proofs.Tables.{shape, second-room}
 use Rattle.adding.proofs.Passing.{Taking, words-next, words-length, words-plans, taking-room, taking-next, taking-ends}
 use borrow.Author.Needs.{needs}
 use Rattle.adding.proofs.take_buckets.Statement.{statement}

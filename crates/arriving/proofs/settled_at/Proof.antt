@@ -1,12 +1,12 @@
--- `adding::settled_at` meets its contract.
+-- `arriving::settled_at` meets its contract.
 -- Assumes nothing.
 use mathlib.Core.Path.{ap, _∙_, subst⁻¹}
 use Rattle.bucket.specs.declared.Bucket.{Bucket}
 use Rattle.settle.specs.Settle.{SoundBucket, thresholdOf, settle}
 use Rattle.settle.specs.Outgoing.{settledOf}
 use borrow.Author.Needs.{needs}
-use Rattle.adding.proofs.settled_at.Statement.{statement}
-use Rattle.adding.proofs.settled_at.Tie as tie
+use Rattle.arriving.proofs.settled_at.Statement.{statement}
+use Rattle.arriving.proofs.settled_at.Tie as tie
 
 bucket-at-requires : tie.Need-bucket-at-requires
 bucket-at-requires c κs = search needs

@@ -1,4 +1,4 @@
--- `adding::enter_base` meets its contract.
+-- `arriving::enter_base` meets its contract.
 -- Assumes nothing.
 use Prim.Native.Nat.{_≤_}
 use native.Mathlib.Omega.{arith}
@@ -8,12 +8,12 @@ use lib.ListN.{length}
 use Rattle.lists.specs.Entries.{Entry, insertAll}
 use Rattle.concrete.specs.Layout.{basePairs}
 use Rattle.concrete.specs.Calls.{tableOf}
-use Rattle.adding.specs.Arrivals.{entriesOf}
-use Rattle.adding.proofs.Tables.{count0, shape, long, place-le, last-pairs, last-read, last-room, last-put}
-use Rattle.adding.proofs.Arrivals.{entries-length, insert-all-length}
+use Rattle.arriving.specs.Arrival.{entriesOf}
+use Rattle.arriving.proofs.Tables.{count0, shape, long, place-le, last-pairs, last-read, last-room, last-put}
+use Rattle.arriving.proofs.Arrival.{entries-length, insert-all-length}
 use borrow.Author.Needs.{needs}
-use Rattle.adding.proofs.enter_base.Statement.{statement}
-use Rattle.adding.proofs.enter_base.Tie as tie
+use Rattle.arriving.proofs.enter_base.Statement.{statement}
+use Rattle.arriving.proofs.enter_base.Tie as tie
 
 base-place-requires : tie.Need-base-place-requires
 base-place-requires c κs = shape 64 8 _ (c .before .before .pre .0)

@@ -1,15 +1,15 @@
--- `adding::settle_second` meets its contract.
+-- `arriving::settle_second` meets its contract.
 -- Assumes nothing.
 use native.Mathlib.Omega.{arith}
 use mathlib.Core.Path.{subst⁻¹}
 use Rattle.lists.specs.Entries.{Entry}
 use Rattle.hash.specs.Mix.{mixOf}
 use Rattle.settle.specs.Settle.{SoundBucket}
-use Rattle.adding.proofs.Tables.{count0, shape, long, second-room, second-here, second-sound}
-use Rattle.adding.proofs.Settled.{arrive-few, arrive-full, arrive-stored, arrive-count, arrive-done}
+use Rattle.arriving.proofs.Tables.{count0, shape, long, second-room, second-here, second-sound}
+use Rattle.arriving.proofs.Settled.{arrive-few, arrive-full, arrive-stored, arrive-count, arrive-done}
 use borrow.Author.Needs.{needs}
-use Rattle.adding.proofs.settle_second.Statement.{statement}
-use Rattle.adding.proofs.settle_second.Tie as tie
+use Rattle.arriving.proofs.settle_second.Statement.{statement}
+use Rattle.arriving.proofs.settle_second.Tie as tie
 
 abbrev word : tie.Start → Entry
 word s = record { word = s .args .v; plan = s .args .plan }

@@ -5,9 +5,9 @@ use native.Mathlib.Nat.{not-suc-le-zero}
 use native.Mathlib.Omega.{arith}
 use mathlib.Core.Path.{_≡_, refl, sym, ap, ap₂, _∙_, subst, subst⁻¹}
 use mathlib.Core.Bool.{Bool, true, false, true≢false}
-use mathlib.Core.List.{List, [], _∷_}
+use mathlib.Core.List.{List, []}
 use lib.ListN.{length, getD, drop}
-use borrow.Author.Tests.{le-leb, lt-leb, lt-ltb, le-ltb}
+use borrow.Author.Tests.{le-leb, lt-leb, lt-ltb}
 use Rattle.lists.specs.Entries.{Entry, insertAll}
 use Rattle.lists.proofs.Tests.{cond-true, cond-false}
 use Rattle.bucket.specs.declared.Bucket.{Bucket}
@@ -21,9 +21,9 @@ use Rattle.settle.proofs.Sound.{settle-sound, settle-few}
 use Rattle.model.specs.Model.{baseLimit}
 use Rattle.concrete.specs.Table.{Table, thr, index, put, bucketOf, arriveAt}
 use Rattle.concrete.specs.Layout.{numbersOf, bucketPlace, tableFrom}
-use Rattle.adding.specs.Arrivals.{entriesOf, settledAt, storedAt, withSecond, withBase, toSecond, Straight, Passed, Kept, FlatKept}
-use Rattle.adding.proofs.Tables.{count0, second-here, second-sound, second-stored, second-kept, numbers-table, numbers-kept}
-use Rattle.adding.proofs.Arrivals.{entries-back, insert-all-length, to-second-kept}
+use Rattle.arriving.specs.Arrival.{entriesOf, settledAt, storedAt, withSecond, withBase, toSecond, Straight, Passed, Kept, FlatKept}
+use Rattle.arriving.proofs.Tables.{count0, second-here, second-sound, second-stored, second-kept, numbers-table, numbers-kept}
+use Rattle.arriving.proofs.Arrival.{entries-back, insert-all-length, to-second-kept}
 
 -- ---- a word that settles at once
 
@@ -31,10 +31,6 @@ module _ (n : ℕ) (thr : ℕ → ℕ) (e : Entry) (b : Bucket) where
   settle-straight : (x : ℕ) → thr (e .word) < x → add n (e .word) (e .plan) b .done ≡ true → settle n thr e x b ≡ record { bucket = add n (e .word) (e .plan) b .bucket; out = [] }
   settle-straight zero h d = absurd (not-suc-le-zero h)
   settle-straight (suc t) h d = cond-true _ _ (lt-ltb (thr (e .word)) (suc t) h) ∙ cond-true _ _ d
-
-  pub settle-passes : (x : ℕ) → x ≤ thr (e .word) → settle n thr e x b ≡ record { bucket = b; out = e ∷ [] }
-  settle-passes zero h = refl
-  settle-passes (suc t) h = cond-false _ _ (le-ltb (thr (e .word)) (suc t) h)
 
 module _ (n r : ℕ) (thr : ℕ → ℕ) (at : ℕ) (e : Entry) (t : List ℕ) where
   -- the bucket b is read, x is the threshold, a the add, u the table once its bucket is stored

@@ -1,4 +1,4 @@
--- `adding::store_at` meets its contract.
+-- `arriving::store_at` meets its contract.
 -- Assumes nothing.
 use Prim.Native.Nat.{ℕ, _+_}
 use native.Mathlib.Omega.{arith}
@@ -7,8 +7,8 @@ use mathlib.Core.List.{List, _++_}
 use lib.ListN.{take}
 use borrow.Rule.Slice.PartMut.{post-is}
 use borrow.Author.Needs.{needs}
-use Rattle.adding.proofs.store_at.Statement.{statement}
-use Rattle.adding.proofs.store_at.Tie as tie
+use Rattle.arriving.proofs.store_at.Statement.{statement}
+use Rattle.arriving.proofs.store_at.Tie as tie
 
 add-end : tie.Need-add-end
 add-end c = search needs

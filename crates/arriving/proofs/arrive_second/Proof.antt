@@ -1,4 +1,4 @@
--- `adding::arrive_second` meets its contract.
+-- `arriving::arrive_second` meets its contract.
 -- Assumes nothing.
 use Prim.Native.Nat.{ℕ}
 use mathlib.Core.Path.{subst, subst⁻¹}
@@ -7,12 +7,12 @@ use Rattle.lists.specs.Entries.{Entry}
 use Rattle.hash.specs.Mix.{mixOf}
 use Rattle.settle.specs.Settle.{thresholdOf}
 use Rattle.concrete.specs.Calls.{tableOf}
-use Rattle.adding.specs.Arrivals.{toSecond, Passed, FlatKept}
-use Rattle.adding.proofs.Tables.{shape, second-room}
-use Rattle.adding.proofs.Settled.{straight-as, straight-left, arrive-straight}
+use Rattle.arriving.specs.Arrival.{toSecond, Passed, FlatKept}
+use Rattle.arriving.proofs.Tables.{shape, second-room}
+use Rattle.arriving.proofs.Settled.{straight-as, straight-left, arrive-straight}
 use borrow.Author.Needs.{needs}
-use Rattle.adding.proofs.arrive_second.Statement.{statement}
-use Rattle.adding.proofs.arrive_second.Tie as tie
+use Rattle.arriving.proofs.arrive_second.Statement.{statement}
+use Rattle.arriving.proofs.arrive_second.Tie as tie
 
 abbrev word : tie.Start → Entry
 word s = record { word = s .args .v; plan = s .args .plan }

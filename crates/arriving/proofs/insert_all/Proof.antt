@@ -1,15 +1,15 @@
--- `adding::insert_all` meets its contract.
+-- `arriving::insert_all` meets its contract.
 -- Assumes nothing.
 use Prim.Native.Nat.{_-_, _≤_}
 use native.Mathlib.Omega.{arith}
 use mathlib.Core.Path.{sym, _∙_}
 use Rattle.base.proofs.Shift.{length-of}
-use Rattle.adding.specs.Arrivals.{entriesFrom}
-use Rattle.adding.proofs.Arrivals.{entries-next, entries-length}
-use Rattle.adding.proofs.Base.{Inserting, inserting-starts, inserting-next, inserting-ends}
+use Rattle.arriving.specs.Arrival.{entriesFrom}
+use Rattle.arriving.proofs.Arrival.{entries-next, entries-length}
+use Rattle.arriving.proofs.Base.{Inserting, inserting-starts, inserting-next, inserting-ends}
 use borrow.Author.Needs.{needs}
-use Rattle.adding.proofs.insert_all.Statement.{statement}
-use Rattle.adding.proofs.insert_all.Tie as tie
+use Rattle.arriving.proofs.insert_all.Statement.{statement}
+use Rattle.arriving.proofs.insert_all.Tie as tie
 
 abbrev Inv-loop : tie.InvT-loop
 Inv-loop pairs₀ count vectors plans more i₀ pairs i = (i ≤ more) × Inserting count (entriesFrom more vectors plans) pairs₀ pairs i

@@ -1,11 +1,11 @@
--- `adding::put_straight` meets its contract.
+-- `arriving::put_straight` meets its contract.
 -- Assumes nothing.
 use Rattle.settle.specs.Settle.{thresholdOf}
 use Rattle.lists.specs.Entries.{Entry}
-use Rattle.adding.proofs.Settled.{straight-in, straight-not}
+use Rattle.arriving.proofs.Settled.{straight-in, straight-not}
 use borrow.Author.Needs.{needs}
-use Rattle.adding.proofs.put_straight.Statement.{statement}
-use Rattle.adding.proofs.put_straight.Tie as tie
+use Rattle.arriving.proofs.put_straight.Statement.{statement}
+use Rattle.arriving.proofs.put_straight.Tie as tie
 
 abbrev word : tie.Start → Entry
 word s = record { word = s .args .v; plan = s .args .plan }
