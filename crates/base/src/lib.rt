@@ -1,7 +1,7 @@
 // The base list of document 01 as it lies in the table: 64 pairs (w', plan), of which the first `count` are used and the others 0.
 // Each function is an equation with a definition of lists (specs/Entries.antt) on the entries that the pairs stand for; what lies
 // there afterwards is the whole slice. specs/Base.antt says what a slice is that holds `count` entries, proofs/Shift.antt how
-// a pair comes in or goes out. Cites lists and concrete (specs/Layout.antt); table builds on it.
+// a pair comes in or goes out. Cites lists and concrete (specs/Layout.antt); table and arriving build on it.
 ghost use mathlib.Core.Path.{_≡_};
 ghost use mathlib.Core.List.{[], _∷_, _++_};
 ghost use Prim.Native.Nat.{_*_, _<_, _≤_};
