@@ -1,13 +1,14 @@
 -- What folding does: a to z become A to Z, no other byte is changed, and what is allowed stays allowed. Bytes that differ only in the case of letters
 -- are folded to the same. Assumes nothing.
-use mathlib.Core.Path.{_≡_, refl, sym, ap, ap₂, _∙_}
+use mathlib.Core.Path.{_≡_, refl, sym, ap, ap₂, _∙_, subst}
 use mathlib.Core.Bool.{Bool, true, false, _&&_, _||_}
 use mathlib.Core.List.{List, [], _∷_, map}
-use Prim.Native.Nat.{ℕ, _-_, _≤_}
+use Prim.Native.Nat.{ℕ, _-_, _%_, _≤_, _<_}
+use native.Mathlib.Nat.{le-refl, lt-of-le-of-lt, le-add-right}
 use native.Mathlib.Omega.{arith}
-use lib.Dec.{leb, eqb}
-use borrow.Author.Tests.{le-leb, lt-leb, leb-true, eqb-true}
-use Rattle.identifier.specs.Identifier.{between, small, capital, digit, oneOf, marks, allowed, folded, foldOf, sameLetter, onlyCase}
+use lib.Dec.{leb, ltb, eqb}
+use borrow.Author.Tests.{le-leb, lt-leb, leb-true, ltb-true, eqb-true}
+use Rattle.identifier.specs.Identifier.{between, small, capital, digit, oneOf, marks, allowed, folded, refusedFrom, foldOf, sameLetter, onlyCase}
 
 -- a fact by the two cases of a test
 pub by-test : {P : Type 0} (t : Bool) → (t ≡ true → P) → (t ≡ false → P) → P
@@ -74,14 +75,36 @@ pub entry-allowed : (b : ℕ) → allowed b ≡ true → foldOf b ≡ folded b
 unfolding foldOf
 entry-allowed b e = rw e
 
-pub entry-refused : (b : ℕ) → allowed b ≡ false → foldOf b ≡ 0
+pub entry-refused : (b : ℕ) → allowed b ≡ false → refusedFrom ≤ foldOf b
 unfolding foldOf
-entry-refused b e = rw e
+entry-refused b e = rw e (le-add-right refusedFrom (b % refusedFrom))
 
--- no byte that is allowed is folded to 0
-pub folded-zero : (b : ℕ) → folded b ≡ 0 → allowed b ≡ false
-unfolding allowed folded
-folded-zero b z = sym (allowed-folded b) ∙ ap allowed z
+folded-le : (b : ℕ) → folded b ≤ b
+folded-le b = by-test (small b) (λ e. rw (folded-small b e) (omega arith)) (λ e. rw (folded-other b e) (le-refl b))
+
+-- each is below the numbers of bytes that are not allowed
+abbrev low : List ℕ → Bool
+low [] = true
+low (x ∷ xs) = ltb x refusedFrom && low xs
+
+one-low : (xs : List ℕ) (b : ℕ) → low xs ≡ true → oneOf xs b ≡ true → b < refusedFrom
+one-low [] b l e = let z : _≡_ {A = ℕ} 0 1 = cc in absurd (omega arith)
+one-low (x ∷ xs) b l e =
+    let p = and-parts (ltb x refusedFrom) (low xs) l in
+    or-cases (eqb x b) (oneOf xs b) e (λ q. subst (λ (n : ℕ). n < refusedFrom) (eqb-true x b q) (ltb-true x refusedFrom (p .0))) (one-low xs b (p .1))
+
+allowed-low : (b : ℕ) → allowed b ≡ true → b < refusedFrom
+unfolding allowed
+allowed-low b e =
+    or-cases (small b || capital b || digit b) (oneOf marks b) e
+    (λ e₁. or-cases (small b || capital b) (digit b) e₁
+    (λ e₂. or-cases (small b) (capital b) e₂ (λ p. omega (arith, between-parts 0x61 0x7a b p .1)) (λ p. omega (arith, between-parts 0x41 0x5a b p .1)))
+    (λ p. omega (arith, between-parts 0x30 0x39 b p .1)))
+    (one-low marks b refl)
+
+-- no byte is folded to such a number
+pub entry-low : (b : ℕ) → allowed b ≡ true → foldOf b < refusedFrom
+entry-low b e = rw (entry-allowed b e) (lt-of-le-of-lt (folded-le b) (allowed-low b e))
 
 -- ---- lists
 

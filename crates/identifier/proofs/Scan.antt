@@ -3,8 +3,9 @@
 use mathlib.Core.Path.{_≡_, refl, sym, _∙_}
 use mathlib.Core.Bool.{true, false, cond}
 use mathlib.Core.List.{List, [], _∷_, map}
-use Prim.Native.Nat.{ℕ, suc, _+_, _<_}
+use Prim.Native.Nat.{ℕ, suc, _+_, _≤_, _<_}
 use native.Mathlib.Nat.{add-zero, add-suc, suc-add, zero-add, zero-lt-suc}
+use native.Mathlib.Omega.{arith}
 use lib.Dec.{ltb, leb·suc-suc}
 use lib.ListN.{length, drop, getD}
 use lib.Seq.{drop-cons}
@@ -12,10 +13,10 @@ use borrow.Author.Tests.{lt-ltb}
 use Rattle.answer.specs.declared.Answer.the-variants.{WrongByte}
 use Rattle.hash.specs.Mix.{mixOf}
 use Rattle.hash.specs.Fnv.{fnvStep, fnvFrom, fnvStart}
-use Rattle.identifier.specs.Identifier.{sized, allowed, folded, foldOf, wordOf, firstRefused, readOf}
+use Rattle.identifier.specs.Identifier.{sized, allowed, folded, refusedFrom, foldOf, wordOf, firstRefused, readOf}
 use Rattle.identifier.specs.declared.Read.{Read}
 use Rattle.identifier.specs.declared.Read.the-variants.{Word, Refused}
-use Rattle.identifier.proofs.Folding.{by-test, entry-allowed, entry-refused, folded-zero}
+use Rattle.identifier.proofs.Folding.{by-test, entry-allowed, entry-refused, entry-low}
 
 -- the bytes from index i on, h being the hash of those before
 unfoldable pub scan : ℕ → ℕ → List ℕ → Read
@@ -59,17 +60,17 @@ pub scan-read : (s : List ℕ) → sized (length s) ≡ true → scan 0 fnvStart
 unfolding readOf wordOf
 scan-read s e = scan-found 0 fnvStart s ∙ rw (e, zero-add (firstRefused s))
 
--- ---- one byte, of whose entry of the table it is known whether it is 0
+-- ---- one byte, by its entry of the table
 
 module _ (s : List ℕ) (i h : ℕ) (l : i < length s) where
-  pub scan-refused : foldOf (getD s i 0) ≡ 0 → scan i h (drop i s) ≡ Refused (WrongByte i)
-  scan-refused z =
+  pub scan-refused : refusedFrom ≤ foldOf (getD s i 0) → scan i h (drop i s) ≡ Refused (WrongByte i)
+  scan-refused r =
       let b = getD s i 0 in
-      let e : allowed b ≡ false = by-test (allowed b) (λ a. folded-zero b (sym (entry-allowed b a) ∙ z)) (λ a. a) in
+      let e : allowed b ≡ false = by-test (allowed b) (λ a. absurd (omega (arith, entry-low b a))) (λ a. a) in
       rw (drop-cons s i 0) (scan-here i h b (drop (suc i) s) e)
 
-  pub scan-more : (foldOf (getD s i 0) ≡ 0 → ⊥) → scan i h (drop i s) ≡ scan (suc i) (fnvStep h (foldOf (getD s i 0))) (drop (suc i) s)
-  scan-more z =
+  pub scan-more : foldOf (getD s i 0) < refusedFrom → scan i h (drop i s) ≡ scan (suc i) (fnvStep h (foldOf (getD s i 0))) (drop (suc i) s)
+  scan-more r =
       let b = getD s i 0 in
-      let e : allowed b ≡ true = by-test (allowed b) (λ a. a) (λ a. absurd (z (entry-refused b a))) in
+      let e : allowed b ≡ true = by-test (allowed b) (λ a. a) (λ a. absurd (omega (arith, entry-refused b a))) in
       rw (drop-cons s i 0, entry-allowed b e) (scan-next i h b (drop (suc i) s) e)

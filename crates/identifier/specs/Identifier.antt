@@ -1,5 +1,5 @@
 -- Document 01's identifier: which bytes are allowed, folding, the word, and the causes 1 and 2.
-use Prim.Native.Nat.{ℕ, suc, _-_}
+use Prim.Native.Nat.{ℕ, suc, _+_, _-_, _%_}
 use mathlib.Core.Bool.{Bool, true, false, cond, not, _&&_, _||_}
 use mathlib.Core.List.{List, [], _∷_, map}
 use lib.Dec.{leb, ltb, eqb}
@@ -43,9 +43,13 @@ allowed b = small b || capital b || digit b || oneOf marks b
 unfoldable pub folded : ℕ → ℕ
 folded b = cond (small b) (b - 0x20) b
 
--- document 01's table of 256 entries: what the byte is folded to, or 0 if it is not allowed
+-- the table has numbers from this one on for bytes that are not allowed
+abbrev pub refusedFrom : ℕ
+refusedFrom = 128
+
+-- document 01's table of 256 entries: what the byte is folded to, or, if it is not allowed, a number that no byte is folded to
 unfoldable pub foldOf : ℕ → ℕ
-foldOf b = cond (allowed b) (folded b) 0
+foldOf b = cond (allowed b) (folded b) (refusedFrom + b % refusedFrom)
 
 -- the bytes that are hashed
 abbrev pub hashed : List ℕ → List ℕ

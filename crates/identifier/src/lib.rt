@@ -45,7 +45,7 @@ impl Identifier {
         let mut i = 0;
         while i < n {
             let b = table[s[i] as usize];
-            if b == 0 {
+            if fold::REFUSED <= b {
                 return Read::Refused(Answer::WrongByte(i as u64));
             }
             h = hash::fnv_step(h, b);

@@ -56,7 +56,7 @@ returns-3 c =
     let at-loop = c .before .before .before in
     let s = at-loop .before .before .before .before .before .args .s .now in
     let i = at-loop .loop .i in
-    sym (scan-refused s i (at-loop .loop .h) (search needs) (sym (entry (c .before)) ∙ c .if3 .taken)) ∙ at-loop .loop .inv .1
+    sym (scan-refused s i (at-loop .loop .h) (search needs) (rw (← entry (c .before)) (c .if3 .taken))) ∙ at-loop .loop .inv .1
 
 fnv-step-requires : tie.Need-fnv-step-requires Inv-loop μ-loop
 fnv-step-requires c κs = search needs
@@ -73,7 +73,7 @@ loop-again c =
     let at-loop = here .before .before in
     let s = at-loop .before .before .before .before .before .args .s .now in
     let i = at-loop .loop .i in
-    let next = scan-more s i (at-loop .loop .h) (search needs) (λ e. c .before .if3 .left (entry here ∙ e)) in
+    let next = scan-more s i (at-loop .loop .h) (search needs) (rw (← entry here) (c .before .if3 .left)) in
     (search needs, rw (add-one i, c .fnv-step .ensures, entry here) (sym next ∙ at-loop .loop .inv .1))
 
 mix-requires : tie.Need-mix-requires Inv-loop μ-loop
