@@ -59,7 +59,32 @@ pub fn planes(rng: &mut Rng, cases: u64) {
     read.print("lookups in them, whole and damaged", &[0, 1, 2, 10]);
 }
 
-/// Every cut and every change of one byte of a small plane; outputs of 142 and 141 bytes; the longest plane.
+/// Every cut of a plane, and every change of one byte from an offset on.
+fn each_damage(seen: &mut Seen, id: &[u8], whole: &[u8], from: usize) {
+    for at in 0..=whole.len() {
+        seen.same(
+            "cut",
+            at,
+            ours::lookup(id, &whole[..at]),
+            plane::lookup(id, &whole[..at]),
+        );
+    }
+    let mut damaged = whole.to_vec();
+    for at in from..whole.len() {
+        for byte in 0..=255 {
+            damaged[at] = byte;
+            seen.same(
+                "byte",
+                (at, byte),
+                ours::lookup(id, &damaged),
+                plane::lookup(id, &damaged),
+            );
+        }
+        damaged[at] = whole[at];
+    }
+}
+
+/// Every cut and every change of one byte of a small plane, and of the base list of the longest; outputs of 142 and 141 bytes.
 pub fn edges(rng: &mut Rng) {
     let cards = cards(rng, 60);
     let mut t = vec![0; 280];
@@ -84,26 +109,7 @@ pub fn edges(rng: &mut Rng) {
     same_all("output of 141 kept", (), &short, &[7; 141]);
     let id = &cards[0];
     let mut seen = Seen::none();
-    for at in 0..=out.len() {
-        seen.same(
-            "cut",
-            at,
-            ours::lookup(id, &out[..at]),
-            plane::lookup(id, &out[..at]),
-        );
-    }
-    for at in 0..out.len() {
-        for byte in 0..=255 {
-            let mut damaged = out.clone();
-            damaged[at] = byte;
-            seen.same(
-                "byte",
-                (at, byte),
-                ours::lookup(id, &damaged),
-                plane::lookup(id, &damaged),
-            );
-        }
-    }
+    each_damage(&mut seen, id, &out, 0);
     // 48 and 32 buckets of bound 0: every word goes to the base list, which takes 64.
     let shape = Shape::new(48, 32).expect("in range");
     let mut t = vec![0; shape.table_len()];
@@ -130,6 +136,7 @@ pub fn edges(rng: &mut Rng) {
         Answer::accepted(5930),
     );
     same_all("plane of 5,930 bytes", (), &long, &expected);
+    each_damage(&mut seen, id, &long, 5930 - 5 - 64 * 10);
     for _ in 0..20_000 {
         let id = card(rng, &cards);
         let mut damaged = long.clone();
@@ -143,7 +150,7 @@ pub fn edges(rng: &mut Rng) {
         );
     }
     seen.print(
-        "planes of 142 and 5,930 bytes, every cut and every byte of the small one, lookups",
+        "planes of 142 and 5,930 bytes, every cut, every byte of the small one and of the other's base list, lookups",
         &[0, 1, 2, 10],
     );
 }
