@@ -4,12 +4,13 @@ use Prim.Native.Nat.{ℕ, zero, suc, _+_, _^_, _≤_, _<_}
 use native.Mathlib.Nat.{not-suc-le-zero}
 use native.Mathlib.Omega.{arith}
 use mathlib.Core.Path.{_≡_, refl, sym, ap, ap₂, _∙_, subst, subst⁻¹}
-use mathlib.Core.Bool.{Bool, true, false, true≢false}
+use mathlib.Core.Bool.{Bool, true, false, _&&_, true≢false}
 use mathlib.Core.List.{List, []}
+use lib.Dec.{ltb}
 use lib.ListN.{length, getD, drop}
-use borrow.Author.Tests.{le-leb, lt-leb, lt-ltb}
+use borrow.Author.Tests.{le-leb, lt-leb, lt-ltb, le-ltb, ltb-true}
 use Rattle.lists.specs.Entries.{Entry, insertAll}
-use Rattle.lists.proofs.Tests.{cond-true, cond-false}
+use Rattle.lists.proofs.Tests.{cond-true, cond-false, and-one, and-two, and-both, and-false}
 use Rattle.bucket.specs.declared.Bucket.{Bucket}
 use Rattle.bucket.specs.declared.Tried.{Tried}
 use Rattle.bucket.specs.Bucket.{add}
@@ -21,7 +22,7 @@ use Rattle.settle.proofs.Sound.{settle-sound, settle-few}
 use Rattle.model.specs.Model.{baseLimit}
 use Rattle.concrete.specs.Table.{Table, thr, index, put, bucketOf, arriveAt}
 use Rattle.concrete.specs.Layout.{numbersOf, bucketPlace, tableFrom}
-use Rattle.arriving.specs.Arrival.{entriesOf, settledAt, storedAt, withSecond, withBase, toSecond, Straight, Passed, Kept, FlatKept}
+use Rattle.arriving.specs.Arrival.{entriesOf, settledAt, storedAt, goesIn, withSecond, withBase, toSecond, Straight, Passed, Kept, FlatKept}
 use Rattle.arriving.proofs.Tables.{count0, second-here, second-sound, second-stored, second-kept, numbers-table, numbers-kept}
 use Rattle.arriving.proofs.Arrival.{entries-back, insert-all-length, to-second-kept}
 
@@ -33,18 +34,35 @@ module _ (n : ℕ) (thr : ℕ → ℕ) (e : Entry) (b : Bucket) where
   settle-straight (suc t) h d = cond-true _ _ (lt-ltb (thr (e .word)) (suc t) h) ∙ cond-true _ _ d
 
 module _ (n r : ℕ) (thr : ℕ → ℕ) (at : ℕ) (e : Entry) (t : List ℕ) where
+  goes-as : (b : Bucket) {c : Bool} → b ≡ bucketFrom n r (drop at t) → (ltb (thr (e .word)) (b .bound) && add n (e .word) (e .plan) b .done) ≡ c → goesIn n r thr at e t ≡ c
+  goes-as b {c} q g = subst (λ (b : Bucket). (ltb (thr (e .word)) (b .bound) && add n (e .word) (e .plan) b .done) ≡ c) q g
+
+  -- so it settles there, and no word leaves
+  goes-settled : goesIn n r thr at e t ≡ true → settledAt n r thr at e t ≡ record { bucket = add n (e .word) (e .plan) (bucketFrom n r (drop at t)) .bucket; out = [] }
+  goes-settled g =
+      let b : Bucket = bucketFrom n r (drop at t) in
+      settle-straight n thr e b (b .bound) (ltb-true (thr (e .word)) (b .bound) (and-one (ltb (thr (e .word)) (b .bound)) _ g)) (and-two (ltb (thr (e .word)) (b .bound)) _ g)
+
   -- the bucket b is read, x is the threshold, a the add, u the table once its bucket is stored
   pub straight-in : (b : Bucket) (x : ℕ) (a : Tried) (u : List ℕ) → b ≡ bucketFrom n r (drop at t) → x ≡ thr (e .word) → x < b .bound → a ≡ add n (e .word) (e .plan) b → a .done ≡ true
       → u ≡ storedAt n r at (a .bucket) t → Straight n r thr at e t true u
   straight-in b x a u q y h p d w =
-      let s : settledAt n r thr at e t ≡ record { bucket = a .bucket; out = [] } =
-      ap (λ (c : Bucket). settle n thr e (c .bound) c) (sym q)
-      ∙ settle-straight n thr e b (b .bound) (subst (λ (k : ℕ). k < b .bound) y h) (ap (λ (z : Tried). z .done) (sym p) ∙ d)
-      ∙ ap (λ (z : Tried). record { bucket = z .bucket; out = [] }) (sym p) in
-      record { none = λ _. ap (λ (z : Settlement). z .out) s; table = w ∙ ap (λ (z : Settlement). storedAt n r at (z .bucket) t) (sym s) }
+      let g : goesIn n r thr at e t ≡ true = goes-as b q (and-both (lt-ltb (thr (e .word)) (b .bound) (subst (λ (k : ℕ). k < b .bound) y h)) (ap (λ (z : Tried). z .done) (sym p) ∙ d)) in
+      let s : a .bucket ≡ settledAt n r thr at e t .bucket =
+      ap (λ (z : Tried). z .bucket) p ∙ ap (λ (c : Bucket). add n (e .word) (e .plan) c .bucket) q ∙ sym (ap (λ (z : Settlement). z .bucket) (goes-settled g)) in
+      record { says = sym g; table = w ∙ ap (λ (c : Bucket). storedAt n r at c t) s }
 
-  pub straight-not : Straight n r thr at e t false t
-  straight-not = record { none = λ z. absurd (true≢false (sym z)); table = refl }
+  -- it does not go in: the threshold is not below the bound, or it depends
+  pub straight-past : (b : Bucket) (x : ℕ) → b ≡ bucketFrom n r (drop at t) → x ≡ thr (e .word) → b .bound ≤ x → Straight n r thr at e t false t
+  straight-past b x q y h =
+      record { says = sym (goes-as b q (ap (λ (c : Bool). c && add n (e .word) (e .plan) b .done) (le-ltb (thr (e .word)) (b .bound) (subst (λ (k : ℕ). b .bound ≤ k) y h)))); table = refl }
+
+  pub straight-depends : (b : Bucket) (a : Tried) → b ≡ bucketFrom n r (drop at t) → a ≡ add n (e .word) (e .plan) b → a .done ≡ false → Straight n r thr at e t false t
+  straight-depends b a q p d =
+      record {
+        says = sym (goes-as b q (ap (λ (c : Bool). ltb (thr (e .word)) (b .bound) && c) (ap (λ (z : Tried). z .done) (sym p) ∙ d) ∙ and-false (ltb (thr (e .word)) (b .bound))));
+        table = refl;
+      }
 
   pub straight-as : {done b : Bool} {u : List ℕ} → done ≡ b → Straight n r thr at e t done u → Straight n r thr at e t b u
   straight-as {u = u} y g = subst (λ (x : Bool). Straight n r thr at e t x u) y g
@@ -58,7 +76,7 @@ module _ (n r : ℕ) (thr : ℕ → ℕ) (at : ℕ) (e : Entry) (t : List ℕ) w
     straightly = settledOf m (record { bucket = settledAt n r thr at e t .bucket; out = [] })
 
     pub straight-is : straightly ≡ settledOf m (settledAt n r thr at e t)
-    straight-is = ap (λ (es : List Entry). settledOf m (record { bucket = settledAt n r thr at e t .bucket; out = es })) (sym (g .none refl))
+    straight-is = ap (λ (es : List Entry). settledOf m (record { bucket = settledAt n r thr at e t .bucket; out = es })) (sym (ap (λ (z : Settlement). z .out) (goes-settled (sym (g .says)))))
 
 module _ (n r : ℕ) (S : ℕ → ℕ) (m : ℕ) (bs : List Bucket) (e : Entry) (at : ℕ) (t : List ℕ) (s : Settled)
     (a : bucketFrom n r (drop at t) ≡ bucketOf n r S bs (e .word)) (q : s ≡ settledOf m (settledAt n r (thr S) at e t)) where

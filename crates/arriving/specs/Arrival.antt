@@ -3,12 +3,13 @@
 -- Assumes nothing.
 use Prim.Native.Nat.{ℕ, zero, suc, _+_, _≤_, _<_}
 use mathlib.Core.Path.{_≡_}
-use mathlib.Core.Bool.{Bool, true, cond}
+use mathlib.Core.Bool.{Bool, true, cond, _&&_}
 use mathlib.Core.List.{List, [], _∷_, _++_}
-use lib.Dec.{leb}
+use lib.Dec.{leb, ltb}
 use lib.ListN.{length, getD, take, drop}
 use Rattle.lists.specs.Entries.{Entry, insertAll}
 use Rattle.bucket.specs.declared.Bucket.{Bucket}
+use Rattle.bucket.specs.Bucket.{add}
 use Rattle.bucket.specs.Words.{bucketWords, wordsOf, bucketFrom}
 use Rattle.settle.specs.declared.Outgoing.{Outgoing}
 use Rattle.settle.specs.Settle.{SoundBucket, Settlement, settle}
@@ -34,9 +35,13 @@ module _ (n r : ℕ) where
   abbrev pub storedAt : ℕ → Bucket → List ℕ → List ℕ
   storedAt at b t = take at t ++ (wordsOf b ++ drop (at + bucketWords n r) t)
 
-  -- e went straight into the bucket at a place, and no word leaves that; or the numbers t stay as they were
+  -- e goes straight into the bucket at a place: its threshold is below the bound, and it does not depend there
+  abbrev pub goesIn : (ℕ → ℕ) → ℕ → Entry → List ℕ → Bool
+  goesIn thr at e t = let b : Bucket = bucketFrom n r (drop at t) in ltb (thr (e .word)) (b .bound) && add n (e .word) (e .plan) b .done
+
+  -- e went into the bucket at a place, if it goes straight in; else the numbers t stay as they were
   pub record Straight (thr : ℕ → ℕ) (at : ℕ) (e : Entry) (t : List ℕ) (done : Bool) (after : List ℕ) : Type 0 where
-    pub none : done ≡ true → settledAt thr at e t .out ≡ []
+    pub says : done ≡ goesIn thr at e t
     pub table : after ≡ cond done (storedAt at (settledAt thr at e t .bucket) t) t
 
 -- the table with these buckets at level 2

@@ -2,7 +2,7 @@
 -- Assumes nothing.
 use Rattle.settle.specs.Settle.{thresholdOf}
 use Rattle.lists.specs.Entries.{Entry}
-use Rattle.arriving.proofs.Settled.{straight-in, straight-not}
+use Rattle.arriving.proofs.Settled.{straight-in, straight-past, straight-depends}
 use borrow.Author.Needs.{needs}
 use Rattle.arriving.proofs.put_straight.Statement.{statement}
 use Rattle.arriving.proofs.put_straight.Tie as tie
@@ -37,13 +37,20 @@ same-length-2 : tie.Need-same-length-2
 same-length-2 c = search needs
 
 returns-2 : tie.Need-returns-2
-returns-2 c = straight-not 64 8 thresholdOf _ _ _
+returns-2 c =
+    let a = c .before in
+    let r = a .before .before .before .before in
+    let s = r .before .before .before in
+    straight-depends 64 8 thresholdOf (s .args .at) (word s) (s .args .t .now) (r .bucket-at .result) (a .add .result) (r .bucket-at .ensures) (a .add .ensures) (c .if2 .left)
 
 same-length-3 : tie.Need-same-length-3
 same-length-3 c = search needs
 
 returns-3 : tie.Need-returns-3
-returns-3 c = straight-not 64 8 thresholdOf _ _ _
+returns-3 c =
+    let r = c .before .before .before in
+    let s = r .before .before .before in
+    straight-past 64 8 thresholdOf (s .args .at) (word s) (s .args .t .now) (r .bucket-at .result) _ (r .bucket-at .ensures) (c .before .before .threshold .ensures) (c .if1 .left)
 
 pub put-straight-spec : {M : Type 1} → statement M
 put-straight-spec =
