@@ -2,7 +2,7 @@
 -- Assumes nothing.
 use Prim.Native.Nat.{ℕ, zero, suc, _+_, _-_, _/_, _%_, _^_, _≤_, _<_, zero-le}
 use native.Mathlib.Nat.{div-one, pow-suc, div-div-eq-div-mul}
-use native.Mathlib.Numerals.{add-one, sub-one}
+use native.Mathlib.Numerals.{add-one}
 use native.Mathlib.Omega.{arith}
 use mathlib.Core.Path.{_≡_, refl, sym, ap, _∙_}
 use mathlib.Core.Bool.{Bool, true, false, true≢false}
@@ -10,10 +10,9 @@ use mathlib.Core.List.{List, [], _∷_, map, Sublistᴰ, Sublistᴰ·slnil, Subl
 use lib.Dec.{eqb}
 use lib.ListN.{length, getD, take, drop, length-map, length-drop, drop-of-length-le}
 use lib.Seq.{drop-cons}
-use borrow.Author.Tests.{eq-eqb, ne-eqb}
 use Rattle.lists.specs.Lists.{keep}
 use Rattle.lists.specs.Entries.{Entry}
-use Rattle.lists.proofs.Tests.{cases, by-test, cond-true, cond-false}
+use Rattle.lists.proofs.Tests.{by-test}
 use Rattle.lists.proofs.Keep.{length-sub}
 use Rattle.lists.proofs.Sorts.{sort-length}
 use Rattle.gf2.specs.Select.{putIf, chosen}

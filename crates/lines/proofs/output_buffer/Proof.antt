@@ -3,7 +3,6 @@
 use mathlib.Core.Path.{sym}
 use Prim.Native.Nat.{ℕ}
 use lib.ListN.{length-replicate}
-use borrow.Author.Needs.{needs}
 use Rattle.lines.proofs.output_buffer.Statement.{statement}
 use Rattle.lines.proofs.output_buffer.Tie as tie
 

@@ -1,7 +1,7 @@
 -- `plane::ascending` meets its contract. The entries before the offset `at` fit, and the last of them has the word `last`.
 -- Assumes nothing.
 use mathlib.Core.Path.{_≡_, refl, sym, ap, _∙_}
-use mathlib.Core.Bool.{true, false}
+use mathlib.Core.Bool.{true}
 use Prim.Native.Nat.{ℕ, suc, _+_, _-_, _*_, _≤_, _<_}
 use native.Mathlib.Omega.{arith}
 use borrow.Author.Needs.{needs}
@@ -11,7 +11,7 @@ use lib.ListN.{length, getD, take, drop, length-take, length-drop}
 use lib.Seq.{getD-take}
 use mathlib.Core.List.{List}
 use Rattle.lists.specs.Entries.{Entry}
-use Rattle.plane.specs.Record.{entryKind, entryBody, entryLength, entryFrom}
+use Rattle.plane.specs.Record.{entryKind, entryBody, entryLength}
 use Rattle.plane.specs.Plane.{whole, entriesWrong}
 use Rattle.plane.proofs.Scan.{whole-kind, entries-cut, entries-low, entries-step}
 use Rattle.plane.proofs.Read.{entry-part}
