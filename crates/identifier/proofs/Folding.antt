@@ -102,7 +102,7 @@ allowed-low b e =
     (λ p. omega (arith, between-parts 0x30 0x39 b p .1)))
     (one-low marks b refl)
 
--- no byte is folded to such a number
+-- no byte that is allowed is folded to such a number
 pub entry-low : (b : ℕ) → allowed b ≡ true → foldOf b < refusedFrom
 entry-low b e = rw (entry-allowed b e) (lt-of-le-of-lt (folded-le b) (allowed-low b e))
 

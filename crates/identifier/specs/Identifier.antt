@@ -47,7 +47,7 @@ folded b = cond (small b) (b - 0x20) b
 abbrev pub refusedFrom : ℕ
 refusedFrom = 128
 
--- document 01's table of 256 entries: what the byte is folded to, or, if it is not allowed, a number that no byte is folded to
+-- document 01's table of 256 entries: what the byte is folded to, or, if it is not allowed, a number that no allowed byte is folded to
 unfoldable pub foldOf : ℕ → ℕ
 foldOf b = cond (allowed b) (folded b) (refusedFrom + b % refusedFrom)
 

@@ -1,7 +1,7 @@
 // What a table of document 01 has where: its limits, its length, the test of its shape (cause 4), the places of buckets, their bounds, which
 // level holds a vector. Each function is an equation with a definition of concrete (specs/Layout.antt, Table.antt, Calls.antt).
 // proofs/Shape.antt has the laws of the places.
-// Cites concrete, bucket and identifier; sound, arriving, table, adding, plane, writing and session build on it.
+// Cites concrete, bucket, identifier and hash; sound, arriving, table, adding, plane, writing and session build on it.
 use bucket::Bucket;
 ghost use mathlib.Core.Path.{_≡_};
 ghost use mathlib.Core.Bool.{true};

@@ -2,7 +2,7 @@
 // further. specs/Settle.antt has the definition, in document 01's order, and specs/Outgoing.antt its result as the code keeps it.
 // Laws: proofs/Hold.antt (what a bucket holds, as a list of entries), proofs/Fall.antt (where the bound comes to stand, who stays and
 // who leaves), proofs/Sound.antt (`settle-meaning`; the bucket stays sound).
-// Cites gf2, lists, identifier (thresholds), eliminate (the rows of K) and bucket. arriving builds on it.
+// Cites gf2, lists, identifier (thresholds), eliminate (the rows of K) and bucket. arriving and adding build on it.
 use bucket::Bucket;
 use identifier::threshold;
 ghost use mathlib.Core.Path.{_≡_};
