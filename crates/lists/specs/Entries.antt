@@ -12,6 +12,10 @@ pub record Entry : Type 0 where
   pub word : ℕ
   pub plan : ℕ
 
+-- a plan is below this: a byte, 0 to 255
+abbrev pub planLimit : ℕ
+planLimit = 256
+
 -- the words of the entries
 abbrev pub words : List Entry → List ℕ
 words = map (λ e. e .word)
