@@ -11,7 +11,7 @@ use borrow.Rule.Slice.PartMut.{putMid}
 use Rattle.bucket.specs.declared.Bucket.{Bucket}
 use Rattle.bucket.specs.Words.{bucketWords, wordsOf, Shaped}
 
-module _ (n r : ℕ) (t : List ℕ) (b : Bucket) (ht : length t ≡ bucketWords n r) (h : Shaped n r b) where
+module _ {n r : ℕ} (t : List ℕ) {b : Bucket} (ht : length t ≡ bucketWords n r) (h : Shaped n r b) where
   -- the words of the part once the mark is written, and once the solutions are
   abbrev pub marked : List ℕ
   marked = set (b .cols ++ drop n t) n (b .mark)

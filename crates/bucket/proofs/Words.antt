@@ -2,8 +2,7 @@
 -- Assumes nothing.
 use mathlib.Core.Path.{_≡_, sym, ap, _∙_, subst}
 use mathlib.Core.List.{List, _∷_, _++_, append-assoc}
-use Prim.Native.Nat.{ℕ, suc, _+_, _≤_}
-use native.Mathlib.Numerals.{add-one}
+use Prim.Native.Nat.{ℕ, suc, _+_, _≤_, _<_}
 use native.Mathlib.Omega.{arith}
 use lib.ListN.{length, getD, take, drop, length-append, length-drop, length-replicate, take-append-drop}
 use lib.Seq.{length-take-le, drop-cons, drop-drop, take-at, getD-at, drop-append-add, getD-append-add}
@@ -47,13 +46,13 @@ words-from n r xs h =
     simp append-assoc
     (ap (λ (l : List ℕ). take n xs ++ l)
     (ap (λ (l : List ℕ). getD xs n 0 ∷ l)
-    (ap (λ (l : List ℕ). take r (drop (n + 1) xs) ++ l) (at (n + 1 + r) (omega arith) ∙ sym (drop-drop r (n + 1) xs))
+    (ap (λ (l : List ℕ). take r (drop (n + 1) xs) ++ l) (at (n + 1 + r) (n + 2 + r) (omega arith) (omega arith) ∙ sym (drop-drop r (n + 1) xs))
     ∙ take-append-drop r (drop (n + 1) xs))
-    ∙ at n (omega arith))
+    ∙ at n (n + 1) (omega arith) (omega arith))
     ∙ take-append-drop n xs)
   where
-    at : (i : ℕ) → i + 1 ≤ length xs → getD xs i 0 ∷ drop (i + 1) xs ≡ drop i xs
-    at i l = rw (add-one, drop-cons xs i 0 (omega arith))
+    at : (i j : ℕ) → j ≡ suc i → i < length xs → getD xs i 0 ∷ drop j xs ≡ drop i xs
+    at i j e l = rw (e, drop-cons xs i 0 l)
 
 pub from-shaped : (n r : ℕ) (xs : List ℕ) → bucketWords n r ≤ length xs → Shaped n r (bucketFrom n r xs)
 unfolding bucketFrom

@@ -6,9 +6,9 @@ use Prim.Native.Nat.{ℕ, _+_}
 use lib.ListN.{length, getD, take, drop}
 use Rattle.bucket.specs.declared.Bucket.{Bucket}
 
--- how many words a bucket has
+-- how many words a bucket has: columns, mark and bound, and the solutions
 abbrev pub bucketWords : ℕ → ℕ → ℕ
-bucketWords n r = n + 1 + r + 1
+bucketWords n r = n + 2 + r
 
 -- the words of a bucket
 unfoldable pub wordsOf : Bucket → List ℕ

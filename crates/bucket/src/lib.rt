@@ -120,7 +120,10 @@ impl Bucket {
 
     pub const BOUND_AT: usize = Self::SOLUTIONS_AT + Self::SOLUTIONS;
 
-    pub const WORDS: usize = Self::BOUND_AT + 1;
+    // The words of a bucket besides its solutions, and all of them.
+    pub const FRAME: usize = Self::ROWS + 2;
+
+    pub const WORDS: usize = Self::FRAME + Self::SOLUTIONS;
 
     pub fn empty() -> Self
         ensures { λ r. do ⌜ r ≡ emptyBucket (← ⟦Bucket::ROWS⟧ .entry) (← ⟦Bucket::SOLUTIONS⟧ .entry) ⌝ }

@@ -44,7 +44,7 @@ part-put-start-2 c = search needs
 part-put-end-2 : tie.Need-part-put-end-2
 part-put-end-2 c =
     let s = c .before .before .before .before .before .before .before .before in
-    rw (c .before .before .put .ensures) (omega (arith, length-marked 64 8 (s .args .part .now) (s .args .b) (s .pre) (shaped s)))
+    rw (c .before .before .put .ensures) (omega (arith, length-marked (s .args .part .now) (s .pre) (shaped s)))
 
 slice-aggregate-put-2 : tie.Need-slice-aggregate-put-2
 slice-aggregate-put-2 c = search needs
@@ -52,25 +52,25 @@ slice-aggregate-put-2 c = search needs
 put-requires-2 : tie.Need-put-requires-2
 put-requires-2 c κs =
     let s = c .before .before .before .before .before .before .before .before .before .before in
-    rw (c .before .before .before .before .put .ensures) (room 64 8 (s .args .part .now) (s .args .b) (s .pre) (shaped s))
+    rw (c .before .before .before .before .put .ensures) (room (s .args .part .now) (s .pre) (shaped s))
 
 slice-write-part-2 : tie.Need-slice-write-part-2
 slice-write-part-2 c =
     let b = c .before .before .before .before .before .before .before in
     let s = b .before .before .before .before .before .before in
-    rw (c .before .before .put2 .ensures, b .put .ensures) (omega (arith, length-solved 64 8 (s .args .part .now) (s .args .b) (s .pre) (shaped s)))
+    rw (c .before .before .put2 .ensures, b .put .ensures) (omega (arith, length-solved (s .args .part .now) (s .pre) (shaped s)))
 
 same-length : tie.Need-same-length
 same-length c =
     let b = c .before .before .before .before .before .before .before in
     let s = b .before .before .before .before .before .before in
-    rw (c .before .before .put2 .ensures, b .put .ensures) (length-stored 64 8 (s .args .part .now) (s .args .b) (s .pre) (shaped s) _)
+    rw (c .before .before .put2 .ensures, b .put .ensures) (length-stored (s .args .part .now) (s .pre) (shaped s) _)
 
 returns : tie.Need-returns
 returns c =
     let b = c .before .before .before .before .before .before .before in
     let s = b .before .before .before .before .before .before in
-    rw (c .before .before .put2 .ensures, b .put .ensures) (stored 64 8 (s .args .part .now) (s .args .b) (s .pre) (shaped s))
+    rw (c .before .before .put2 .ensures, b .put .ensures) (stored (s .args .part .now) (s .pre) (shaped s))
 
 pub store-spec : {M : Type 1} → statement M
 store-spec =
