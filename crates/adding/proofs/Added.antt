@@ -17,7 +17,7 @@ use Rattle.lists.specs.Entries.{Entry}
 use Rattle.lists.proofs.Tests.{cond-true, cond-false, and-one, and-two}
 use Rattle.hash.specs.Mix.{mixOf}
 use Rattle.bucket.specs.declared.Bucket.{Bucket}
-use Rattle.bucket.specs.Words.{bucketWords, bucketFrom}
+use Rattle.bucket_words.specs.Words.{bucketWords, bucketFrom}
 use Rattle.settle.specs.declared.Settled.{Settled}
 use Rattle.settle.specs.Settle.{SoundBucket, settle}
 use Rattle.settle.specs.Outgoing.{outgoing, settledOf}

@@ -9,8 +9,8 @@ use mathlib.Core.List.{List, _++_}
 use lib.ListN.{length, getD, take, drop, length-drop, take-append-drop}
 use lib.Seq.{drop-drop}
 use Rattle.bucket.specs.declared.Bucket.{Bucket}
-use Rattle.bucket.specs.Words.{bucketWords, wordsOf, bucketFrom}
-use Rattle.bucket.proofs.Words.{words-from}
+use Rattle.bucket_words.specs.Words.{bucketWords, wordsOf, bucketFrom}
+use Rattle.bucket_words.proofs.Words.{words-from}
 use Rattle.settle.specs.Settle.{SoundBucket}
 use Rattle.concrete.specs.Table.{Table, index, put, bucketOf}
 use Rattle.concrete.specs.Layout.{baseNumbers, mostBuckets1, mostBuckets2, numbersOf, bucketPlace, tableFrom, lengthOf}

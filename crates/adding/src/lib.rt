@@ -64,7 +64,7 @@ pub(crate) fn take_base(t: &mut [u64], from: &[u64])
     ensures { λ _. ⌜ now (t .exit) ≡ numbersOf (withBase (tableOf (now (t .entry))) (tableOf (now (from .entry)) .base)) ⌝ }
 {
     let a = layout::base_place(t);
-    bucket::put(&mut t[a..], &from[a..]);
+    bucket_words::put(&mut t[a..], &from[a..]);
     t[Table::BASE_COUNT_AT] = from[Table::BASE_COUNT_AT];
 }
 
@@ -73,7 +73,7 @@ pub(crate) fn pass_drafted(t: &mut [u64], draft: &mut [u64], out: Outgoing) -> b
     requires { do ⌜ FlatKept rows solutions (now t) × ((length (now draft) ≡ length (now t)) × (out .count ≤ (← ⟦Outgoing::MOST⟧))) ⌝ }
     ensures { λ r. ⌜ Passed rows solutions (now (t .entry)) (allToSecond rows solutions mixOf (tableOf (now (t .entry))) (seconds mixOf out)) r (now (t .exit)) ⌝ }
 {
-    bucket::put(draft, t);
+    bucket_words::put(draft, t);
     if carry(draft, out) {
         take_buckets(t, draft, out);
         take_base(t, draft);

@@ -14,7 +14,7 @@ use Rattle.lists.proofs.Tests.{cond-true, cond-false, and-one, and-two, and-bot
 use Rattle.bucket.specs.declared.Bucket.{Bucket}
 use Rattle.bucket.specs.declared.Tried.{Tried}
 use Rattle.bucket.specs.Bucket.{add}
-use Rattle.bucket.specs.Words.{bucketFrom}
+use Rattle.bucket_words.specs.Words.{bucketFrom}
 use Rattle.settle.specs.declared.Settled.{Settled}
 use Rattle.settle.specs.Settle.{SoundBucket, Settlement, settle}
 use Rattle.settle.specs.Outgoing.{outgoing, settledOf}

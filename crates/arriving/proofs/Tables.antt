@@ -16,7 +16,7 @@ use Rattle.lists.specs.Entries.{Entry}
 use Rattle.lists.proofs.Tests.{cases, and-both}
 use Rattle.bucket.specs.declared.Bucket.{Bucket}
 use Rattle.bucket.specs.Bucket.{emptyBucket}
-use Rattle.bucket.specs.Words.{bucketWords, bucketFrom}
+use Rattle.bucket_words.specs.Words.{bucketWords, bucketFrom}
 use Rattle.settle.specs.Settle.{SoundBucket}
 use Rattle.model.specs.Model.{baseLimit}
 use Rattle.concrete.specs.Table.{Table, index, put, nth, bucketOf}

@@ -10,7 +10,7 @@ use lib.ListN.{length, getD, take, drop}
 use Rattle.lists.specs.Entries.{Entry, insertAll}
 use Rattle.bucket.specs.declared.Bucket.{Bucket}
 use Rattle.bucket.specs.Bucket.{add}
-use Rattle.bucket.specs.Words.{bucketWords, wordsOf, bucketFrom}
+use Rattle.bucket_words.specs.Words.{bucketWords, wordsOf, bucketFrom}
 use Rattle.settle.specs.declared.Outgoing.{Outgoing}
 use Rattle.settle.specs.Settle.{SoundBucket, Settlement, settle}
 use Rattle.model.specs.Model.{baseLimit}

@@ -14,7 +14,7 @@ ghost use Prim.Native.Nat.{_+_, _≤_};
 ghost use lib.ListN.{length, getD, drop};
 ghost use Rattle.lists.specs.Entries.{insertAll};
 ghost use Rattle.hash.specs.Mix.{mixOf};
-ghost use Rattle.bucket.specs.Words.{bucketFrom};
+ghost use Rattle.bucket_words.specs.Words.{bucketFrom};
 ghost use Rattle.settle.specs.Settle.{SoundBucket, thresholdOf};
 ghost use Rattle.settle.specs.Outgoing.{settledOf};
 ghost use Rattle.model.specs.Model.{baseLimit};
@@ -37,7 +37,7 @@ pub fn store_at(t: &mut [u64], at: usize, b: Bucket)
     ensures { λ _. ⌜ now (t .exit) ≡ storedAt rows solutions at b (now (t .entry)) ⌝ }
 {
     let end = at + Bucket::WORDS;
-    bucket::store(&mut t[at..end], b);
+    bucket_words::store(&mut t[at..end], b);
 }
 
 // The word v goes straight into the bucket at a place, where its threshold is below the bound and it does not depend. False if not: then

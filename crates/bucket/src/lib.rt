@@ -1,15 +1,13 @@
 // One bucket of document 01: 64 columns of the inverse of K, the mark word of occupied rows, 8 solution words and the bound.
 // Each step is an equation with a definition of specs/Bucket.antt, which follows document 01's "One bucket" sentence by sentence
 // at every number of rows and of solution words; proofs/Steps.antt has what the steps keep (K and its inverse, live vectors, plans).
-// specs/Words.antt has the words of a bucket, as load and store find and leave them in a part of a table.
-// Cites gf2 (vectors) and lists. settle and table build on it.
+// Cites gf2 (vectors), lists and bits. bucket_words, settle and table build on it.
 ghost use mathlib.Core.Path.{_≡_};
 ghost use Prim.Native.Nat.{_<_, _≤_, _^_};
 ghost use lib.Count.{trailingZeros};
 ghost use lib.ListN.{length, getD};
 ghost use Rattle.gf2.specs.Vectors.{dot, product, colStep, solStep, exchange};
 ghost use Rattle.bucket.specs.Bucket.{emptyBucket, rowOf, lookup, add, change, withdraw};
-ghost use Rattle.bucket.specs.Words.{bucketFrom, wordsOf};
 
 // The bucket by value. The columns travel as one array.
 pub struct Bucket {
@@ -242,62 +240,4 @@ impl Bucket {
             bucket: self,
         }
     }
-}
-
-// The words of `from` into `to`.
-pub fn put(to: &mut [u64], from: &[u64])
-    requires { ⌜ length (now to) ≡ length (now from) ⌝ }
-    ensures { λ _. ⌜ now (to .exit) ≡ now (from .entry) ⌝ }
-{
-    let mut i: usize = 0;
-    while i < from.len() {
-        to[i] = from[i];
-        i += 1;
-    }
-}
-
-pub(crate) fn cols_in(part: &[u64]) -> [u64; Bucket::ROWS]
-    requires { do ⌜ length (now part) ≡ (← ⟦Bucket::ROWS⟧) ⌝ }
-    ensures { λ r. ⌜ r ≡ now (part .entry) ⌝ }
-{
-    let mut out = [0u64; Bucket::ROWS];
-    put(&mut out, part);
-    out
-}
-
-pub(crate) fn sols_in(part: &[u64]) -> [u64; Bucket::SOLUTIONS]
-    requires { do ⌜ length (now part) ≡ (← ⟦Bucket::SOLUTIONS⟧) ⌝ }
-    ensures { λ r. ⌜ r ≡ now (part .entry) ⌝ }
-{
-    let mut out = [0u64; Bucket::SOLUTIONS];
-    put(&mut out, part);
-    out
-}
-
-// The bucket that the words of a part of a table stand for.
-pub fn load(part: &[u64]) -> Bucket
-    requires { do ⌜ length (now part) ≡ (← ⟦Bucket::WORDS⟧) ⌝ }
-    ensures { λ r. do ⌜ r ≡ bucketFrom (← ⟦Bucket::ROWS⟧ .entry) (← ⟦Bucket::SOLUTIONS⟧ .entry) (now (part .entry)) ⌝ }
-{
-    let cols = cols_in(&part[0..Bucket::ROWS]);
-    let sols = sols_in(&part[Bucket::SOLUTIONS_AT..Bucket::BOUND_AT]);
-    Bucket {
-        cols,
-        mark: part[Bucket::MARK_AT],
-        sols,
-        bound: part[Bucket::BOUND_AT],
-    }
-}
-
-// The words of a bucket into a part of a table.
-pub fn store(part: &mut [u64], b: Bucket)
-    requires { do ⌜ length (now part) ≡ (← ⟦Bucket::WORDS⟧) ⌝ }
-    ensures { λ _. ⌜ now (part .exit) ≡ wordsOf b ⌝ }
-{
-    let cols = b.cols;
-    let sols = b.sols;
-    put(&mut part[0..Bucket::ROWS], &cols);
-    part[Bucket::MARK_AT] = b.mark;
-    put(&mut part[Bucket::SOLUTIONS_AT..Bucket::BOUND_AT], &sols);
-    part[Bucket::BOUND_AT] = b.bound;
 }

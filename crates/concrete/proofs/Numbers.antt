@@ -9,8 +9,8 @@ use lib.ListN.{length, getD, set, take, drop, replicate, length-append, length-d
 use lib.Seq.{take-append-add, drop-append-add, take-at, drop-at, getD-take, getD-drop, take-take, take-nil, drop-drop}
 use Rattle.lists.specs.Entries.{Entry}
 use Rattle.bucket.specs.declared.Bucket.{Bucket}
-use Rattle.bucket.specs.Words.{bucketWords, wordsOf, bucketFrom, Shaped}
-use Rattle.bucket.proofs.Words.{length-words, from-words, words-from}
+use Rattle.bucket_words.specs.Words.{bucketWords, wordsOf, bucketFrom, Shaped}
+use Rattle.bucket_words.proofs.Words.{length-words, from-words, words-from}
 use Rattle.model.specs.Model.{baseLimit}
 use Rattle.concrete.specs.Table.{Table, nth}
 use Rattle.concrete.specs.Layout.{header, baseNumbers, levelNumbers, pairNumbers, basePairs, numbersOf, levelFrom, pairsFrom, bucketPlace, tableFrom, lengthOf, unusedIn}

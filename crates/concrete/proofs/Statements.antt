@@ -17,7 +17,7 @@ use Rattle.answer.specs.Numbers.{numberOf}
 use Rattle.identifier.specs.Identifier.{readOf}
 use Rattle.identifier.specs.declared.Read.the-variants.{Word, Refused}
 use Rattle.bucket.specs.declared.Bucket.{Bucket}
-use Rattle.bucket.specs.Words.{bucketWords, wordsOf, bucketFrom}
+use Rattle.bucket_words.specs.Words.{bucketWords, wordsOf, bucketFrom}
 use Rattle.model.specs.Levels.{firstLevel, secondLevel, passed, due}
 use Rattle.model.specs.Model.{State, Call, add, query, opened, wouldLeave, base}
 use Rattle.model.specs.Request.{subject}

@@ -23,9 +23,9 @@ use Rattle.eliminate.specs.Elimination.{soundRows}
 use Rattle.eliminate.proofs.Exact.{decides-free, found-is}
 use Rattle.bucket.specs.declared.Bucket.{Bucket}
 use Rattle.bucket.specs.Bucket.{Sound, largestBound, live}
-use Rattle.bucket.specs.Words.{bucketWords, bucketFrom, Shaped}
+use Rattle.bucket_words.specs.Words.{bucketWords, bucketFrom, Shaped}
 use Rattle.bucket.proofs.Steps.{live-test}
-use Rattle.bucket.proofs.Words.{from-shaped}
+use Rattle.bucket_words.proofs.Words.{from-shaped}
 use Rattle.settle.specs.Settle.{SoundBucket}
 use Rattle.model.specs.Model.{baseLimit}
 use Rattle.concrete.specs.Table.{Table, thr, index, nth, holds}

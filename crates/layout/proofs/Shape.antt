@@ -11,7 +11,7 @@ use lib.ListN.{length, getD, drop}
 use lib.Seq.{getD-drop}
 use borrow.Author.Tests.{eqb-true, leb-true}
 use Rattle.lists.proofs.Tests.{and-one, and-two}
-use Rattle.bucket.specs.Words.{bucketWords, bucketFrom}
+use Rattle.bucket_words.specs.Words.{bucketWords, bucketFrom}
 use Rattle.concrete.specs.Table.{nth, index, bucketOf}
 use Rattle.concrete.specs.Layout.{mostBuckets1, mostBuckets2, inRange, header, bucketPlace, lengthOf, tableFrom}
 use Rattle.concrete.specs.Test.{shapeTest}

@@ -8,7 +8,7 @@ ghost use mathlib.Core.Bool.{true};
 ghost use Prim.Native.Nat.{_+_, _*_, _<_, _≤_};
 ghost use lib.ListN.{length, getD, drop};
 ghost use Rattle.hash.specs.Mix.{mixOf};
-ghost use Rattle.bucket.specs.Words.{bucketFrom};
+ghost use Rattle.bucket_words.specs.Words.{bucketFrom};
 ghost use Rattle.concrete.specs.Table.{index, holds};
 ghost use Rattle.concrete.specs.Layout.{inRange, bucketPlace, lengthOf};
 ghost use Rattle.concrete.specs.Calls.{rows, solutions, tableOf, shaped};
@@ -165,5 +165,5 @@ pub fn bucket_at(t: &[u64], place: usize) -> Bucket
     ensures { λ r. ⌜ r ≡ bucketFrom rows solutions (drop place (now (t .entry))) ⌝ }
 {
     let end = place + Bucket::WORDS;
-    bucket::load(&t[place..end])
+    bucket_words::load(&t[place..end])
 }

@@ -8,7 +8,7 @@ use lib.ListN.{length}
 use borrow.Author.Tests.{eq-eqb, ne-eqb}
 use Rattle.bucket.specs.declared.Bucket.{Bucket}
 use Rattle.bucket.specs.declared.Tried.{Tried}
-use Rattle.bucket.specs.Words.{wordsOf, bucketFrom}
+use Rattle.bucket_words.specs.Words.{wordsOf, bucketFrom}
 use Rattle.probe.specs.Steps.{probed}
 
 module _ (step : Bucket → Tried) (p : List ℕ) where

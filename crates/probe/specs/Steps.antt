@@ -7,7 +7,7 @@ use lib.ListN.{length, getD}
 use Rattle.bucket.specs.declared.Bucket.{Bucket}
 use Rattle.bucket.specs.declared.Tried.{Tried}
 use Rattle.bucket.specs.Bucket.{rowOf}
-use Rattle.bucket.specs.Words.{bucketWords, wordsOf, bucketFrom}
+use Rattle.bucket_words.specs.Words.{bucketWords, wordsOf, bucketFrom}
 use Rattle.eliminate.specs.Elimination.{soundRows}
 
 -- a number, and words

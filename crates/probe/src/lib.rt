@@ -90,11 +90,11 @@ pub extern "C" fn probe_add(part: &mut [u64], k: u64, plan: u64) -> u64
     if part.len() != Bucket::WORDS {
         return 2;
     }
-    let b = bucket::load(part);
+    let b = bucket_words::load(part);
     let t = b.add(k, plan);
     if t.done {
         let next = t.bucket;
-        bucket::store(part, next);
+        bucket_words::store(part, next);
         return 1;
     }
     0
@@ -108,11 +108,11 @@ pub extern "C" fn probe_withdraw(part: &mut [u64], k: u64) -> u64
     if part.len() != Bucket::WORDS {
         return 2;
     }
-    let b = bucket::load(part);
+    let b = bucket_words::load(part);
     let t = b.withdraw(k);
     if t.done {
         let next = t.bucket;
-        bucket::store(part, next);
+        bucket_words::store(part, next);
         return 1;
     }
     0
@@ -126,7 +126,7 @@ pub extern "C" fn probe_row(part: &[u64], k: u64) -> u64
     if part.len() != Bucket::WORDS {
         return 65;
     }
-    let b = bucket::load(part);
+    let b = bucket_words::load(part);
     b.row_of(k) as u64
 }
 
@@ -138,7 +138,7 @@ pub extern "C" fn probe_matrix(part: &[u64], i: usize) -> u64
     if part.len() != Bucket::WORDS {
         return 0;
     }
-    let b = bucket::load(part);
+    let b = bucket_words::load(part);
     let cols = b.cols;
     let found = eliminate::rows_of(cols, b.mark);
     let rows = found.rows;

@@ -18,7 +18,7 @@ use Rattle.eliminate.specs.declared.Rows.{Rows}
 use Rattle.eliminate.specs.Elimination.{soundRows}
 use Rattle.bucket.specs.declared.Bucket.{Bucket}
 use Rattle.bucket.specs.Bucket.{largestBound}
-use Rattle.bucket.specs.Words.{bucketWords, bucketFrom}
+use Rattle.bucket_words.specs.Words.{bucketWords, bucketFrom}
 use Rattle.model.specs.Model.{baseLimit}
 use Rattle.concrete.specs.Table.{thr, index}
 use Rattle.concrete.specs.Layout.{header, levelFrom, pairsFrom, bucketPlace, tableFrom, unusedIn}

@@ -20,7 +20,7 @@ use Rattle.gf2.proofs.Bit.{bit-low, bit-suc, xor-low, xor-half, even-pow, half-
 use Rattle.gf2.proofs.Lowest.{tz-lt, tz-bit}
 use Rattle.gf2.proofs.Loops.{without-lt, low-off}
 use Rattle.bucket.specs.declared.Bucket.{Bucket}
-use Rattle.bucket.specs.Words.{bucketWords, bucketFrom}
+use Rattle.bucket_words.specs.Words.{bucketWords, bucketFrom}
 use Rattle.concrete.specs.Layout.{levelFrom, pairsFrom}
 use Rattle.concrete.specs.Content.{occupied}
 use Rattle.concrete.specs.Test.{allOf, ascends, bucketTest, levelTest}

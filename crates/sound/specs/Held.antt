@@ -9,7 +9,7 @@ use lib.ListN.{getD, drop}
 use Rattle.lists.specs.Entries.{Entry}
 use Rattle.hash.specs.Mix.{mixOf, unmixOf}
 use Rattle.bucket.specs.declared.Bucket.{Bucket}
-use Rattle.bucket.specs.Words.{bucketFrom}
+use Rattle.bucket_words.specs.Words.{bucketFrom}
 use Rattle.model.specs.Model.{baseLimit}
 use Rattle.concrete.specs.Table.{thr, index}
 use Rattle.concrete.specs.Layout.{header, levelFrom, pairsFrom, bucketPlace}

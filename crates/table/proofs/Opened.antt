@@ -13,8 +13,8 @@ use Rattle.lists.proofs.Tests.{cond-true, cond-false}
 use Rattle.answer.specs.declared.Answer.the-variants.{Accepted, WrongBuckets, WrongTable}
 use Rattle.bucket.specs.declared.Bucket.{Bucket}
 use Rattle.bucket.specs.Bucket.{emptyBucket}
-use Rattle.bucket.specs.Words.{bucketWords, wordsOf, Shaped}
-use Rattle.bucket.proofs.Words.{length-words, empty-shaped}
+use Rattle.bucket_words.specs.Words.{bucketWords, wordsOf, Shaped}
+use Rattle.bucket_words.proofs.Words.{length-words, empty-shaped}
 use Rattle.concrete.specs.Table.{openTable}
 use Rattle.concrete.specs.Layout.{header, baseNumbers, levelNumbers, basePairs, numbersOf, bucketPlace, inRange, lengthOf}
 use Rattle.concrete.specs.Calls.{rows, solutions, turnedDown, openCall}

@@ -13,7 +13,7 @@ use borrow.Rule.Slice.PartMut.{putMid, post-is}
 use Rattle.lists.specs.Entries.{Entry, find}
 use Rattle.lists.proofs.Tests.{cases, cond-true, cond-false}
 use Rattle.bucket.specs.declared.Bucket.{Bucket}
-use Rattle.bucket.specs.Words.{bucketWords, wordsOf, bucketFrom}
+use Rattle.bucket_words.specs.Words.{bucketWords, wordsOf, bucketFrom}
 use Rattle.settle.specs.Settle.{planOf}
 use Rattle.concrete.specs.Table.{Table, second, index, put, bucketOf, holds, planIn, touch}
 use Rattle.concrete.specs.Layout.{basePairs, pairsFrom, numbersOf, tableFrom, bucketPlace}

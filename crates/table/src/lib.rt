@@ -15,7 +15,7 @@ ghost use mathlib.Core.List.{[], _∷_};
 ghost use Prim.Native.Nat.{_+_, _*_, _<_, _≤_};
 ghost use lib.ListN.{length, drop, replicate};
 ghost use Rattle.bucket.specs.Bucket.{emptyBucket};
-ghost use Rattle.bucket.specs.Words.{bucketFrom, wordsOf};
+ghost use Rattle.bucket_words.specs.Words.{bucketFrom, wordsOf};
 ghost use Rattle.settle.specs.Settle.{planOf};
 ghost use Rattle.base.specs.Base.{Pairs, foundOf};
 ghost use Rattle.identifier.specs.Identifier.{readOf};
@@ -47,7 +47,7 @@ pub(crate) fn empty_buckets(words: &mut [u64], count: usize)
     let mut i: usize = 0;
     while i < count {
         let end = at + Bucket::WORDS;
-        bucket::store(&mut words[at..end], empty);
+        bucket_words::store(&mut words[at..end], empty);
         at = end;
         i += 1;
     }
@@ -150,8 +150,8 @@ pub(crate) fn edit_bucket(part: &mut [u64], v: u64, edit: Edit)
     requires { do ⌜ length (now part) ≡ (← ⟦Bucket::WORDS⟧) ⌝ }
     ensures { λ _. ⌜ now (part .exit) ≡ wordsOf (onBucket edit v (bucketFrom rows solutions (now (part .entry)))) ⌝ }
 {
-    let b = edited(bucket::load(part), v, edit);
-    bucket::store(part, b);
+    let b = edited(bucket_words::load(part), v, edit);
+    bucket_words::store(part, b);
 }
 
 // The base list after it, if v has an entry. Returns how many entries there are.

@@ -26,8 +26,8 @@ use Rattle.identifier.specs.declared.Read.{Read}
 use Rattle.identifier.specs.declared.Read.the-variants.{Word, Refused}
 use Rattle.bucket.specs.declared.Bucket.{Bucket}
 use Rattle.bucket.specs.Bucket as B
-use Rattle.bucket.specs.Words.{Shaped}
-use Rattle.bucket.proofs.Words.{empty-shaped}
+use Rattle.bucket_words.specs.Words.{Shaped}
+use Rattle.bucket_words.proofs.Words.{empty-shaped}
 use Rattle.settle.specs.Settle.{Settlement, leaving, withdrawAll, lowered, settle}
 use Rattle.model.specs.Model.{baseLimit, Call, add, change, withdraw, query}
 use Rattle.model.specs.Request.{subject}

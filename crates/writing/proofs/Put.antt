@@ -12,7 +12,7 @@ use Rattle.codec.specs.Bytes.{toBytes}
 use Rattle.codec.specs.Parts.{written}
 use Rattle.codec.proofs.Part.{written-none, written-one, written-more, written-append}
 use Rattle.codec.proofs.Round.{length-toBytes}
-use Rattle.bucket.specs.Words.{bucketWords, bucketFrom}
+use Rattle.bucket_words.specs.Words.{bucketWords, bucketFrom}
 use Rattle.concrete.specs.Layout.{header, bucketPlace}
 use Rattle.concrete.proofs.Numbers.{from-part}
 use Rattle.plane.specs.Record.{bytesOf, readAll, wordBytes, bucketRecord, entryKind, entryRecord, endRecord, bucketLength, entryLength}

@@ -14,7 +14,7 @@ use Rattle.hash.specs.Mix.{mixOf}
 use Rattle.identifier.specs.Place.{secondOf, bucketAt}
 use Rattle.bucket.specs.declared.Bucket.{Bucket}
 use Rattle.bucket.specs.Bucket.{live, lookup}
-use Rattle.bucket.specs.Words.{bucketWords, bucketFrom}
+use Rattle.bucket_words.specs.Words.{bucketWords, bucketFrom}
 use Rattle.settle.specs.Settle.{SoundBucket, planOf}
 use Rattle.concrete.specs.Table as C
 use Rattle.concrete.specs.Table.{Table}

@@ -13,7 +13,7 @@ use Rattle.answer.specs.declared.Answer.the-variants.{Accepted, ShortOutput}
 use Rattle.codec.specs.Parts.{written}
 use Rattle.codec.proofs.Part.{written-fits, written-append}
 use Rattle.bucket.specs.Bucket.{largestBound}
-use Rattle.bucket.specs.Words.{bucketWords}
+use Rattle.bucket_words.specs.Words.{bucketWords}
 use Rattle.concrete.specs.Layout.{header, levelFrom, pairsFrom, bucketPlace, tableFrom}
 use Rattle.concrete.proofs.Numbers.{header-read}
 use Rattle.plane.specs.Record.{readAll, PlaneBucket, headerRecord}

@@ -4,7 +4,7 @@ use Prim.Native.Nat.{ℕ}
 use mathlib.Core.List.{List, _++_}
 use lib.ListN.{getD, drop}
 use Rattle.lists.specs.Entries.{Entry}
-use Rattle.bucket.specs.Words.{bucketWords, bucketFrom}
+use Rattle.bucket_words.specs.Words.{bucketWords, bucketFrom}
 use Rattle.concrete.specs.Layout.{header, bucketPlace}
 use Rattle.plane.specs.Record.{bytesOf, readAll, PlaneBucket, bucketRecord, entryRecord, endRecord}
 use Rattle.writing.specs.Write.{seenOf}

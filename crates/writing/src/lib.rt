@@ -12,7 +12,7 @@ ghost use Prim.Native.Nat.{ℕ, _+_, _*_, _≤_, _<_};
 ghost use lib.ListN.{length, drop};
 ghost use Rattle.codec.specs.Bytes.{toBytes};
 ghost use Rattle.codec.specs.Parts.{written};
-ghost use Rattle.bucket.specs.Words.{bucketWords};
+ghost use Rattle.bucket_words.specs.Words.{bucketWords};
 ghost use Rattle.model.specs.Model.{baseLimit};
 ghost use Rattle.concrete.specs.Layout.{mostBuckets1, mostBuckets2, header, bucketPlace};
 ghost use Rattle.plane.specs.Record.{bytesOf, readAll, bucketLength, entryLength, endLength, headerRecord, bucketRecord, entryRecord, endRecord};

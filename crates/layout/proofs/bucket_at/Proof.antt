@@ -5,7 +5,7 @@ use Prim.Native.Nat.{ℕ, _+_, _-_}
 use native.Mathlib.Omega.{arith}
 use lib.ListN.{take, drop}
 use borrow.Author.Needs.{needs}
-use Rattle.bucket.specs.Words.{bucketWords, bucketFrom}
+use Rattle.bucket_words.specs.Words.{bucketWords, bucketFrom}
 use Rattle.concrete.proofs.Numbers.{from-part}
 use Rattle.concrete.specs.Calls.{rows, solutions}
 use Rattle.layout.proofs.bucket_at.Statement.{statement}

@@ -5,7 +5,7 @@ use Prim.Native.Nat.{_+_, _-_, _*_, _≤_}
 use native.Mathlib.Omega.{arith}
 use lib.ListN.{length, drop}
 use borrow.Author.Needs.{needs}
-use Rattle.bucket.specs.Words.{bucketWords}
+use Rattle.bucket_words.specs.Words.{bucketWords}
 use Rattle.concrete.specs.Layout.{levelFrom}
 use Rattle.concrete.specs.Test.{levelTest}
 use Rattle.concrete.specs.Calls.{rows, solutions}

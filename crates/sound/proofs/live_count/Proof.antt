@@ -6,7 +6,7 @@ use native.Mathlib.Omega.{arith}
 use lib.Count.{ones-le}
 use lib.ListN.{length, drop}
 use borrow.Author.Needs.{needs}
-use Rattle.bucket.specs.Words.{bucketWords}
+use Rattle.bucket_words.specs.Words.{bucketWords}
 use Rattle.model.specs.Model.{baseLimit}
 use Rattle.concrete.specs.Layout.{levelFrom}
 use Rattle.concrete.specs.Content.{occupied}

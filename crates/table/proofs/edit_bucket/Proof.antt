@@ -3,7 +3,7 @@
 use mathlib.Core.Path.{ap, _∙_}
 use borrow.Author.Needs.{needs}
 use Rattle.bucket.specs.declared.Bucket.{Bucket}
-use Rattle.bucket.specs.Words.{wordsOf}
+use Rattle.bucket_words.specs.Words.{wordsOf}
 use Rattle.table.specs.Edit.{onBucket}
 use Rattle.table.proofs.edit_bucket.Statement.{statement}
 use Rattle.table.proofs.edit_bucket.Tie as tie

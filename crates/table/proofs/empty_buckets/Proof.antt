@@ -7,7 +7,7 @@ use lib.ListN.{length, take, replicate}
 use lib.Seq.{take-all}
 use borrow.Author.Needs.{needs}
 use borrow.Rule.Slice.PartMut.{same-len-mid}
-use Rattle.bucket.specs.Words.{wordsOf}
+use Rattle.bucket_words.specs.Words.{wordsOf}
 use Rattle.bucket.specs.Bucket.{emptyBucket}
 use Rattle.concrete.specs.Layout.{levelNumbers}
 use Rattle.concrete.specs.Calls.{rows, solutions}

@@ -7,9 +7,9 @@ use native.Mathlib.Omega.{arith}
 use lib.ListN.{length, getD, take, drop, length-append, length-drop, length-replicate, take-append-drop}
 use lib.Seq.{length-take-le, drop-cons, drop-drop, take-at, getD-at, drop-append-add, getD-append-add}
 use Rattle.gf2.proofs.Inverse.{length-units}
 use Rattle.bucket.specs.declared.Bucket.{Bucket}
 use Rattle.bucket.specs.Bucket.{emptyBucket}
-use Rattle.bucket.specs.Words.{bucketWords, wordsOf, bucketFrom, Shaped}
+use Rattle.bucket_words.specs.Words.{bucketWords, wordsOf, bucketFrom, Shaped}
 
 module _ (n r : ℕ) (b : Bucket) (h : Shaped n r b) where
   pub length-words : length (wordsOf b) ≡ bucketWords n r

@@ -1,16 +1,16 @@
--- `bucket::store` meets its contract: the words of the part after each of the four writes.
+-- `bucket_words::store` meets its contract: the words of the part after each of the four writes.
 -- Assumes nothing.
 use mathlib.Core.Path.{sym, _∙_}
 use native.Mathlib.Omega.{arith}
 use lib.Seq.{length-take-le}
 use borrow.Author.Needs.{needs}
-use Rattle.bucket.specs.Words.{Shaped}
-use Rattle.bucket.proofs.Parts.{length-marked, room, length-solved, length-stored, stored}
-use Rattle.bucket.proofs.put.Reads as put-reads
-use Rattle.bucket.proofs.store.Reads as reads
-use Rattle.bucket.proofs.store.Lts as lts
-use Rattle.bucket.proofs.store.Statement.{statement}
-use Rattle.bucket.proofs.store.Tie as tie
+use Rattle.bucket_words.specs.Words.{Shaped}
+use Rattle.bucket_words.proofs.Parts.{length-marked, room, length-solved, length-stored, stored}
+use Rattle.bucket_words.proofs.put.Reads as put-reads
+use Rattle.bucket_words.proofs.store.Reads as reads
+use Rattle.bucket_words.proofs.store.Lts as lts
+use Rattle.bucket_words.proofs.store.Statement.{statement}
+use Rattle.bucket_words.proofs.store.Tie as tie
 
 shaped : (s : lts.Start (put-reads.Asked, put-reads.Learnt) reads.Pre reads.Post) → Shaped 64 8 (s .args .b)
 shaped s = record { cols = search needs; sols = search needs }

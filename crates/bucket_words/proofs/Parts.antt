@@ -8,8 +8,8 @@ use native.Mathlib.Omega.{arith}
 use lib.ListN.{length, set, take, drop, length-append, length-drop, length-set, drop-of-length-le}
 use lib.Seq.{length-take-le, drop-cons, drop-drop, set-at, take-at, drop-at}
 use borrow.Rule.Slice.PartMut.{putMid}
 use Rattle.bucket.specs.declared.Bucket.{Bucket}
-use Rattle.bucket.specs.Words.{bucketWords, wordsOf, Shaped}
+use Rattle.bucket_words.specs.Words.{bucketWords, wordsOf, Shaped}
 
 module _ {n r : ℕ} (t : List ℕ) {b : Bucket} (ht : length t ≡ bucketWords n r) (h : Shaped n r b) where
   -- the words of the part once the mark is written, and once the solutions are

@@ -1,9 +1,9 @@
--- `bucket::load` meets its contract.
+-- `bucket_words::load` meets its contract.
 -- Assumes nothing.
 use borrow.Author.Needs.{needs}
-use Rattle.bucket.specs.Words.{bucketFrom}
-use Rattle.bucket.proofs.load.Statement.{statement}
-use Rattle.bucket.proofs.load.Tie as tie
+use Rattle.bucket_words.specs.Words.{bucketFrom}
+use Rattle.bucket_words.proofs.load.Statement.{statement}
+use Rattle.bucket_words.proofs.load.Tie as tie
 
 sub-cols-in : tie.Need-sub-cols-in
 sub-cols-in c = search needs

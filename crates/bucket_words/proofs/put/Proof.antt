@@ -1,4 +1,4 @@
--- `bucket::put` meets its contract. The loop copies from the front: the words before i are copied.
+-- `bucket_words::put` meets its contract. The loop copies from the front: the words before i are copied.
 -- Assumes nothing.
 use mathlib.Core.Path.{_≡_, refl}
 use Prim.Native.Nat.{_-_, _≤_, _<_}
@@ -6,8 +6,8 @@ use native.Mathlib.Omega.{arith}
 use borrow.Author.Needs.{needs}
 use lib.ListN.{length, take, length-set}
 use Rattle.gf2.proofs.Loops.{fill-step, fill-end}
-use Rattle.bucket.proofs.put.Statement.{statement}
-use Rattle.bucket.proofs.put.Tie as tie
+use Rattle.bucket_words.proofs.put.Statement.{statement}
+use Rattle.bucket_words.proofs.put.Tie as tie
 
 abbrev Inv-loop : tie.InvT-loop
 Inv-loop to₀ from i₀ to i = (length to ≡ length from) × (take i to ≡ take i from)
