@@ -1,7 +1,7 @@
 -- What a table of the right shape has where, at every number n of rows and r of solution words and for any mix S.
 -- Assumes nothing.
-use Prim.Native.Nat.{ℕ, suc, _+_, _*_, _≤_, _<_}
-use native.Mathlib.Nat.{mod-lt, mul-le-mul-right}
+use Prim.Native.Nat.{ℕ, suc, _+_, _-_, _*_, _≤_, _<_}
+use native.Mathlib.Nat.{add-mul, mod-lt, mul-le-mul-right}
 use native.Mathlib.Omega.{arith}
 use mathlib.Core.Path.{_≡_, ap, _∙_}
 use mathlib.Core.Bool.{true, _&&_}
@@ -35,6 +35,19 @@ range b1 b2 e =
       high2 = leb-true b2 mostBuckets2 (and-two (leb 1 b2) _ q);
     }
 
+-- ---- places: how many words a bucket has stays a product here, and no proof computes with it
+
+-- no place is past that of the last bucket of the longest table
+pub place-low : (n r : ℕ) {i : ℕ} → i ≤ mostBuckets1 + mostBuckets2 → bucketPlace n r i ≤ bucketPlace n r (mostBuckets1 + mostBuckets2)
+place-low n r h = let k = mul-le-mul-right (bucketWords n r) h in omega arith
+
+-- a loop that goes on by w numbers: those of one bucket, then those of the others
+pub one-more : (w at : ℕ) {m i l : ℕ} → i < m → at + (m - i) * w ≤ l → at + w + (m - (i + 1)) * w ≤ l
+one-more w at {m} {i} h k =
+    let e : m - i ≡ suc (m - (i + 1)) = omega arith in
+    let f : (m - i) * w ≡ w + (m - (i + 1)) * w = rw e (omega arith) in
+    omega arith
+
 module _ (n r : ℕ) (xs : List ℕ) where
   abbrev b1 : ℕ
   b1 = getD xs 0 0
@@ -46,12 +59,6 @@ module _ (n r : ℕ) (xs : List ℕ) where
   pub record Shape : Type 0 where
     pub range : Range (getD xs 0 0) (getD xs 1 0)
     pub size : length xs ≡ lengthOf n r (getD xs 0 0) (getD xs 1 0)
-
-  pub shape : shapeTest n r xs ≡ true → Shape
-  unfolding shapeTest
-  shape e =
-      let q : (inRange b1 b2 && _) ≡ true = and-two (leb header (length xs)) _ e in
-      record { range = range b1 b2 (and-one _ _ q); size = eqb-true _ _ (and-two (inRange b1 b2) _ q) }
 
   -- the bound of the bucket at a place
   pub bound-is : (p : ℕ) → bucketFrom n r (drop p xs) .bound ≡ getD xs (p + (n + 1 + r)) 0
@@ -65,6 +72,10 @@ module _ (n r : ℕ) (xs : List ℕ) where
         let h : suc i * bucketWords n r ≤ (b1 + b2) * bucketWords n r = mul-le-mul-right (bucketWords n r) l in
         let e : suc i * bucketWords n r ≡ i * bucketWords n r + bucketWords n r = omega arith in
         omega (arith, s .size)
+
+    -- the words of each level are in the table
+    pub levels-in : (bucketPlace n r b1 ≤ length xs) × (bucketPlace n r b1 + b2 * bucketWords n r ≤ length xs)
+    levels-in = let e = add-mul b1 b2 (bucketWords n r) in (omega (arith, s .size), omega (arith, s .size))
 
     module _ (S : ℕ → ℕ) (v : ℕ) where
       -- v's bucket is one of its level's
@@ -87,3 +98,9 @@ module _ (n r : ℕ) (xs : List ℕ) where
 
       pub second-in : bucketPlace n r (b1 + index S b2 v) + bucketWords n r ≤ length xs
       second-in = bucket-in (b1 + index S b2 v) (omega (arith, second-lt))
+
+pub shape : {n r : ℕ} {xs : List ℕ} → shapeTest n r xs ≡ true → Shape n r xs
+unfolding shapeTest
+shape {n} {r} {xs} e =
+    let q : (inRange (getD xs 0 0) (getD xs 1 0) && _) ≡ true = and-two (leb header (length xs)) _ e in
+    record { range = range _ _ (and-one _ _ q); size = eqb-true _ _ (and-two (inRange (getD xs 0 0) (getD xs 1 0)) _ q) }

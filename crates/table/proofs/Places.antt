@@ -23,7 +23,7 @@ use Rattle.table.specs.Ready.{Ready}
 
 module _ {t : List ℕ} (h : Ready t) where
   pub shape-of : Shape rows solutions t
-  shape-of = shape rows solutions t (h .shape)
+  shape-of = shape (h .shape)
 
   pub laid-of : Laid rows solutions t
   laid-of = sound-laid t (h .shape) (h .sound)

@@ -2,22 +2,21 @@
 -- Assumes nothing.
 use native.Mathlib.Omega.{arith}
 use borrow.Author.Needs.{needs}
-use Rattle.concrete.specs.Calls.{rows, solutions}
 use Rattle.layout.proofs.Shape.{shape}
 use Rattle.layout.proofs.base_place.Statement.{statement}
 use Rattle.layout.proofs.base_place.Tie as tie
 
 shared-slice-read-bucket-place : tie.Need-shared-slice-read-bucket-place
-shared-slice-read-bucket-place c = let z = c .before .before in let s = shape rows solutions (z .args .t .now) (z .pre) in omega arith
+shared-slice-read-bucket-place c = let s = shape (c .before .before .pre) in omega arith
 
 shared-slice-read-bucket-place-2 : tie.Need-shared-slice-read-bucket-place-2
-shared-slice-read-bucket-place-2 c = let z = c .before .before .before in let s = shape rows solutions (z .args .t .now) (z .pre) in omega arith
+shared-slice-read-bucket-place-2 c = let s = shape (c .before .before .before .pre) in omega arith
 
 add-bucket-place : tie.Need-add-bucket-place
-add-bucket-place c = let z = c .before .before .before in let s = shape rows solutions (z .args .t .now) (z .pre) in omega arith
+add-bucket-place c = let s = shape (c .before .before .before .pre) in omega arith
 
 bucket-place-requires : tie.Need-bucket-place-requires
-bucket-place-requires c κs = let z = c .before .before .before in let s = shape rows solutions (z .args .t .now) (z .pre) in omega arith
+bucket-place-requires c κs = let s = shape (c .before .before .before .pre) in omega arith
 
 returns : tie.Need-returns
 returns c = search needs

@@ -1,25 +1,31 @@
 -- `layout::bound_at` meets its contract.
 -- Assumes nothing.
 use mathlib.Core.Path.{sym, ap, _∙_}
-use Prim.Native.Nat.{ℕ, _+_}
+use Prim.Native.Nat.{ℕ, _+_, _≤_}
 use native.Mathlib.Omega.{arith}
-use lib.ListN.{getD}
+use lib.ListN.{length, getD}
+use Rattle.bucket_words.specs.Words.{bucketWords}
+use Rattle.concrete.specs.Layout.{bucketPlace}
 use Rattle.concrete.specs.Calls.{rows, solutions}
-use Rattle.layout.proofs.Shape.{shape, bound-is}
+use Rattle.layout.proofs.Shape.{shape, bound-is, bucket-in}
 use Rattle.layout.proofs.bound_at.Statement.{statement}
 use Rattle.layout.proofs.bound_at.Tie as tie
 
+-- the words of the bucket are in the table
+room : (s : tie.Start) → bucketPlace rows solutions (s .args .i) + bucketWords rows solutions ≤ length (s .args .t .now)
+room s = bucket-in rows solutions (s .args .t .now) (shape (s .pre .0)) (s .args .i) (s .pre .1)
+
 bucket-place-requires : tie.Need-bucket-place-requires
-bucket-place-requires c κs = let s = shape rows solutions (c .before .args .t .now) (c .before .pre .0) in omega arith
+bucket-place-requires c κs = let s = shape (c .before .pre .0) in omega arith
 
 add-result : tie.Need-add-result
-add-result c = let s = shape rows solutions (c .before .before .args .t .now) (c .before .before .pre .0) in omega arith
+add-result c = omega (arith, room (c .before .before))
 
 mul-result : tie.Need-mul-result
-mul-result c = let s = shape rows solutions (c .before .before .args .t .now) (c .before .before .pre .0) in omega arith
+mul-result c = omega (arith, room (c .before .before))
 
 shared-slice-read-result : tie.Need-shared-slice-read-result
-shared-slice-read-result c = let s = shape rows solutions (c .before .before .before .args .t .now) (c .before .before .before .pre .0) in omega arith
+shared-slice-read-result c = omega (arith, room (c .before .before .before))
 
 returns : tie.Need-returns
 returns c =

@@ -2,13 +2,12 @@
 -- Assumes nothing.
 use native.Mathlib.Omega.{arith}
 use borrow.Author.Needs.{needs}
-use Rattle.concrete.specs.Calls.{rows, solutions}
 use Rattle.layout.proofs.Shape.{shape}
 use Rattle.layout.proofs.first_index.Statement.{statement}
 use Rattle.layout.proofs.first_index.Tie as tie
 
 shared-slice-read-bucket : tie.Need-shared-slice-read-bucket
-shared-slice-read-bucket c = let s = shape rows solutions (c .before .before .args .t .now) (c .before .before .pre) in omega arith
+shared-slice-read-bucket c = let s = shape (c .before .before .pre) in omega arith
 
 bucket-requires : tie.Need-bucket-requires
 bucket-requires c κs = search needs

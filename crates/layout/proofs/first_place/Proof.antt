@@ -14,7 +14,7 @@ first-index-requires c κs = search needs
 bucket-place-requires : tie.Need-bucket-place-requires
 bucket-place-requires c κs =
     let a = c .before .before .args in
-    let s = shape rows solutions (a .t .now) (c .before .before .pre) in
+    let s = shape (c .before .before .pre) in
     let l = first-lt rows solutions (a .t .now) s mixOf (a .v) in
     omega arith
 

@@ -18,14 +18,14 @@ bound-at-requires : tie.Need-bound-at-requires
 bound-at-requires c κs =
     let a = c .before .before .before .args in
     let p = c .before .before .before .pre in
-    let s = shape rows solutions (a .t .now) p in
+    let s = shape p in
     let l = first-lt rows solutions (a .t .now) s mixOf (a .v) in
     (p, omega arith)
 
 returns : tie.Need-returns
 returns c =
     let a = c .before .before .before .before .args in
-    let s = shape rows solutions (a .t .now) (c .before .before .before .before .pre) in
+    let s = shape (c .before .before .before .before .pre) in
     rw (first-bucket rows solutions (a .t .now) s mixOf (a .v), c .before .before .threshold .ensures, c .bound-at .ensures, c .before .first-index .ensures)
 
 pub holds-first-spec : {M : Type 1} → statement M

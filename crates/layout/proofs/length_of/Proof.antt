@@ -1,8 +1,10 @@
 -- `layout::length_of` meets its contract.
 -- Assumes nothing.
+use Prim.Native.Nat.{_+_}
 use native.Mathlib.Omega.{arith}
 use borrow.Author.Needs.{needs}
-use Rattle.layout.proofs.Shape.{range}
+use Rattle.concrete.specs.Calls.{rows, solutions}
+use Rattle.layout.proofs.Shape.{range, place-low}
 use Rattle.layout.proofs.length_of.Statement.{statement}
 use Rattle.layout.proofs.length_of.Tie as tie
 
@@ -13,7 +15,7 @@ bucket-place-requires : tie.Need-bucket-place-requires
 bucket-place-requires c κs = let s = range (c .args .b1) (c .args .b2) (c .pre) in omega arith
 
 add-result : tie.Need-add-result
-add-result c = let s = range (c .before .args .b1) (c .before .args .b2) (c .before .pre) in omega arith
+add-result c = let s = range (c .before .args .b1) (c .before .args .b2) (c .before .pre) in let l = place-low rows solutions {i = c .before .args .b1 + c .before .args .b2} (omega arith) in omega arith
 
 returns : tie.Need-returns
 returns c = search needs

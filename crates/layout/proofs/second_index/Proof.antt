@@ -9,10 +9,10 @@ use Rattle.layout.proofs.second_index.Statement.{statement}
 use Rattle.layout.proofs.second_index.Tie as tie
 
 shared-slice-read-result : tie.Need-shared-slice-read-result
-shared-slice-read-result c = let s = shape rows solutions (c .before .before .args .t .now) (c .before .before .pre) in omega arith
+shared-slice-read-result c = let s = shape (c .before .before .pre) in omega arith
 
 shared-slice-read-bucket : tie.Need-shared-slice-read-bucket
-shared-slice-read-bucket c = let s = shape rows solutions (c .before .before .before .args .t .now) (c .before .before .before .pre) in omega arith
+shared-slice-read-bucket c = let s = shape (c .before .before .before .pre) in omega arith
 
 bucket-requires : tie.Need-bucket-requires
 bucket-requires c κs = search needs
@@ -20,7 +20,7 @@ bucket-requires c κs = search needs
 add-result : tie.Need-add-result
 add-result c =
     let a = c .before .before .before .before .args in
-    let s = shape rows solutions (a .t .now) (c .before .before .before .before .pre) in
+    let s = shape (c .before .before .before .before .pre) in
     let l = second-lt rows solutions (a .t .now) s mixOf (a .v) in
     omega arith
 

@@ -7,7 +7,6 @@ use lib.ListN.{getD, drop}
 use borrow.Author.Needs.{needs}
 use Rattle.concrete.specs.Layout.{pairsFrom}
 use Rattle.concrete.specs.Test.{allOf}
-use Rattle.concrete.specs.Calls.{rows, solutions}
 use Rattle.sound.specs.Held.{pairTest}
 use Rattle.layout.proofs.Shape.{shape}
 use Rattle.sound.proofs.Held.{holding, failing, ascending, unused}
@@ -15,25 +14,25 @@ use Rattle.sound.proofs.base_sound.Statement.{statement}
 use Rattle.sound.proofs.base_sound.Tie as tie
 
 shared-slice-read-count : tie.Need-shared-slice-read-count
-shared-slice-read-count c = let z = c .before .before in let s = shape rows solutions (z .args .t .now) (z .pre .0) in omega arith
+shared-slice-read-count c = let s = shape (c .before .before .pre .0) in omega arith
 
 base-place-requires : tie.Need-base-place-requires
 base-place-requires c κs = search needs
 
 pairs-ascend-requires : tie.Need-pairs-ascend-requires
-pairs-ascend-requires c κs = let z = c .before .before .before in let s = shape rows solutions (z .args .t .now) (z .pre .0) in omega arith
+pairs-ascend-requires c κs = let s = shape (c .before .before .before .pre .0) in omega arith
 
 mul-zero-from : tie.Need-mul-zero-from
 mul-zero-from c = search needs
 
 add-zero-from : tie.Need-add-zero-from
-add-zero-from c = let z = c .before .before .before .before .before in let s = shape rows solutions (z .args .t .now) (z .pre .0) in omega arith
+add-zero-from c = let s = shape (c .before .before .before .before .before .pre .0) in omega arith
 
 zero-from-requires : tie.Need-zero-from-requires
-zero-from-requires c κs = let z = c .before .before .before .before .before in let s = shape rows solutions (z .args .t .now) (z .pre .0) in omega arith
+zero-from-requires c κs = let s = shape (c .before .before .before .before .before .pre .0) in omega arith
 
 pairs-held-requires : tie.Need-pairs-held-requires
-pairs-held-requires c κs = let z = c .before .before .before .before .before .before .before in let s = shape rows solutions (z .args .t .now) (z .pre .0) in (z .pre .0, omega arith)
+pairs-held-requires c κs = let z = c .before .before .before .before .before .before .before in let s = shape (z .pre .0) in (z .pre .0, omega arith)
 
 returns : tie.Need-returns
 returns c =

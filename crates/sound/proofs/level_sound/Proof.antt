@@ -9,6 +9,7 @@ use Rattle.bucket_words.specs.Words.{bucketWords}
 use Rattle.concrete.specs.Layout.{levelFrom}
 use Rattle.concrete.specs.Test.{levelTest}
 use Rattle.concrete.specs.Calls.{rows, solutions}
+use Rattle.layout.proofs.Shape.{one-more}
 use Rattle.sound.specs.Held.{rowOf}
 use Rattle.sound.proofs.Loops.{go-on, stop, test-next, test-end}
 use Rattle.sound.proofs.level_sound.Statement.{statement}
@@ -24,16 +25,16 @@ loop-holds : tie.Need-loop-holds Inv-loop μ-loop
 loop-holds c =
     let a = c .before .args in
     let e : a .m - 0 ≡ a .m = omega arith in
-    (omega arith, omega arith, rw e refl)
+    (omega arith, rw e (c .before .pre .1), rw e refl)
 
 bucket-sound-requires : tie.Need-bucket-sound-requires Inv-loop μ-loop
-bucket-sound-requires c κs = search needs
+bucket-sound-requires c κs = let b = c .before in (b .before .before .pre .0, omega (arith, one-more (bucketWords rows solutions) (b .loop .at) (c .loop-test .taken) (b .loop .inv .1)))
 
 add-i : tie.Need-add-i Inv-loop μ-loop
 add-i c = search needs
 
 add-at : tie.Need-add-at Inv-loop μ-loop
-add-at c = search needs
+add-at c = let b = c .before .before .before in omega (arith, one-more (bucketWords rows solutions) (b .loop .at) (c .before .before .loop-test .taken) (b .loop .inv .1))
 
 loop-less : tie.Need-loop-less Inv-loop μ-loop
 loop-less c = omega arith
@@ -43,7 +44,7 @@ loop-again c =
     let b = c .before .before .before in
     let a = b .before .before .args in
     let e = test-next rows solutions (a .t .now) (rowOf (a .t .now) (a .second) (a .m)) (b .loop .at) (a .m) (b .loop .i) (c .before .before .loop-test .taken) in
-    (omega arith, omega arith, go-on e (sym (c .before .bucket-sound .ensures) ∙ c .if1 .taken) (b .loop .inv .2))
+    (omega arith, one-more (bucketWords rows solutions) (b .loop .at) (c .before .before .loop-test .taken) (b .loop .inv .1), go-on e (sym (c .before .bucket-sound .ensures) ∙ c .if1 .taken) (b .loop .inv .2))
 
 returns : tie.Need-returns Inv-loop μ-loop
 returns c =

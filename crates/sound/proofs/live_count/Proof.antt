@@ -11,6 +11,7 @@ use Rattle.model.specs.Model.{baseLimit}
 use Rattle.concrete.specs.Layout.{levelFrom}
 use Rattle.concrete.specs.Content.{occupied}
 use Rattle.concrete.specs.Calls.{rows, solutions}
+use Rattle.layout.proofs.Shape.{one-more}
 use Rattle.sound.proofs.Loops.{occupied-next, occupied-end}
 use Rattle.sound.proofs.live_count.Statement.{statement}
 use Rattle.sound.proofs.live_count.Tie as tie
@@ -25,16 +26,16 @@ loop-holds : tie.Need-loop-holds Inv-loop μ-loop
 loop-holds c =
     let a = c .args in
     let e : a .m - 0 ≡ a .m = omega arith in
-    (omega arith, omega arith, omega arith, rw e (omega arith))
+    (omega arith, rw e (c .pre .0), omega arith, rw e (omega arith))
 
 add-sum : tie.Need-add-sum Inv-loop μ-loop
-add-sum c = search needs
+add-sum c = let b = c .before in omega (arith, one-more (bucketWords rows solutions) (b .loop .at) (c .loop-test .taken) (b .loop .inv .1))
 
 mul-sum : tie.Need-mul-sum Inv-loop μ-loop
-mul-sum c = search needs
+mul-sum c = let b = c .before in omega (arith, one-more (bucketWords rows solutions) (b .loop .at) (c .loop-test .taken) (b .loop .inv .1))
 
 shared-slice-read-sum : tie.Need-shared-slice-read-sum Inv-loop μ-loop
-shared-slice-read-sum c = search needs
+shared-slice-read-sum c = let b = c .before .before in omega (arith, one-more (bucketWords rows solutions) (b .loop .at) (c .before .loop-test .taken) (b .loop .inv .1))
 
 cast-sum : tie.Need-cast-sum Inv-loop μ-loop
 cast-sum c = let h = ones-le rows _ (c .shared-slice-known .given (c .before .before .loop .at + rows) .fits) in omega arith
@@ -48,7 +49,7 @@ add-i : tie.Need-add-i Inv-loop μ-loop
 add-i c = search needs
 
 add-at : tie.Need-add-at Inv-loop μ-loop
-add-at c = search needs
+add-at c = let b = c .before .before in omega (arith, one-more (bucketWords rows solutions) (b .loop .at) (c .before .loop-test .taken) (b .loop .inv .1))
 
 loop-less : tie.Need-loop-less Inv-loop μ-loop
 loop-less c = search needs
@@ -58,7 +59,7 @@ loop-again c =
     let h = ones-le rows _ (c .shared-slice-known .given (c .before .before .loop .at + rows) .fits) in
     let b = c .before .before in
     let e = occupied-next rows solutions (b .before .args .t .now) (b .loop .at) (b .before .args .m) (b .loop .i) (c .before .loop-test .taken) in
-    (omega arith, omega arith, omega arith, omega arith)
+    (omega arith, one-more (bucketWords rows solutions) (b .loop .at) (c .before .loop-test .taken) (b .loop .inv .1), omega arith, omega arith)
 
 returns : tie.Need-returns Inv-loop μ-loop
 returns c =

@@ -7,16 +7,16 @@ use lib.ListN.{getD}
 use borrow.Author.Needs.{needs}
 use Rattle.concrete.specs.Calls.{rows, solutions}
 use Rattle.sound.specs.Held.{levelSound}
-use Rattle.layout.proofs.Shape.{shape}
+use Rattle.layout.proofs.Shape.{shape, levels-in}
 use Rattle.sound.proofs.Held.{holding, failing, base-fits, whole}
 use Rattle.sound.proofs.sound.Statement.{statement}
 use Rattle.sound.proofs.sound.Tie as tie
 
 shared-slice-read-first : tie.Need-shared-slice-read-first
-shared-slice-read-first c = let z = c .before .before in let s = shape rows solutions (z .args .t .now) (z .pre) in omega arith
+shared-slice-read-first c = let s = shape (c .before .before .pre) in omega arith
 
 shared-slice-read-second : tie.Need-shared-slice-read-second
-shared-slice-read-second c = let z = c .before .before .before in let s = shape rows solutions (z .args .t .now) (z .pre) in omega arith
+shared-slice-read-second c = let s = shape (c .before .before .before .pre) in omega arith
 
 counts-sound-requires : tie.Need-counts-sound-requires
 counts-sound-requires c κs = search needs
@@ -25,13 +25,13 @@ base-sound-requires : tie.Need-base-sound-requires
 base-sound-requires c κs = let z = c .before .before .before .before .before in (z .pre, base-fits (z .args .t .now) (sym (c .before .counts-sound .ensures) ∙ c .if1 .taken))
 
 level-sound-requires : tie.Need-level-sound-requires
-level-sound-requires c κs = let z = c .before .before .before .before .before .before .before in let s = shape rows solutions (z .args .t .now) (z .pre) in (z .pre, omega arith)
+level-sound-requires c κs = let z = c .before .before .before .before .before .before .before in (z .pre, levels-in rows solutions _ (shape (z .pre)) .0)
 
 bucket-place-requires : tie.Need-bucket-place-requires
-bucket-place-requires c κs = let z = c .before .before .before .before .before .before .before .before .before in let s = shape rows solutions (z .args .t .now) (z .pre) in omega arith
+bucket-place-requires c κs = let s = shape (c .before .before .before .before .before .before .before .before .before .pre) in omega arith
 
 level-sound-requires-2 : tie.Need-level-sound-requires-2
-level-sound-requires-2 c κs = let z = c .before .before .before .before .before .before .before .before .before .before in let s = shape rows solutions (z .args .t .now) (z .pre) in (z .pre, omega arith)
+level-sound-requires-2 c κs = let z = c .before .before .before .before .before .before .before .before .before .before in (z .pre, omega (arith, levels-in rows solutions _ (shape (z .pre)) .1))
 
 returns : tie.Need-returns
 returns c =
