@@ -128,8 +128,8 @@ module _ (n r : ℕ) where
       last-is =
           take-all (length t - p) (drop p t) (omega (arith, length-drop p t)) ∙ ap₂ (λ (k : ℕ) (l : List ℕ). drop k l) place-is (sym (h .numbers)) ∙ base-part T (h .table)
 
-      pub last-pairs : Pairs (getD t 2 0) last
-      last-pairs = subst⁻¹ (Pairs (getD t 2 0)) last-is (pairs-of (getD t 2 0) (T .base) count0 (subst (λ (k : ℕ). k ≤ baseLimit) count0 (h .table .short)))
+      pub last-pairs : Pairs baseLimit (getD t 2 0) last
+      last-pairs = subst⁻¹ (Pairs baseLimit (getD t 2 0)) last-is (pairs-of (getD t 2 0) (T .base) count0 (subst (λ (k : ℕ). k ≤ baseLimit) count0 (h .table .short)))
 
       pub last-read : pairsFrom (getD t 2 0) last ≡ T .base
       last-read = ap (pairsFrom (getD t 2 0)) last-is ∙ from-pairs (getD t 2 0) (T .base) count0

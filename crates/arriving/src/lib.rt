@@ -60,7 +60,7 @@ pub fn put_straight(t: &mut [u64], at: usize, v: u64, plan: u64) -> bool
 
 // The words into the base list, one after the other.
 pub(crate) fn insert_all(pairs: &mut [u64], count: usize, out: Outgoing)
-    requires { ⌜ Pairs count (now pairs) × (count + out .count ≤ baseLimit) ⌝ }
+    requires { ⌜ Pairs baseLimit count (now pairs) × (count + out .count ≤ baseLimit) ⌝ }
     ensures { λ _. ⌜ now (pairs .exit) ≡ basePairs (insertAll (entriesOf out) (pairsFrom count (now (pairs .entry)))) ⌝ }
 {
     let vectors = out.vectors;

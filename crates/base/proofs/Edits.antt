@@ -14,11 +14,10 @@ use borrow.Author.Tests.{eqb-true}
 use Rattle.lists.specs.Entries.{Entry, find, insert, update, remove}
 use Rattle.lists.proofs.Tests.{by-test, cases, cond-true, cond-false}
 use Rattle.lists.proofs.Entries.{insert-length, update-length, remove-length}
-use Rattle.model.specs.Model.{baseLimit}
-use Rattle.concrete.specs.Layout.{baseNumbers, pairNumbers, pairsFrom, basePairs}
-use Rattle.concrete.proofs.Numbers.{length-pairsFrom, read-pair, length-base}
-use Rattle.base.specs.Base.{Pairs, before, putAt}
-use Rattle.base.proofs.Shift.{put-append, put-same, length-put, length-pairs, base-put, length-of, room}
+use Rattle.concrete.specs.Layout.{pairNumbers, pairsFrom}
+use Rattle.concrete.proofs.Numbers.{length-pairsFrom, read-pair}
+use Rattle.base.specs.Base.{pairsIn, Pairs, before, putAt}
+use Rattle.base.proofs.Shift.{put-append, put-same, length-put, length-pairs, length-in, pair-put, length-of, room}
 
 -- ---- the search passes the pairs one by one
 
@@ -94,15 +93,12 @@ module _ (v : ℕ) where
 
 -- ---- the pairs
 
-module _ {k : ℕ} {xs : List ℕ} (h : Pairs k xs) where
+module _ {m k : ℕ} {xs : List ℕ} (h : Pairs m k xs) where
   abbrev es : List Entry
   es = pairsFrom k xs
 
   size : length es ≡ k
   size = length-pairsFrom k xs
-
-  fits : length es ≤ baseLimit
-  fits = omega (arith, size, h .fits)
 
   module _ (v i : ℕ) (q : i ≡ before (eqb v) es) where
     within : i < k → before (eqb v) es < length es
@@ -118,54 +114,54 @@ module _ {k : ℕ} {xs : List ℕ} (h : Pairs k xs) where
     pub not-found : k ≤ i → find v es ≡ none
     not-found l = find-none v es (beyond l)
 
-    pub updated : (p : ℕ) → i < k → set xs (2 * i + 1) p ≡ basePairs (update (record { word = v; plan = p }) es)
+    pub updated : (p : ℕ) → i < k → set xs (2 * i + 1) p ≡ pairsIn m (update (record { word = v; plan = p }) es)
     updated p l =
-        let t : 2 * before (eqb v) es + 1 < length (pairNumbers es) = omega (arith, within l, length-pairs es fits) in
-        ap (λ (zs : List ℕ). set zs (2 * i + 1) p) (h .rest) ∙ ap (λ (j : ℕ). set (basePairs es) (2 * j + 1) p) q
+        let t : 2 * before (eqb v) es + 1 < length (pairNumbers es) = omega (arith, within l, length-pairs es) in
+        ap (λ (zs : List ℕ). set zs (2 * i + 1) p) (h .rest) ∙ ap (λ (j : ℕ). set (pairsIn m es) (2 * j + 1) p) q
         ∙ set-append-left (pairNumbers es) _ _ p t
-        ∙ ap₂ (λ (a : List ℕ) (n : ℕ). a ++ replicate (baseNumbers - 2 * n) 0) (sym (update-pairs v p es (within l))) (sym (update-length (record { word = v; plan = p }) es))
+        ∙ ap₂ (λ (a : List ℕ) (n : ℕ). a ++ replicate (2 * m - 2 * n) 0) (sym (update-pairs v p es (within l))) (sym (update-length (record { word = v; plan = p }) es))
 
-    pub not-updated : (p : ℕ) → k ≤ i → xs ≡ basePairs (update (record { word = v; plan = p }) es)
-    not-updated p l = h .rest ∙ ap basePairs (sym (update-none v p es (beyond l)))
+    pub not-updated : (p : ℕ) → k ≤ i → xs ≡ pairsIn m (update (record { word = v; plan = p }) es)
+    not-updated p l = h .rest ∙ ap (pairsIn m) (sym (update-none v p es (beyond l)))
 
     pub removed-length : i < k → k - 1 ≡ length (remove v es)
     removed-length l = omega (arith, size, remove-length v _ es (found l))
 
     pub removed : (a b : ℕ) (ys zs : List ℕ) → i < k → length ys ≡ length xs → length zs ≡ length xs
-        → putAt (2 * i) a ys ≡ xs ++ 0 ∷ [] → putAt (2 * i) b zs ≡ ys ++ 0 ∷ [] → zs ≡ basePairs (remove v es)
+        → putAt (2 * i) a ys ≡ xs ++ 0 ∷ [] → putAt (2 * i) b zs ≡ ys ++ 0 ∷ [] → zs ≡ pairsIn m (remove v es)
     removed a b ys zs l ly lz e f =
         let rs : List Entry = remove v es in
         let x : Entry = getD es i none-at in
         let n : length rs ≡ k - 1 = sym (removed-length l) in
-        let room : length (basePairs rs) ≡ length xs = length-base rs (omega (arith, h .fits)) ∙ sym (length-of h) in
+        let room : length (pairsIn m rs) ≡ length xs = length-in m rs (omega (arith, h .fits)) ∙ sym (length-of h) in
         let j : 2 * i ≤ length ys = omega (arith, length-of h, h .fits) in
         let whole : putAt (2 * i) a (putAt (2 * i) b zs) ≡ xs ++ 0 ∷ 0 ∷ [] =
         ap (putAt (2 * i) a) f ∙ put-append (2 * i) a ys (0 ∷ []) j ∙ ap (λ (l : List ℕ). l ++ 0 ∷ []) e ∙ append-assoc xs (0 ∷ []) (0 ∷ []) in
-        let back : putAt i x rs ≡ es = ap (λ (m : ℕ). putAt m (getD es m none-at) rs) q ∙ remove-put v es (within l) in
-        let own : putAt (2 * i) (x .word) (putAt (2 * i) (x .plan) (basePairs rs)) ≡ xs ++ 0 ∷ 0 ∷ [] =
-        base-put i x rs (omega arith) (omega (arith, h .fits)) ∙ ap (λ (l : List ℕ). l ++ 0 ∷ 0 ∷ []) (ap basePairs back ∙ sym (h .rest)) in
-        put-same (2 * i) b (x .plan) zs (basePairs rs) (omega arith) (omega arith)
-        (put-same (2 * i) a (x .word) (putAt (2 * i) b zs) (putAt (2 * i) (x .plan) (basePairs rs)) (omega (arith, length-put (2 * i) b zs (omega arith))) (omega (arith, length-put (2 * i) (x .plan) (basePairs rs) (omega arith))) (whole ∙ sym own))
+        let back : putAt i x rs ≡ es = ap (λ (j : ℕ). putAt j (getD es j none-at) rs) q ∙ remove-put v es (within l) in
+        let own : putAt (2 * i) (x .word) (putAt (2 * i) (x .plan) (pairsIn m rs)) ≡ xs ++ 0 ∷ 0 ∷ [] =
+        pair-put m i x rs (omega arith) (omega (arith, h .fits)) ∙ ap (λ (l : List ℕ). l ++ 0 ∷ 0 ∷ []) (ap (pairsIn m) back ∙ sym (h .rest)) in
+        put-same (2 * i) b (x .plan) zs (pairsIn m rs) (omega arith) (omega arith)
+        (put-same (2 * i) a (x .word) (putAt (2 * i) b zs) (putAt (2 * i) (x .plan) (pairsIn m rs)) (omega (arith, length-put (2 * i) b zs (omega arith))) (omega (arith, length-put (2 * i) (x .plan) (pairsIn m rs) (omega arith))) (whole ∙ sym own))
 
     pub not-removed-length : k ≤ i → k ≡ length (remove v es)
     not-removed-length l = sym (ap length (remove-none v es (beyond l)) ∙ size)
 
-    pub not-removed : k ≤ i → xs ≡ basePairs (remove v es)
-    not-removed l = h .rest ∙ ap basePairs (sym (remove-none v es (beyond l)))
+    pub not-removed : k ≤ i → xs ≡ pairsIn m (remove v es)
+    not-removed l = h .rest ∙ ap (pairsIn m) (sym (remove-none v es (beyond l)))
 
   pub place-le : (v i : ℕ) → i ≡ before (ltb v) es → 2 * i ≤ length xs
   place-le v i q = omega (arith, before-le (ltb v) es, size, room h)
 
-  pub inserted : (v p i a b : ℕ) (ys zs : List ℕ) → i ≡ before (ltb v) es → k < baseLimit → length ys ≡ length xs → length zs ≡ length xs
-      → ys ++ a ∷ [] ≡ putAt (2 * i) p xs → zs ++ b ∷ [] ≡ putAt (2 * i) v ys → zs ≡ basePairs (insert (record { word = v; plan = p }) es)
+  pub inserted : (v p i a b : ℕ) (ys zs : List ℕ) → i ≡ before (ltb v) es → k < m → length ys ≡ length xs → length zs ≡ length xs
+      → ys ++ a ∷ [] ≡ putAt (2 * i) p xs → zs ++ b ∷ [] ≡ putAt (2 * i) v ys → zs ≡ pairsIn m (insert (record { word = v; plan = p }) es)
   inserted v p i a b ys zs q l ly lz e f =
       let x : Entry = record { word = v; plan = p } in
       let i-le : i ≤ k = omega (arith, before-le (ltb v) es, size) in
       let j : 2 * i ≤ length ys = omega (arith, length-of h, h .fits) in
       let whole : zs ++ b ∷ a ∷ [] ≡ putAt (2 * i) v (putAt (2 * i) p xs) =
       sym (append-assoc zs (b ∷ []) (a ∷ [])) ∙ ap (λ (l : List ℕ). l ++ a ∷ []) f ∙ sym (put-append (2 * i) v ys (a ∷ []) j) ∙ ap (putAt (2 * i) v) e in
-      let own : putAt (2 * i) v (putAt (2 * i) p xs) ≡ basePairs (insert x es) ++ 0 ∷ 0 ∷ [] =
-      ap (λ (l : List ℕ). putAt (2 * i) v (putAt (2 * i) p l)) (h .rest) ∙ base-put i x es (omega (arith, size)) (omega (arith, size))
-      ∙ ap (λ (l : List Entry). basePairs l ++ 0 ∷ 0 ∷ []) (ap (λ (m : ℕ). putAt m x es) q ∙ sym (insert-put x es)) in
-      let room : length (basePairs (insert x es)) ≡ length xs = length-base (insert x es) (omega (arith, insert-length x es, size)) ∙ sym (length-of h) in
-      sym (take-at zs (b ∷ a ∷ []) (length xs) lz) ∙ ap (take (length xs)) (whole ∙ own) ∙ take-at (basePairs (insert x es)) (0 ∷ 0 ∷ []) (length xs) room
+      let own : putAt (2 * i) v (putAt (2 * i) p xs) ≡ pairsIn m (insert x es) ++ 0 ∷ 0 ∷ [] =
+      ap (λ (l : List ℕ). putAt (2 * i) v (putAt (2 * i) p l)) (h .rest) ∙ pair-put m i x es (omega (arith, size)) (omega (arith, size))
+      ∙ ap (λ (l : List Entry). pairsIn m l ++ 0 ∷ 0 ∷ []) (ap (λ (j : ℕ). putAt j x es) q ∙ sym (insert-put x es)) in
+      let room : length (pairsIn m (insert x es)) ≡ length xs = length-in m (insert x es) (omega (arith, insert-length x es, size)) ∙ sym (length-of h) in
+      sym (take-at zs (b ∷ a ∷ []) (length xs) lz) ∙ ap (take (length xs)) (whole ∙ own) ∙ take-at (pairsIn m (insert x es)) (0 ∷ 0 ∷ []) (length xs) room

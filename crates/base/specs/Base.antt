@@ -1,22 +1,29 @@
--- The base list as it lies in the table.
+-- The base list as it lies in the table, for any number of entries that there is room for.
 -- Assumes nothing.
-use Prim.Native.Nat.{ℕ, suc, _≤_}
+use Prim.Native.Nat.{ℕ, suc, _-_, _*_, _/_, _≤_}
 use mathlib.Core.Path.{_≡_}
 use mathlib.Core.Bool.{Bool, true, false, cond}
 use mathlib.Core.List.{List, [], _∷_, _++_}
 use mathlib.Core.Option.{Option, none, some}
 use lib.Dec.{eqb, ltb}
-use lib.ListN.{take, drop}
+use lib.ListN.{length, take, drop, replicate}
 use Rattle.lists.specs.Entries.{Entry}
-use Rattle.model.specs.Model.{baseLimit}
-use Rattle.concrete.specs.Layout.{pairsFrom, basePairs}
+use Rattle.concrete.specs.Layout.{pairNumbers, pairsFrom}
 use Rattle.base.specs.declared.Found.{Found}
 use Rattle.base.specs.declared.Found.the-variants.{Plan, Nothing}
 
--- the numbers hold `count` entries: that many pairs, and 0 for the unused ones
-pub record Pairs (count : ℕ) (xs : List ℕ) : Type 0 where
-  pub fits : count ≤ baseLimit
-  pub rest : xs ≡ basePairs (pairsFrom count xs)
+-- how many entries the numbers have room for
+abbrev pub capacity : List ℕ → ℕ
+capacity xs = length xs / 2
+
+-- the entries in numbers with room for m of them: their pairs, and 0 for the unused ones. In a table m is `baseLimit`
+abbrev pub pairsIn : ℕ → List Entry → List ℕ
+pairsIn m es = pairNumbers es ++ replicate (2 * m - 2 * length es) 0
+
+-- the numbers have room for m entries, and hold `count`
+pub record Pairs (m count : ℕ) (xs : List ℕ) : Type 0 where
+  pub fits : count ≤ m
+  pub rest : xs ≡ pairsIn m (pairsFrom count xs)
 
 -- what the search for a word gives
 abbrev pub foundOf : Option ℕ → Found

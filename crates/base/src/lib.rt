@@ -1,15 +1,15 @@
-// The base list of document 01 as it lies in the table: 64 pairs (w', plan), of which the first `count` are used and the others 0.
-// Each function is an equation with a definition of lists (specs/Entries.antt) on the entries that the pairs stand for; what lies
-// there afterwards is the whole slice. specs/Base.antt says what a slice is that holds `count` entries, proofs/Shift.antt how
-// a pair comes in or goes out. Cites lists and concrete (specs/Layout.antt); table and arriving build on it.
+// The base list of document 01 as it lies in the table: pairs (w', plan), of which the first `count` are used and the others 0. The
+// slice tells for how many entries there is room, in a table 64. Each function is an equation with a definition of lists
+// (specs/Entries.antt) on the entries that the pairs stand for; what lies there afterwards is the whole slice. specs/Base.antt says what
+// a slice is that holds `count` entries, proofs/Shift.antt how a pair comes in or goes out.
+// Cites lists and concrete (specs/Layout.antt); table and arriving build on it.
 ghost use mathlib.Core.Path.{_≡_};
 ghost use mathlib.Core.List.{[], _∷_, _++_};
 ghost use Prim.Native.Nat.{_*_, _<_, _≤_};
 ghost use lib.ListN.{length};
 ghost use Rattle.lists.specs.Entries.{find, insert, update, remove};
-ghost use Rattle.model.specs.Model.{baseLimit};
-ghost use Rattle.concrete.specs.Layout.{pairsFrom, basePairs};
-ghost use Rattle.base.specs.Base.{Pairs, hits, before, putAt, foundOf};
+ghost use Rattle.concrete.specs.Layout.{pairsFrom};
+ghost use Rattle.base.specs.Base.{capacity, pairsIn, Pairs, hits, before, putAt, foundOf};
 
 // The plan of a word, if it has an entry.
 pub enum Found {
@@ -76,7 +76,7 @@ pub(crate) fn take_out(words: &mut [u64], at: usize) -> u64
 
 // The plan of v.
 pub fn find(pairs: &[u64], count: usize, v: u64) -> Found
-    requires { ⌜ Pairs count (now pairs) ⌝ }
+    requires { ⌜ Pairs (capacity (now pairs)) count (now pairs) ⌝ }
     ensures { λ r. ⌜ r ≡ foundOf (find v (pairsFrom count (now (pairs .entry)))) ⌝ }
 {
     let i = first_hit(pairs, count, false, v);
@@ -88,8 +88,8 @@ pub fn find(pairs: &[u64], count: usize, v: u64) -> Found
 
 // v, if it has an entry, gets this plan.
 pub fn update(pairs: &mut [u64], count: usize, v: u64, plan: u64)
-    requires { ⌜ Pairs count (now pairs) ⌝ }
-    ensures { λ _. ⌜ now (pairs .exit) ≡ basePairs (update (record { word = v; plan = plan }) (pairsFrom count (now (pairs .entry)))) ⌝ }
+    requires { ⌜ Pairs (capacity (now pairs)) count (now pairs) ⌝ }
+    ensures { λ _. ⌜ now (pairs .exit) ≡ pairsIn (capacity (now (pairs .entry))) (update (record { word = v; plan = plan }) (pairsFrom count (now (pairs .entry)))) ⌝ }
 {
     let i = first_hit(pairs, count, false, v);
     if i < count {
@@ -99,8 +99,8 @@ pub fn update(pairs: &mut [u64], count: usize, v: u64, plan: u64)
 
 // Without the entry of v, if there is one. Returns how many there are.
 pub fn remove(pairs: &mut [u64], count: usize, v: u64) -> usize
-    requires { ⌜ Pairs count (now pairs) ⌝ }
-    ensures { λ r. ⌜ (r ≡ length (remove v (pairsFrom count (now (pairs .entry))))) × (now (pairs .exit) ≡ basePairs (remove v (pairsFrom count (now (pairs .entry))))) ⌝ }
+    requires { ⌜ Pairs (capacity (now pairs)) count (now pairs) ⌝ }
+    ensures { λ r. ⌜ (r ≡ length (remove v (pairsFrom count (now (pairs .entry))))) × (now (pairs .exit) ≡ pairsIn (capacity (now (pairs .entry))) (remove v (pairsFrom count (now (pairs .entry))))) ⌝ }
 {
     let i = first_hit(pairs, count, false, v);
     if i < count {
@@ -114,8 +114,8 @@ pub fn remove(pairs: &mut [u64], count: usize, v: u64) -> usize
 
 // v with its plan, before the first entry with a larger w'.
 pub fn insert(pairs: &mut [u64], count: usize, v: u64, plan: u64)
-    requires { ⌜ Pairs count (now pairs) × (count < baseLimit) ⌝ }
-    ensures { λ _. ⌜ now (pairs .exit) ≡ basePairs (insert (record { word = v; plan = plan }) (pairsFrom count (now (pairs .entry)))) ⌝ }
+    requires { ⌜ Pairs (capacity (now pairs)) count (now pairs) × (count < capacity (now pairs)) ⌝ }
+    ensures { λ _. ⌜ now (pairs .exit) ≡ pairsIn (capacity (now (pairs .entry))) (insert (record { word = v; plan = plan }) (pairsFrom count (now (pairs .entry)))) ⌝ }
 {
     let at = 2 * first_hit(pairs, count, true, v);
     put_in(pairs, at, plan);

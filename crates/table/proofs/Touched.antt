@@ -15,6 +15,7 @@ use Rattle.lists.proofs.Tests.{cases, cond-true, cond-false}
 use Rattle.bucket.specs.declared.Bucket.{Bucket}
 use Rattle.bucket_words.specs.Words.{bucketWords, wordsOf, bucketFrom}
 use Rattle.settle.specs.Settle.{planOf}
+use Rattle.model.specs.Model.{baseLimit}
 use Rattle.concrete.specs.Table.{Table, second, index, put, bucketOf, holds, planIn, touch}
 use Rattle.concrete.specs.Layout.{basePairs, pairsFrom, numbersOf, tableFrom, bucketPlace}
 use Rattle.concrete.proofs.Numbers.{ShapedTable, Laid, write-count, header-read, from-part, write-first, write-second, write-base, forth}
@@ -114,7 +115,7 @@ module _ (n r : ℕ) (S : ℕ → ℕ) (xs : List ℕ) (s : Shape n r xs) where
       tail-here : tail-at p ≡ drop (bucketPlace n r (b1 + b2)) xs
       tail-here = tail-is p ∙ ap (λ (j : ℕ). drop j xs) e
 
-      pub base-pairs : Pairs k (tail-at p)
+      pub base-pairs : Pairs baseLimit k (tail-at p)
       base-pairs = record { fits = laid .fits; rest = tail-here ∙ tail-pairs ∙ ap basePairs (base-is ∙ ap (pairsFrom k) (sym tail-here)) }
 
       -- written as a whole

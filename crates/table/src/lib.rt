@@ -19,7 +19,7 @@ ghost use Rattle.bucket_words.specs.Words.{bucketFrom, wordsOf};
 ghost use Rattle.settle.specs.Settle.{planOf};
 ghost use Rattle.base.specs.Base.{Pairs, foundOf};
 ghost use Rattle.identifier.specs.Identifier.{readOf};
-ghost use Rattle.model.specs.Model.{change, withdraw, query};
+ghost use Rattle.model.specs.Model.{baseLimit, change, withdraw, query};
 ghost use Rattle.concrete.specs.Table.{openTable};
 ghost use Rattle.concrete.specs.Layout.{header, levelNumbers, pairsFrom, basePairs, numbersOf, inRange, lengthOf};
 ghost use Rattle.concrete.specs.Calls.{rows, solutions, tableOf, planIn, openCall, served, call};
@@ -156,7 +156,7 @@ pub(crate) fn edit_bucket(part: &mut [u64], v: u64, edit: Edit)
 
 // The base list after it, if v has an entry. Returns how many entries there are.
 pub(crate) fn edit_base(pairs: &mut [u64], count: usize, v: u64, edit: Edit) -> usize
-    requires { ⌜ Pairs count (now pairs) ⌝ }
+    requires { ⌜ Pairs baseLimit count (now pairs) ⌝ }
     ensures { λ r. ⌜ (r ≡ length (onBase edit v (pairsFrom count (now (pairs .entry))))) × (now (pairs .exit) ≡ basePairs (onBase edit v (pairsFrom count (now (pairs .entry))))) ⌝ }
 {
     match edit {

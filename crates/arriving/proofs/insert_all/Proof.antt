@@ -3,7 +3,7 @@
 use Prim.Native.Nat.{_-_, _≤_}
 use native.Mathlib.Omega.{arith}
 use mathlib.Core.Path.{sym, _∙_}
-use Rattle.base.proofs.Shift.{length-of}
+use Rattle.base.proofs.Shift.{length-of, capacity-of, sized}
 use Rattle.arriving.specs.Arrival.{entriesFrom}
 use Rattle.arriving.proofs.Arrival.{entries-next, entries-length}
 use Rattle.arriving.proofs.Base.{Inserting, inserting-starts, inserting-next, inserting-ends}
@@ -39,7 +39,7 @@ insert-requires : tie.Need-insert-requires Inv-loop μ-loop
 insert-requires c κs =
     let l = c .before .before .loop in
     let h = c .before .before .before .before .before .before .pre .1 in
-    (l .inv .1 .pairs, omega arith)
+    (sized (l .inv .1 .pairs), omega (arith, capacity-of (l .inv .1 .pairs)))
 
 add-i : tie.Need-add-i Inv-loop μ-loop
 add-i c = search needs

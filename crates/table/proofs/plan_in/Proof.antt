@@ -7,6 +7,7 @@ use Rattle.hash.specs.Mix.{mixOf}
 use Rattle.bucket.specs.declared.Bucket.{Bucket}
 use Rattle.settle.specs.Settle.{planOf}
 use Rattle.base.specs.Base.{foundOf}
+use Rattle.base.proofs.Shift.{sized}
 use Rattle.concrete.specs.Calls.{rows, solutions}
 use Rattle.table.proofs.Places.{shape-of, laid-of, shaped-of, long, first-end, second-end, base-end}
 use Rattle.table.proofs.Touched.{plan-first, plan-second, plan-base, base-pairs}
@@ -87,7 +88,7 @@ find-requires : tie.Need-find-requires
 find-requires c κs =
     let p = c .before .before in
     let s = p .before .before .before .before .before .before .before in
-    base-pairs rows solutions mixOf (s .args .t .now) (shape-of (s .pre)) (laid-of (s .pre)) (shaped-of (s .pre)) (p .base-place .result) (p .base-place .ensures)
+    sized (base-pairs rows solutions mixOf (s .args .t .now) (shape-of (s .pre)) (laid-of (s .pre)) (shaped-of (s .pre)) (p .base-place .result) (p .base-place .ensures))
 
 returns-3 : tie.Need-returns-3
 returns-3 c =
