@@ -11,13 +11,15 @@ use lib.Dec.{eqb, ltb}
 use lib.ListN.{length, getD, set, take, drop, replicate, drop-of-length-le}
 use lib.Seq.{drop-cons, set-append-left, take-at}
 use borrow.Author.Tests.{eqb-true}
+use Rattle.lists.specs.Lists.{putAt}
 use Rattle.lists.specs.Entries.{Entry, find, insert, update, remove}
 use Rattle.lists.proofs.Tests.{by-test, cases, cond-true, cond-false}
+use Rattle.lists.proofs.Loops.{length-put, put-append, put-same}
 use Rattle.lists.proofs.Entries.{insert-length, update-length, remove-length}
 use Rattle.concrete.specs.Layout.{pairNumbers, pairsFrom}
 use Rattle.concrete.proofs.Numbers.{length-pairsFrom, read-pair}
-use Rattle.base.specs.Base.{pairsIn, Pairs, before, putAt}
-use Rattle.base.proofs.Shift.{put-append, put-same, length-put, length-pairs, length-in, pair-put, length-of, room}
+use Rattle.base.specs.Base.{pairsIn, Pairs, before}
+use Rattle.base.proofs.Shift.{length-pairs, length-in, pair-put, length-of, room}
 
 -- ---- the search passes the pairs one by one
 

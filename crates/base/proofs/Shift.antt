@@ -1,50 +1,17 @@
--- An element comes into a list or goes out of it, one place at a time; and a pair of numbers, which is an entry, does.
+-- A pair of numbers, which is an entry, comes into a list or goes out of it; and numbers that hold entries.
 -- Assumes nothing.
 use Prim.Native.Nat.{ℕ, zero, suc, _+_, _-_, _*_, _≤_, _<_}
 use native.Mathlib.Nat.{not-suc-le-zero, le-of-suc-le-suc}
 use native.Mathlib.Omega.{arith}
 use mathlib.Core.Path.{_≡_, refl, sym, ap, ap₂, _∙_, subst⁻¹}
 use mathlib.Core.List.{List, [], _∷_, _++_, append-assoc}
-use lib.ListN.{length, getD, set, take, drop, replicate, length-append, length-take, length-drop, length-replicate, replicate-append-replicate, drop-of-length-le}
-use lib.Seq.{take-all, take-append-le, drop-append-le}
+use lib.ListN.{length, replicate, length-append, length-replicate, replicate-append-replicate}
+use Rattle.lists.specs.Lists.{putAt}
 use Rattle.lists.specs.Entries.{Entry}
+use Rattle.lists.proofs.Loops.{length-put, put-append}
 use Rattle.concrete.specs.Layout.{pairNumbers, pairsFrom}
 use Rattle.concrete.proofs.Numbers.{length-pairsFrom}
-use Rattle.base.specs.Base.{capacity, pairsIn, Pairs, putAt}
-
--- ---- one element
-
-module _ {A : Type 0} where
-  pub length-put : (i : ℕ) (x : A) (xs : List A) → i ≤ length xs → length (putAt i x xs) ≡ suc (length xs)
-  length-put i x xs h = simp (length-append, length-take, length-drop) (omega arith)
-
-  pub put-last : (i : ℕ) (x : A) (xs : List A) → length xs ≤ i → putAt i x xs ≡ xs ++ x ∷ []
-  put-last i x xs h = rw (take-all i xs h, drop-of-length-le xs h)
-
-  pub put-append : (i : ℕ) (x : A) (xs ys : List A) → i ≤ length xs → putAt i x (xs ++ ys) ≡ putAt i x xs ++ ys
-  put-append i x xs ys h = rw (take-append-le, drop-append-le i xs ys h) (sym (append-assoc (take i xs) (x ∷ drop i xs) ys))
-
-  pub put-same : (i : ℕ) (a b : A) (xs ys : List A) → i ≤ length xs → i ≤ length ys → putAt i a xs ≡ putAt i b ys → xs ≡ ys
-  put-same zero a b xs ys h k e = cc
-  put-same (suc i) a b [] ys h k e = absurd (not-suc-le-zero h)
-  put-same (suc i) a b (x ∷ xs) [] h k e = absurd (not-suc-le-zero k)
-  put-same (suc i) a b (x ∷ xs) (y ∷ ys) h k e =
-      let p : x ≡ y = cc in
-      let q : putAt i a xs ≡ putAt i b ys = cc in
-      ap₂ {C = List A} _∷_ p (put-same i a b xs ys (le-of-suc-le-suc h) (le-of-suc-le-suc k) q)
-
--- a turn of the loops: the element at i is carried on
-pub carry-up : (l : List ℕ) (i c : ℕ) → i < length l → putAt (suc i) (getD l i 0) (set l i c) ≡ putAt i c l
-carry-up [] i c h = absurd (not-suc-le-zero h)
-carry-up (y ∷ l) zero c h = refl
-carry-up (y ∷ l) (suc i) c h = ap {B = List ℕ} (λ r. y ∷ r) (carry-up l i c (le-of-suc-le-suc h))
-
-pub carry-down : (l : List ℕ) (i c : ℕ) → i < length l → putAt i (getD l i 0) (set l i c) ≡ putAt (suc i) c l
-carry-down [] i c h = absurd (not-suc-le-zero h)
-carry-down (y ∷ l) zero c h = refl
-carry-down (y ∷ l) (suc i) c h = ap {B = List ℕ} (λ r. y ∷ r) (carry-down l i c (le-of-suc-le-suc h))
-
--- ---- one pair
+use Rattle.base.specs.Base.{capacity, pairsIn, Pairs}
 
 pairs-put : (i : ℕ) (e : Entry) (es : List Entry) → i ≤ length es → pairNumbers (putAt i e es) ≡ putAt (2 * i) (e .word) (putAt (2 * i) (e .plan) (pairNumbers es))
 pairs-put zero e es h = refl

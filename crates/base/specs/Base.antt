@@ -6,7 +6,7 @@ use mathlib.Core.Bool.{Bool, true, false, cond}
 use mathlib.Core.List.{List, [], _∷_, _++_}
 use mathlib.Core.Option.{Option, none, some}
 use lib.Dec.{eqb, ltb}
-use lib.ListN.{length, take, drop, replicate}
+use lib.ListN.{length, replicate}
 use Rattle.lists.specs.Entries.{Entry}
 use Rattle.concrete.specs.Layout.{pairNumbers, pairsFrom}
 use Rattle.base.specs.declared.Found.{Found}
@@ -39,7 +39,3 @@ hits false v x = eqb v x
 abbrev pub before : (ℕ → Bool) → List Entry → ℕ
 before p [] = 0
 before p (e ∷ es) = cond (p (e .word)) 0 (suc (before p es))
-
--- x before element i
-abbrev pub putAt : {A : Type 0} → ℕ → A → List A → List A
-putAt i x xs = take i xs ++ x ∷ drop i xs

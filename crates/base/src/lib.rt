@@ -7,9 +7,10 @@ ghost use mathlib.Core.Path.{_≡_};
 ghost use mathlib.Core.List.{[], _∷_, _++_};
 ghost use Prim.Native.Nat.{_*_, _<_, _≤_};
 ghost use lib.ListN.{length};
+ghost use Rattle.lists.specs.Lists.{putAt};
 ghost use Rattle.lists.specs.Entries.{find, insert, update, remove};
 ghost use Rattle.concrete.specs.Layout.{pairsFrom};
-ghost use Rattle.base.specs.Base.{capacity, pairsIn, Pairs, hits, before, putAt, foundOf};
+ghost use Rattle.base.specs.Base.{capacity, pairsIn, Pairs, hits, before, foundOf};
 
 // The plan of a word, if it has an entry.
 pub enum Found {

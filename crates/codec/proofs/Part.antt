@@ -1,6 +1,6 @@
 -- Laws of a written part: what it leaves of the rest, what is read back, and how parts that are written one after the other join.
 -- Assumes nothing.
-use mathlib.Core.Path.{_≡_, refl, ap, _∙_}
+use mathlib.Core.Path.{_≡_, refl, sym, ap, _∙_}
 use mathlib.Core.List.{List, [], _∷_, _++_}
 use Prim.Native.Nat.{ℕ, zero, suc, _+_, _≤_, _<_}
 use native.Mathlib.Nat.{le-of-lt, zero-add, suc-add, le-of-suc-le-suc, not-suc-le-zero}
@@ -105,6 +105,21 @@ written-one (suc a) v (y ∷ t) = ap (λ (l : List ℕ). y ∷ l) (written-one a
 
 pub written-more : (a v : ℕ) (p t : List ℕ) → written a (p ++ (v ∷ [])) t ≡ set (written a p t) (a + length p) v
 written-more a v p t = written-append a p (v ∷ []) t ∙ written-one (a + length p) v (written a p t)
+
+-- one element, then the others; two, then the others
+pub written-cons : (a x : ℕ) (p t : List ℕ) → written (a + 1) p (set t a x) ≡ written a (x ∷ p) t
+written-cons a x p t = ap (written (a + 1) p) (sym (written-one a x t)) ∙ sym (written-append a (x ∷ []) p t)
+
+pub written-two : (a x y : ℕ) (p t : List ℕ) → written (a + 2) p (set (set t a x) (a + 1) y) ≡ written a (x ∷ y ∷ p) t
+written-two a x y p t =
+    let n : a + 2 ≡ a + 1 + 1 = omega arith in
+    rw n (written-cons (a + 1) y p (set t a x) ∙ written-cons a x (y ∷ p) t)
+
+-- three parts one after the other
+pub written-three : (a m k : ℕ) (p q r t t1 t2 : List ℕ) → length p ≡ m → length q ≡ k → t1 ≡ written a p t → t2 ≡ written (a + m) q t1
+    → written (a + m + k) r t2 ≡ written a (p ++ (q ++ r)) t
+written-three a m k p q r t t1 t2 b e f g =
+    rw (g, f, ← b, ← e) (sym (written-append a p (q ++ r) t ∙ written-append (a + length p) q r (written a p t)))
 
 -- the first i elements of p, and one more
 pub take-next : (a i : ℕ) (p t : List ℕ) → i < length p → written a (take (i + 1) p) t ≡ set (written a (take i p) t) (a + i) (getD p i 0)

@@ -17,7 +17,7 @@ use Rattle.lists.proofs.Tests.{and-false}
 use Rattle.gf2.specs.Vectors.{bit, flipIf, outside}
 use Rattle.gf2.proofs.Bit.{bit-lt}
 use Rattle.gf2.proofs.Lowest.{tz-bit, tz-lt}
-use Rattle.gf2.proofs.Loops.{front-step}
+use Rattle.lists.proofs.Loops.{front-step}
 use Rattle.eliminate.specs.declared.Rows.{Rows}
 use Rattle.eliminate.specs.Elimination.{clear, clearFrom, passed, preferred, pick, Work, rowAt, stepAt, after, placed, ordered, eliminated}
 

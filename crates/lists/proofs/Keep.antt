@@ -8,11 +8,11 @@ use lib.Arith.{lt-of-le-ne}
 use mathlib.Core.Path.{_≡_, refl, sym, ap, ap₂, _∙_, subst, subst⁻¹, subst₂, fun-ext}
 use mathlib.Core.Bool.{Bool, true, false, cond, not, _&&_, false≢true, true≢false}
 use mathlib.Core.Logic.{⊎-elim}
-use mathlib.Core.List.{List, [], _∷_, _++_, map, append-assoc, Sublistᴰ, Sublistᴰ·slnil, Sublistᴰ·cons, Sublistᴰ·cons-cons, List·Permᴰ, List·Permᴰ·nil, List·Permᴰ·cons, List·Permᴰ·swap, List·Permᴰ·trans, Permᴰ·refl, Permᴰ·symm, Permᴰ·middle, Permᴰ·append-right, List·Permᴰ·append-comm, List·Memᴰ, List·Memᴰ·head, List·Memᴰ·tail, List·Memᴰ·not-nil, List·Memᴰ·cases-cons}
+use mathlib.Core.List.{List, [], _∷_, _++_, map, append-assoc, Sublistᴰ, Sublistᴰ·slnil, Sublistᴰ·cons, Sublistᴰ·cons-cons, Sublistᴰ·refl, Sublistᴰ·trans, List·Permᴰ, List·Permᴰ·nil, List·Permᴰ·cons, List·Permᴰ·swap, List·Permᴰ·trans, Permᴰ·refl, Permᴰ·symm, Permᴰ·middle, Permᴰ·append-right, List·Permᴰ·append-comm, List·Memᴰ, List·Memᴰ·head, List·Memᴰ·tail, List·Memᴰ·not-nil, List·Memᴰ·cases-cons}
 use lib.Dec.{eqb}
 use lib.ListN.{length, getD, set}
 use borrow.Author.Tests.{eqb-true, eqb-false}
-use Rattle.lists.specs.Lists.{keep, tabulate, countFrom}
+use Rattle.lists.specs.Lists.{keep, tabulate, countFrom, joined}
 use Rattle.lists.proofs.Tests.{cases, by-test, cond-false}
 
 pub keep-none : {A : Type 0} (p : A → Bool) (xs : List A) → ((x : A) → p x ≡ false) → keep p xs ≡ []
@@ -174,3 +174,13 @@ pub getD-map-in : {A B : Type 0} (f : A → B) (xs : List A) (i : ℕ) (d : A) (
 getD-map-in f [] i d z h = absurd (not-suc-le-zero h)
 getD-map-in f (y ∷ ys) zero d z h = refl
 getD-map-in f (y ∷ ys) (suc i) d z h = getD-map-in f ys i d z (le-of-suc-le-suc h)
+
+-- ---- elements put in front one after the other
+
+pub joined-sub : {A : Type 0} (xs new : List A) → Sublistᴰ xs (joined xs new)
+joined-sub xs [] = Sublistᴰ·refl xs
+joined-sub xs (x ∷ new) = Sublistᴰ·trans (Sublistᴰ·cons (Sublistᴰ·refl xs)) (joined-sub (x ∷ xs) new)
+
+pub joined-perm : {A : Type 0} (xs new : List A) → List·Permᴰ (joined xs new) (new ++ xs)
+joined-perm xs [] = Permᴰ·refl xs
+joined-perm xs (x ∷ new) = List·Permᴰ·trans (joined-perm (x ∷ xs) new) (Permᴰ·middle x new xs)

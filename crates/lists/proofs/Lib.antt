@@ -1,5 +1,7 @@
 -- The laws of the crate.
 pub mod Tests
+pub mod Parts
+pub mod Loops
 pub mod Keep
 pub mod Entries
 pub mod Sorts

@@ -1,8 +1,9 @@
--- Lists: the elements that pass a test, and the values of a function.
+-- Lists: the elements that pass a test, the values of a function, one element more, several one after the other.
 -- Assumes nothing.
 use Prim.Native.Nat.{ℕ, zero, suc}
 use mathlib.Core.Bool.{Bool, cond}
-use mathlib.Core.List.{List, [], _∷_}
+use mathlib.Core.List.{List, [], _∷_, _++_}
+use lib.ListN.{take, drop}
 
 -- the elements that pass the test p, in their order
 abbrev pub keep : {A : Type 0} → (A → Bool) → List A → List A
@@ -18,3 +19,12 @@ tabulate f (suc n) = f 0 ∷ tabulate (λ i. f (suc i)) n
 abbrev pub countFrom : ℕ → ℕ → List ℕ
 countFrom a zero = []
 countFrom a (suc n) = a ∷ countFrom (suc a) n
+
+-- x before element i
+abbrev pub putAt : {A : Type 0} → ℕ → A → List A → List A
+putAt i x xs = take i xs ++ x ∷ drop i xs
+
+-- xs, with the elements of new put in front one after the other
+abbrev pub joined : {A : Type 0} → List A → List A → List A
+joined xs [] = xs
+joined xs (x ∷ new) = joined (x ∷ xs) new

@@ -11,7 +11,7 @@ use lib.Seq.{take-at, take-all, drop-append-add, take-append-seam, take-append-l
 use borrow.Author.Tests.{lt-ltb, le-ltb}
 use Rattle.lists.specs.Entries.{Entry, words, insert}
 use Rattle.lists.proofs.Tests.{by-test, cases, cond-true, cond-false}
-use Rattle.gf2.proofs.Loops.{front-step}
+use Rattle.lists.proofs.Loops.{front-step}
 use Rattle.settle.specs.declared.Outgoing.{Outgoing}
 use Rattle.settle.specs.Outgoing.{padded, plans, outgoing}
 use Rattle.settle.specs.Steps.{putIn, putAt, positionOf, inserted, joined}

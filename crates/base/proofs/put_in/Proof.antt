@@ -5,8 +5,8 @@ use Prim.Native.Nat.{_-_}
 use native.Mathlib.Numerals.{add-one}
 use lib.ListN.{length, length-set}
 use borrow.Author.Needs.{needs}
-use Rattle.base.specs.Base.{putAt}
-use Rattle.base.proofs.Shift.{carry-up, put-last}
+use Rattle.lists.specs.Lists.{putAt}
+use Rattle.lists.proofs.Loops.{carry-up, put-last}
 use Rattle.base.proofs.put_in.Statement.{statement}
 use Rattle.base.proofs.put_in.Tie as tie
 

@@ -7,8 +7,8 @@ use native.Mathlib.Nat.{le-refl}
 use native.Mathlib.Omega.{arith}
 use lib.ListN.{length, length-set}
 use borrow.Author.Needs.{needs}
-use Rattle.base.specs.Base.{putAt}
-use Rattle.base.proofs.Shift.{carry-down, put-last}
+use Rattle.lists.specs.Lists.{putAt}
+use Rattle.lists.proofs.Loops.{carry-down, put-last}
 use Rattle.base.proofs.take_out.Statement.{statement}
 use Rattle.base.proofs.take_out.Tie as tie
 

@@ -7,7 +7,8 @@ use native.Mathlib.Omega.{arith}
 use borrow.Author.Needs.{needs}
 use lib.ListN.{length, getD, take, drop, length-set}
 use Rattle.gf2.specs.Vectors.{colStep}
-use Rattle.gf2.proofs.Loops.{front-end, colStep-at}
+use Rattle.lists.proofs.Loops.{front-end}
+use Rattle.gf2.proofs.Loops.{colStep-at}
 use Rattle.bucket.proofs.col_step.Statement.{statement}
 use Rattle.bucket.proofs.col_step.Tie as tie
 

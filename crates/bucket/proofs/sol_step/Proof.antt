@@ -7,7 +7,8 @@ use native.Mathlib.Omega.{arith}
 use borrow.Author.Needs.{needs}
 use lib.ListN.{length, take, drop, length-set}
 use Rattle.gf2.specs.Vectors.{solStep}
-use Rattle.gf2.proofs.Loops.{front-end, solStep-at}
+use Rattle.lists.proofs.Loops.{front-end}
+use Rattle.gf2.proofs.Loops.{solStep-at}
 use Rattle.bucket.proofs.sol_step.Statement.{statement}
 use Rattle.bucket.proofs.sol_step.Tie as tie
 

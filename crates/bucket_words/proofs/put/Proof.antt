@@ -5,7 +5,7 @@ use Prim.Native.Nat.{_-_, _≤_, _<_}
 use native.Mathlib.Omega.{arith}
 use borrow.Author.Needs.{needs}
 use lib.ListN.{length, take, length-set}
-use Rattle.gf2.proofs.Loops.{fill-step, fill-end}
+use Rattle.lists.proofs.Loops.{fill-step, fill-end}
 use Rattle.bucket_words.proofs.put.Statement.{statement}
 use Rattle.bucket_words.proofs.put.Tie as tie
 

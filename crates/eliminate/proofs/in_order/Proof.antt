@@ -6,7 +6,7 @@ use Prim.Native.Nat.{_-_, _≤_, _<_}
 use native.Mathlib.Omega.{arith}
 use lib.ListN.{length, take, drop, length-set}
 use Rattle.eliminate.specs.Elimination.{ordered}
-use Rattle.gf2.proofs.Loops.{front-end}
+use Rattle.lists.proofs.Loops.{front-end}
 use Rattle.eliminate.proofs.Laws.{ordered-at}
 use borrow.Author.Needs.{needs}
 use Rattle.eliminate.proofs.in_order.Statement.{statement}
