@@ -9,6 +9,7 @@ use mathlib.Core.List.{List, [], _∷_, map}
 use lib.ListN.{length, getD, drop, drop-of-length-le, length-map, length-set}
 use borrow.Author.Tests.{le-leb, lt-leb, leb-false}
 use Rattle.lists.specs.Entries.{Entry, words}
+use Rattle.lists.proofs.Parts.{drop-map}
 use Rattle.lists.proofs.Tests.{cond-true}
 use Rattle.bucket.specs.declared.Bucket.{Bucket}
 use Rattle.bucket_words.specs.Words.{bucketWords, bucketFrom}
@@ -22,11 +23,6 @@ use Rattle.arriving.proofs.Tables.{second-room, second-here, second-sound, seco
 use Rattle.arriving.proofs.Arrival.{entries-next, entries-length}
 use Rattle.adding.specs.Arrivals.{seconds, allToSecond, takeOver, Drafted, Alike}
 use Rattle.adding.proofs.Arrivals.{all-law, base-grows, second-length, taken-all}
-
-drop-map : {A B : Type 0} (f : A → B) (i : ℕ) (xs : List A) → drop i (map f xs) ≡ map f (drop i xs)
-drop-map f zero xs = refl
-drop-map f (suc i) [] = refl
-drop-map f (suc i) (x ∷ xs) = drop-map f i xs
 
 module _ (S : ℕ → ℕ) (o : Outgoing) where
   -- the words as level 2 sees them

@@ -10,7 +10,7 @@ use lib.Dec.{eqb, ltb}
 use lib.ListN.{length, getD, set, length-set, length-map}
 use lib.Seq.{getD-set-same, getD-set-other}
 use borrow.Author.Tests.{eqb-true, eqb-false, eq-eqb}
-use Rattle.lists.specs.Lists.{keep}
+use Rattle.lists.specs.Lists.{keep, joined}
 use Rattle.lists.specs.Entries.{Entry, words}
 use Rattle.lists.proofs.Tests.{cases, cond-true, cond-false}
 use Rattle.lists.proofs.Keep.{keep-perm, keep-keep, keep-map, keep-ext, keep-part, shuffle, map-set, getD-map-in}
@@ -23,7 +23,7 @@ use Rattle.settle.proofs.Hold.{Holds, holds-perm}
 use Rattle.settle.proofs.Fall.{held, over, seen, Settles, settle-law}
 use Rattle.model.specs.Levels as M
 use Rattle.model.specs.Levels.{Level, dueAs, due}
-use Rattle.model.proofs.Arrivals.{joined, arrive, arrives}
+use Rattle.model.proofs.Arrivals.{arrive, arrives}
 use Rattle.concrete.specs.Table.{Placed, bounds, thr, index, second, nth, arriveAt, arriveAll}
 
 pub bounds-length : (bs : List Bucket) → length (bounds bs) ≡ length bs

@@ -6,8 +6,9 @@ use native.Mathlib.Omega.{arith}
 use mathlib.Core.Path.{_≡_, refl, sym, ap, ap₂, _∙_, subst}
 use mathlib.Core.List.{List, [], _∷_, _++_, append-assoc}
 use lib.ListN.{length, getD, set, take, drop, replicate, length-append, length-drop, length-set, length-replicate}
-use lib.Seq.{take-append-add, drop-append-add, take-at, drop-at, getD-take, getD-drop, take-take, take-nil, drop-drop}
+use lib.Seq.{take-append-add, drop-append-add, take-at, drop-at, getD-take, getD-drop, take-take, drop-drop}
 use Rattle.lists.specs.Entries.{Entry}
+use Rattle.lists.proofs.Parts.{drop-take, zeros, zero-at}
 use Rattle.bucket.specs.declared.Bucket.{Bucket}
 use Rattle.bucket_words.specs.Words.{bucketWords, wordsOf, bucketFrom, Shaped}
 use Rattle.bucket_words.proofs.Words.{length-words, from-words, words-from}
@@ -52,21 +53,6 @@ read-pair (suc k) xs (suc i) d h =
     let f : 2 + (2 * i + 1) ≡ 2 * suc i + 1 = omega arith in
     read-pair k (drop 2 xs) i d (le-of-suc-le-suc h)
     ∙ ap₂ {C = Entry} (λ u v. record { word = u; plan = v }) (getD-drop 2 xs (2 * i) 0 ∙ ap (λ (j : ℕ). getD xs j 0) e) (getD-drop 2 xs (2 * i + 1) 0 ∙ ap (λ (j : ℕ). getD xs j 0) f)
-
--- numbers that are all 0
-zeros : (xs : List ℕ) → ((i : ℕ) → getD xs i 0 ≡ 0) → replicate (length xs) 0 ≡ xs
-zeros [] h = refl
-zeros (x ∷ xs) h = ap₂ {C = List ℕ} _∷_ (sym (h 0)) (zeros xs (λ i. h (suc i)))
-
-zero-at : (k i : ℕ) → _≡_ {A = ℕ} (getD (replicate k 0) i 0) 0
-zero-at zero i = refl
-zero-at (suc k) zero = refl
-zero-at (suc k) (suc i) = zero-at k i
-
-part-of-part : (m k : ℕ) (xs : List ℕ) → drop m (take (m + k) xs) ≡ take k (drop m xs)
-part-of-part zero k xs = let e : 0 + k ≡ k = omega arith in ap (λ (j : ℕ). take j xs) e
-part-of-part (suc m) k [] = ap (drop (suc m)) (take-nil (suc m + k)) ∙ sym (take-nil k)
-part-of-part (suc m) k (y ∷ ys) = let e : suc m + k ≡ suc (m + k) = omega arith in ap (λ (j : ℕ). drop (suc m) (take j (y ∷ ys))) e ∙ part-of-part m k ys
 
 module _ (n r : ℕ) where
   abbrev pub AllShaped : List Bucket → Type 0
@@ -173,7 +159,7 @@ module _ (n r : ℕ) where
       sols : take r (drop (n + 1) (take (bucketWords n r) xs)) ≡ take r (drop (n + 1) xs)
       sols =
           let e : bucketWords n r ≡ n + 1 + (r + 1) = omega arith in
-          ap (λ (k : ℕ). take r (drop (n + 1) (take k xs))) e ∙ ap (take r) (part-of-part (n + 1) (r + 1) xs) ∙ take-take r (r + 1) (drop (n + 1) xs) (omega arith)
+          ap (λ (k : ℕ). take r (drop (n + 1) (take k xs))) e ∙ ap (take r) (drop-take (n + 1) (r + 1) xs) ∙ take-take r (r + 1) (drop (n + 1) xs) (omega arith)
 
   -- ---- the whole table
 

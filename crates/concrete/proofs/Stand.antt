@@ -10,10 +10,10 @@ use mathlib.Core.Option.{Option, none, some}
 use mathlib.Core.List.{List, [], _∷_, _++_, map, map-map, map-append, Sublistᴰ, Sublistᴰ·refl, List·Permᴰ, List·Permᴰ·trans, Permᴰ·symm, Permᴰ·map, Permᴰ·append-left, List·Memᴰ·tail, List·Memᴰ·not-nil, List·Memᴰ·cases-cons, Memᴰ·of-map, Memᴰ·append-left}
 use lib.Dec.{eqb}
 use lib.ListN.{length, getD, set, replicate, length-replicate, getD-replicate, length-map}
-use Rattle.lists.specs.Lists.{keep, tabulate}
+use Rattle.lists.specs.Lists.{keep, tabulate, joined}
 use Rattle.lists.specs.Entries.{Entry, words, find, insert, update, remove, sort, insertAll, Distinct}
 use Rattle.lists.proofs.Tests.{by-test}
-use Rattle.lists.proofs.Keep.{keep-perm, keep-map, keep-out, map-sub, perm-length}
+use Rattle.lists.proofs.Keep.{keep-perm, keep-map, keep-out, map-sub, perm-length, joined-perm}
 use Rattle.lists.proofs.Entries.{insert-perm, insert-length, insert-ascending, update-words, update-ascending, update-length, update-perm, remove-sub, remove-ascending, remove-length, remove-perm}
 use Rattle.lists.proofs.Sorts.{sort-perm, mem-perm, keep-distinct, ascending-distinct}
 use Rattle.lists.proofs.Edits.{find-keep, find-renamed, distinct-renamed, find-sort, insert-all-perm, insert-all-sort}
@@ -25,7 +25,7 @@ use Rattle.settle.proofs.Hold.{Holds, holds-empty}
 use Rattle.model.specs.Levels.{dueAs, due, passed}
 use Rattle.model.specs.Model.{baseLimit, State, opened, withLive, wouldLeave, base}
 use Rattle.model.proofs.Levels.{passed-words}
-use Rattle.model.proofs.Arrivals.{joined, joined-perm, arrive, arrives}
+use Rattle.model.proofs.Arrivals.{arrive, arrives}
 use Rattle.model.proofs.Valid.{Valid, valid-opened, valid-live, valid-settled}
 use Rattle.model.proofs.AddSteps.{first, first-settled, second-settled}
 use Rattle.concrete.specs.Table.{Table, Placed, bounds, index, second, onSecond, bucketOf, put, holds, planIn, openTable, touch, changedIn, withdrawnFrom, arriveAt, arriveAll, addedTo}

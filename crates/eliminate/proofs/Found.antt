@@ -3,7 +3,7 @@
 use mathlib.Core.Path.{_≡_, refl, sym, ap, ap₂, _∙_, subst}
 use mathlib.Core.Logic.{_⊎_, inl, inr}
 use mathlib.Core.Bool.{Bool, true, false, _&&_}
-use mathlib.Core.List.{List, [], _∷_, Sublistᴰ, Sublistᴰ·nil-sublist, Sublistᴰ·cons-cons, List·Permᴰ, List·Permᴰ·nil, List·Permᴰ·cons, List·Permᴰ·trans, List·Permᴰ·append-comm}
+use mathlib.Core.List.{List, [], _∷_, List·Permᴰ, List·Permᴰ·nil, List·Permᴰ·cons, List·Permᴰ·trans, List·Permᴰ·append-comm}
 use Prim.Native.Nat.{ℕ, zero, suc, _-_, _/_, _%_, _^_, _≤_, _<_}
 use native.Mathlib.Nat.{le-refl, not-suc-le-zero}
 use native.Mathlib.Decide.{ℕ-discrete, decLt}
@@ -16,6 +16,7 @@ use lib.Pow.{pow-lt, pow-pos}
 use lib.ListN.{length, getD, set, take}
 use lib.Seq.{take-suc, take-all, ext-getD, getD-set-same, getD-set-other}
 use Rattle.lists.proofs.Tests.{and-r, eq-T}
+use Rattle.lists.proofs.Parts.{take-sub}
 use Rattle.lists.proofs.Keep.{perm-length}
 use Rattle.gf2.specs.Vectors.{bit, on, flipIf, outside, product, colStep, solStep, units, Inverse}
 use Rattle.gf2.specs.Select.{elem, sums, indep, putIf, chosen}
@@ -59,11 +60,6 @@ chosen-all m (r ∷ rs) e = go (m % 2) e (chosen-all (m / 2) rs)
         → putIf d r (chosen (m / 2) rs) ≡ r ∷ rs
     go zero e ih = absurd (omega (arith, chosen-le (m / 2) rs))
     go (suc d) e ih = ap (λ (l : List ℕ). r ∷ l) (ih (omega arith))
-
-take-sub : (m : ℕ) (l : List ℕ) → Sublistᴰ (take m l) l
-take-sub zero l = Sublistᴰ·nil-sublist l
-take-sub (suc m) [] = Sublistᴰ·nil-sublist []
-take-sub (suc m) (x ∷ l) = Sublistᴰ·cons-cons refl (take-sub m l)
 
 pub not-both : true ≡ false → ⊥
 not-both e = let z : _≡_ {A = ℕ} 0 1 = cc in omega arith

@@ -6,30 +6,18 @@ use native.Mathlib.Nat.{mod-lt}
 use native.Mathlib.Omega.{arith}
 use mathlib.Core.Path.{_≡_, refl, sym, ap, _∙_, subst}
 use mathlib.Core.Bool.{false}
-use mathlib.Core.List.{List, [], _∷_, map, Sublistᴰ, Sublistᴰ·cons, Sublistᴰ·refl, Sublistᴰ·trans, _++_, List·Permᴰ, List·Permᴰ·trans, Permᴰ·refl, Permᴰ·middle}
+use mathlib.Core.List.{List, [], _∷_, map, _++_, List·Permᴰ, List·Permᴰ·trans}
 use lib.Dec.{eqb}
 use lib.ListN.{length, getD, set, length-set}
 use lib.Seq.{ext-getD, getD-set-same, getD-set-other}
 use borrow.Author.Tests.{eqb-true, eqb-false, eq-eqb}
-use Rattle.lists.specs.Lists.{keep}
+use Rattle.lists.specs.Lists.{keep, joined}
+use Rattle.lists.proofs.Keep.{joined-sub, joined-perm}
 use Rattle.lists.proofs.Tests.{cases, cond-true, cond-false}
 use Rattle.gf2.specs.Bound.{boundOf}
 use Rattle.gf2.proofs.Bound.{bound-keep, fall, fall-bound}
 use Rattle.model.specs.Levels.{Level, bucket, dueAs, due, lower}
 use Rattle.model.proofs.Levels.{AllFree, lower-at, lower-length, lower-free, lower-again, lower-perm}
-
--- xs, with the elements of new put in front one after the other
-abbrev pub joined : {A : Type 0} → List A → List A → List A
-joined xs [] = xs
-joined xs (x ∷ new) = joined (x ∷ xs) new
-
-joined-sub : {A : Type 0} (xs new : List A) → Sublistᴰ xs (joined xs new)
-joined-sub xs [] = Sublistᴰ·refl xs
-joined-sub xs (x ∷ new) = Sublistᴰ·trans (Sublistᴰ·cons (Sublistᴰ·refl xs)) (joined-sub (x ∷ xs) new)
-
-pub joined-perm : {A : Type 0} (xs new : List A) → List·Permᴰ (joined xs new) (new ++ xs)
-joined-perm xs [] = Permᴰ·refl xs
-joined-perm xs (x ∷ new) = List·Permᴰ·trans (joined-perm (x ∷ xs) new) (Permᴰ·middle x new xs)
 
 module _ (L : Level) (n : ℕ) where
   -- the word w arrives where the words ws are due: the bound of its bucket falls by one while w depends there

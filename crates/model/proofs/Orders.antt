@@ -8,9 +8,9 @@ use mathlib.Core.Path.{_≡_, sym, ap, _∙_, subst, subst⁻¹}
 use mathlib.Core.Bool.{true}
 use mathlib.Core.List.{List, [], _∷_, map, append-nil, Sublistᴰ, Sublistᴰ·refl, Sublistᴰ·trans, List·Permᴰ, List·Permᴰ·trans, Permᴰ·symm}
 use lib.ListN.{length, getD}
-use Rattle.lists.specs.Lists.{tabulate}
+use Rattle.lists.specs.Lists.{tabulate, joined}
 use Rattle.lists.specs.Entries.{Entry, words, sort, Distinct}
-use Rattle.lists.proofs.Keep.{map-sub, tabulate-at, tabulate-ext, length-sub}
+use Rattle.lists.proofs.Keep.{map-sub, tabulate-at, tabulate-ext, length-sub, joined-perm}
 use Rattle.lists.proofs.Entries.{insert-sub}
 use Rattle.lists.proofs.Sorts.{sort-perm, sort-order, fresh-sort, find-perm, distinct-perm}
 use Rattle.gf2.specs.Bound.{boundOf}
@@ -21,7 +21,6 @@ use Rattle.model.specs.Machine.{accepted, after, AllAccepted}
 use Rattle.model.specs.History.{wordModel}
 use Rattle.model.proofs.Levels.{lower-anti, lower-again, passed-sub}
 use Rattle.model.proofs.Steps.{added, accepts}
-use Rattle.model.proofs.Arrivals.{joined, joined-perm}
 
 sort-sub : (es new : List Entry) → Sublistᴰ (sort es) (sort (joined es new))
 sort-sub es [] = Sublistᴰ·refl (sort es)

@@ -11,6 +11,7 @@ use lib.Dec.{leb, eqb}
 use lib.ListN.{length, getD, take, drop, length-drop, take-append-drop}
 use lib.Seq.{drop-cons, drop-drop, getD-take, getD-drop, length-take-le, take-all}
 use Rattle.lists.specs.Entries.{Above, Ascending}
+use Rattle.lists.proofs.Parts.{drop-more}
 use Rattle.codec.specs.Bytes.{toBytes}
 use Rattle.codec.proofs.Equal.{equal-eq}
 use Rattle.codec.proofs.Round.{Bytes, to-from, fromBytes-lt}
@@ -22,7 +23,7 @@ use Rattle.plane.specs.Record.{bytesOf, readAll, wordBytes, wordFrom, he
 use Rattle.plane.specs.Plane.{baseCount, planeBytes, planeFrom, bucketsAt, whole, bucketFits, bucketsWrong, entryFits, entriesWrong, wrongAt}
 use Rattle.plane.specs.Fits.{Every, Below, FitsBucket, FitsEntry, Fits}
 use Rattle.plane.proofs.Scan.{both, right, whole-length, Right, parts, bucketCount, entriesIn, endIn}
-use Rattle.plane.proofs.Read.{drop-more, length-readAll, read-add}
+use Rattle.plane.proofs.Read.{length-readAll, read-add}
 
 -- each is below 256
 abbrev pub AllBytes : List ℕ → Type 0

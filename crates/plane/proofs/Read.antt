@@ -10,17 +10,15 @@ use native.Mathlib.Omega.{arith}
 use borrow.Author.Tests.{lt-ltb, le-ltb, eq-eqb, ne-eqb}
 use lib.Dec.{lit<, lit≤}
 use lib.ListN.{length, getD, take, drop}
-use lib.Seq.{drop-drop, take-take, getD-take, take-nil}
+use lib.Seq.{drop-drop, take-take, getD-take}
 use Rattle.lists.specs.Entries.{find}
+use Rattle.lists.proofs.Parts.{drop-take, drop-more}
 use Rattle.gf2.specs.Vectors.{product}
 use Rattle.hash.specs.Mix.{mixOf}
 use Rattle.identifier.specs.Place.{thresholdAt, bucketAt}
 use Rattle.plane.specs.declared.Held.the-variants.{Plan, Passed}
 use Rattle.plane.specs.Record.{readAll, wordBytes, wordFrom, bucketFrom, entryFrom, bucketLength, entryLength}
 use Rattle.plane.specs.Lookup.{bucketOf, levelPlan}
-
-pub drop-more : (m size : ℕ) (p : List ℕ) → drop (suc m * size) p ≡ drop (m * size) (drop size p)
-drop-more m size p = ap (λ (k : ℕ). drop k p) (suc-mul m size ∙ add-comm (m * size) size) ∙ sym (drop-drop (m * size) size p)
 
 module _ {A : Type 0} (size : ℕ) (read : List ℕ → A) where
   pub length-readAll : (m : ℕ) (p : List ℕ) → length (readAll size read m p) ≡ m
@@ -43,11 +41,6 @@ module _ {A : Type 0} (size : ℕ) (read : List ℕ → A) where
   read-add (suc a) b p = rw (suc-add, read-add a b (drop size p), drop-more a size p)
 
 -- ---- a record in a part of just its bytes
-
-drop-take : (n m : ℕ) (l : List ℕ) → drop n (take (n + m) l) ≡ take m (drop n l)
-drop-take zero m l = rw zero-add
-drop-take (suc n) m [] = rw (take-nil (suc n + m), take-nil m)
-drop-take (suc n) m (x ∷ l) = rw suc-add (drop-take n m l)
 
 part-words : (r : ℕ) (p : List ℕ) → readAll wordBytes wordFrom r (take (wordBytes * r) p) ≡ readAll wordBytes wordFrom r p
 unfolding readAll

@@ -9,8 +9,8 @@ use native.Mathlib.Numerals.{sub-one}
 use native.Mathlib.Omega.{arith}
 use borrow.Author.Tests.{not-true, not-false, leb-true, eqb-true, le-leb, lt-leb, eq-eqb, ne-eqb}
 use lib.Dec.{leb, eqb}
-use lib.ListN.{length, getD, take, drop, length-drop}
-use lib.Seq.{take-all, drop-drop}
+use lib.ListN.{length, getD, drop, length-drop}
+use lib.Seq.{drop-drop}
 use Rattle.lists.proofs.Tests.{true→T, cases}
 use Rattle.model.specs.Model.{baseLimit}
 use Rattle.concrete.specs.Layout.{inRange, mostBuckets1, mostBuckets2}
@@ -38,10 +38,6 @@ refused t e h = sym e ∙ not-true t h
 
 pub passed : (t : Bool) {b : Bool} → t ≡ b → not t ≡ false → b ≡ true
 passed t e h = sym e ∙ not-false t h
-
--- the rest of a slice
-pub rest : (at : ℕ) (p : List ℕ) → take (length p - at) (drop at p) ≡ drop at p
-rest at p = take-all (length p - at) (drop at p) (rw length-drop (omega arith))
 
 pub whole-cut : (kind body : ℕ) (p : List ℕ) → length p ≤ body → whole kind body p ≡ false
 whole-cut kind body p h = rw (lt-leb (1 + body) (length p) (omega arith))

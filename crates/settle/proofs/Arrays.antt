@@ -1,17 +1,18 @@
 -- The words that leave, as arrays: each step of the code on the two arrays is a step on the list of entries.
 -- Assumes nothing.
-use Prim.Native.Nat.{ℕ, zero, suc, _+_, _-_, _≤_, _<_, zero-le}
+use Prim.Native.Nat.{ℕ, suc, _+_, _-_, _≤_, _<_, zero-le}
 use native.Mathlib.Numerals.{add-one}
 use native.Mathlib.Omega.{arith}
 use mathlib.Core.Path.{_≡_, refl, sym, ap, ap₂, _∙_}
 use mathlib.Core.List.{List, [], _∷_, _++_, map, map-append, append-assoc}
 use lib.Dec.{ltb}
-use lib.ListN.{drop-of-length-le, length, getD, take, drop, set, replicate, length-append, length-take, length-drop, length-map, length-replicate, replicate-append-replicate}
-use lib.Seq.{take-at, take-all, drop-append-add, take-append-seam, take-append-le, drop-append-le, take-length, drop-length, length-take-le, drop-cons, getD-take, paste}
+use lib.ListN.{length, getD, take, drop, set, replicate, length-append, length-map, length-replicate, replicate-append-replicate}
+use lib.Seq.{take-at, take-all, drop-append-add, take-append-seam, take-append-le, drop-append-le, take-length, drop-length, paste}
 use borrow.Author.Tests.{lt-ltb, le-ltb}
 use Rattle.lists.specs.Entries.{Entry, words, insert}
 use Rattle.lists.proofs.Tests.{by-test, cases, cond-true, cond-false}
-use Rattle.lists.proofs.Loops.{front-step}
+use Rattle.lists.proofs.Parts.{first-next, first-past, drop-zeros}
+use Rattle.lists.proofs.Loops.{front-step, length-put, map-put}
 use Rattle.settle.specs.declared.Outgoing.{Outgoing}
 use Rattle.settle.specs.Outgoing.{padded, plans, outgoing}
 use Rattle.settle.specs.Steps.{putIn, putAt, positionOf, inserted, joined}
@@ -27,17 +28,8 @@ carry-end l xs at c i x h e q = sym (take-at l (c ∷ drop at l) (length xs) e) 
 
 -- ---- arrays of numbers, padded with zeros
 
-module _ {A : Type 0} where
-  length-put : (xs : List A) (i : ℕ) (x : A) → i ≤ length xs → length (take i xs ++ x ∷ drop i xs) ≡ suc (length xs)
-  length-put xs i x h = simp (length-append, length-take, length-drop) (omega arith)
-
 abbrev zeros : ℕ → List ℕ
 zeros k = replicate k 0
-
-drop-zeros : (a k : ℕ) → drop a (zeros k) ≡ zeros (k - a)
-drop-zeros zero k = let e : k ≡ k - 0 = omega arith in ap zeros e
-drop-zeros (suc a) zero = let e : 0 ≡ 0 - suc a = omega arith in ap zeros e
-drop-zeros (suc a) (suc k) = let e : k - a ≡ suc k - suc a = omega arith in drop-zeros a k ∙ ap zeros e
 
 zeros-last : (k : ℕ) → zeros k ++ 0 ∷ [] ≡ zeros (suc k)
 zeros-last k = replicate-append-replicate k 1 0 ∙ ap zeros (add-one k)
@@ -49,7 +41,7 @@ put-zeros xs k i x h =
     let e : take i (xs ++ zeros (suc k)) ++ x ∷ drop i (xs ++ zeros (suc k)) ≡ whole ++ 0 ∷ [] =
     rw (take-append-le, drop-append-le i xs (zeros (suc k)) h, ← zeros-last k) (simp append-assoc) in
     let n : length whole ≡ length (xs ++ zeros (suc k)) =
-    length-append (take i xs ++ x ∷ drop i xs) (zeros k) ∙ rw (length-put xs i x h, length-append xs) (omega (arith, length-replicate {A = ℕ} k 0)) in
+    length-append (take i xs ++ x ∷ drop i xs) (zeros k) ∙ rw (length-put i x xs h, length-append xs) (omega (arith, length-replicate {A = ℕ} k 0)) in
     ap (take (length (xs ++ zeros (suc k)))) e ∙ take-at whole (0 ∷ []) (length (xs ++ zeros (suc k))) n
 
 pad-put : (m : ℕ) (xs : List ℕ) (i x : ℕ) → i ≤ length xs → length xs < m → putIn i x (padded m xs) ≡ padded m (take i xs ++ x ∷ drop i xs)
@@ -57,7 +49,7 @@ pad-put m xs i x h l =
     let e : m - length xs ≡ suc (m - suc (length xs)) = omega arith in
     ap (λ (j : ℕ). putIn i x (xs ++ zeros j)) e
     ∙ put-zeros xs (m - suc (length xs)) i x h
-    ∙ ap (λ (j : ℕ). (take i xs ++ x ∷ drop i xs) ++ zeros (m - j)) (sym (length-put xs i x h))
+    ∙ ap (λ (j : ℕ). (take i xs ++ x ∷ drop i xs) ++ zeros (m - j)) (sym (length-put i x xs h))
 
 pad-join : (m : ℕ) (xs ys : List ℕ) → paste (padded m xs) (length xs) (padded m ys) (length ys) ≡ padded m (xs ++ ys)
 pad-join m xs ys =
@@ -65,11 +57,6 @@ pad-join m xs ys =
     rw (take-append-seam xs, take-append-seam ys, drop-append-add, drop-zeros, length-append) (ap (λ (j : ℕ). (xs ++ ys) ++ zeros j) e)
 
 -- ---- entries
-
-map-put : {A B : Type 0} (f : A → B) (es : List A) (i : ℕ) (e : A) → map f (take i es ++ e ∷ drop i es) ≡ take i (map f es) ++ f e ∷ drop i (map f es)
-map-put f es zero e = refl
-map-put f [] (suc i) e = refl
-map-put f (x ∷ es) (suc i) e = ap (λ l. f x ∷ l) (map-put f es i e)
 
 pub same : {p q : Outgoing} → p .count ≡ q .count → p .vectors ≡ q .vectors → p .plans ≡ q .plans → p ≡ q
 same c v l = λ i. record { count = c i; vectors = v i; plans = l i }
@@ -91,7 +78,7 @@ module _ (m : ℕ) (es : List Entry) where
   -- an entry more, at i
   put-law : (i : ℕ) (e : Entry) → i ≤ length es → length es < m → putAt i (e .word) (e .plan) (outgoing m es) ≡ outgoing m (take i es ++ e ∷ drop i es)
   unfolding outgoing
-  put-law i e h l = same (add-one (length es) ∙ sym (length-put es i e h)) (put-side (λ x. x .word) i e h l) (put-side (λ x. x .plan) i e h l)
+  put-law i e h l = same (add-one (length es) ∙ sym (length-put i e es h)) (put-side (λ x. x .word) i e h l) (put-side (λ x. x .plan) i e h l)
 
   pub push-law : (e : Entry) → length es < m → putAt (length es) (e .word) (e .plan) (outgoing m es) ≡ outgoing m (es ++ e ∷ [])
   push-law e l = put-law (length es) e (omega arith) l ∙ rw (take-length, drop-length)
@@ -125,22 +112,12 @@ insert-law m es e l =
 
 -- ---- loops over the first m elements
 
-pub part : (xs : List ℕ) (m i : ℕ) → m ≤ length xs → i < m → drop i (take m xs) ≡ getD xs i 0 ∷ drop (suc i) (take m xs)
-part xs m i l h =
-    let k : i < length (take m xs) = rw length-take-le h in
-    rw (drop-cons (take m xs) i 0 k, getD-take)
-
-pub past : (xs : List ℕ) (m i : ℕ) → m ≤ i → drop i (take m xs) ≡ []
-past xs m i h =
-    let k : length (take m xs) ≤ i = rw length-take (omega arith) in
-    drop-of-length-le (take m xs) k
-
 module _ (v : ℕ) (xs : List ℕ) (m i : ℕ) where
   pub position-here : m ≤ length xs → i < m → v < getD xs i 0 → positionOf v (drop i (take m xs)) ≡ 0
-  position-here h k l = rw (part xs m i h k) (cond-true 0 (suc (positionOf v (drop (suc i) (take m xs)))) (lt-ltb v (getD xs i 0) l))
+  position-here h k l = rw (first-next xs 0 m i h k) (cond-true 0 (suc (positionOf v (drop (suc i) (take m xs)))) (lt-ltb v (getD xs i 0) l))
 
   pub position-next : m ≤ length xs → i < m → getD xs i 0 ≤ v → positionOf v (drop i (take m xs)) ≡ suc (positionOf v (drop (suc i) (take m xs)))
-  position-next h k l = rw (part xs m i h k) (cond-false 0 (suc (positionOf v (drop (suc i) (take m xs)))) (le-ltb v (getD xs i 0) l))
+  position-next h k l = rw (first-next xs 0 m i h k) (cond-false 0 (suc (positionOf v (drop (suc i) (take m xs)))) (le-ltb v (getD xs i 0) l))
 
   pub position-end : m ≤ i → positionOf v (drop i (take m xs)) ≡ 0
-  position-end h = rw (past xs m i h)
+  position-end h = rw (first-past xs m i h)

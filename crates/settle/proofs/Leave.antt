@@ -13,6 +13,7 @@ use lib.Seq.{drop-cons}
 use Rattle.lists.specs.Lists.{keep}
 use Rattle.lists.specs.Entries.{Entry}
 use Rattle.lists.proofs.Tests.{by-test}
+use Rattle.lists.proofs.Parts.{first-next, first-past}
 use Rattle.lists.proofs.Keep.{length-sub}
 use Rattle.lists.proofs.Sorts.{sort-length}
 use Rattle.gf2.specs.Select.{putIf, chosen}
@@ -22,7 +23,7 @@ use Rattle.settle.specs.declared.Outgoing.{Outgoing}
 use Rattle.settle.specs.Settle.{withdrawAll}
 use Rattle.settle.specs.Outgoing.{outgoing}
 use Rattle.settle.specs.Steps.{inserted, leaves, leavingOf}
-use Rattle.settle.proofs.Arrays.{count-of, insert-law, part, past}
+use Rattle.settle.proofs.Arrays.{count-of, insert-law}
 
 -- ---- how many
 
@@ -106,7 +107,7 @@ module _ (thr : ℕ → ℕ) (t : ℕ) (b : Bucket) where
 
 pub withdraw-step : (n : ℕ) (b : Bucket) (xs : List ℕ) (m i : ℕ) → i < m → m ≤ length xs
     → withdrawAll n (drop (i + 1) (take m xs)) (withdraw n (getD xs i 0) b .bucket) ≡ withdrawAll n (drop i (take m xs)) b
-withdraw-step n b xs m i h l = rw (add-one, part xs m i l h)
+withdraw-step n b xs m i h l = rw (add-one, first-next xs 0 m i l h)
 
 pub withdraw-end : (n : ℕ) (b : Bucket) (xs : List ℕ) (m i : ℕ) → m ≤ i → withdrawAll n (drop i (take m xs)) b ≡ b
-withdraw-end n b xs m i h = rw (past xs m i h)
+withdraw-end n b xs m i h = rw (first-past xs m i h)

@@ -11,6 +11,7 @@ use lib.ListN.{length, getD, set, take, drop, length-drop, drop-of-length-le}
 use lib.Seq.{length-take-le, take-all, drop-at, drop-set-lt}
 use borrow.Rule.Slice.PartMut.{putMid, post-is}
 use Rattle.lists.specs.Entries.{Entry, find}
+use Rattle.lists.proofs.Parts.{stretch}
 use Rattle.lists.proofs.Tests.{cases, cond-true, cond-false}
 use Rattle.bucket.specs.declared.Bucket.{Bucket}
 use Rattle.bucket_words.specs.Words.{bucketWords, wordsOf, bucketFrom}
@@ -21,7 +22,6 @@ use Rattle.concrete.specs.Layout.{basePairs, pairsFrom, numbersOf, tableFrom, b
 use Rattle.concrete.proofs.Numbers.{ShapedTable, Laid, write-count, header-read, from-part, write-first, write-second, write-base, forth}
 use Rattle.layout.proofs.Shape.{Shape, first-lt, second-lt, first-bucket, second-bucket}
 use Rattle.base.specs.Base.{Pairs}
-use Rattle.table.proofs.Stretch.{stretch}
 
 -- ---- the live count
 

@@ -9,8 +9,9 @@ use native.Mathlib.Numerals.{add-one}
 use native.Mathlib.Omega.{arith}
 use lib.Dec.{eqb, leb}
 use lib.ListN.{length, getD, take, drop, set, length-set, length-drop, drop-of-length-le}
-use lib.Seq.{take-all, drop-cons, getD-set-same, drop-set-lt}
+use lib.Seq.{take-all, drop-cons}
 use borrow.Author.Tests.{le-leb, lt-leb, lt-ltb, le-ltb, eq-eqb, ne-eqb, leb-true}
+use Rattle.lists.proofs.Parts.{drop-set}
 use Rattle.text.specs.declared.Number.the-variants.{Of, Wrong}
 use Rattle.text.specs.Decimal.{digitOf, isDigit, grown, readOn, numberTo, digitsThen, mostDigits}
 use Rattle.text.specs.Parsed.{AtMost}
@@ -110,12 +111,6 @@ fewer (suc i) n h l =
     let e : suc i - 1 + 1 ≡ suc i = omega arith in
     let k : n < 10 ^ suc i * 10 = rw (add-one (suc i), pow-suc 10 (suc i)) at h in
     rw e (omega arith)
-
--- from index i on after a store there
-pub drop-set : (l : List ℕ) (i v : ℕ) → i < length l → drop i (set l i v) ≡ v ∷ drop (i + 1) l
-drop-set l i v h =
-    let k : i < length (set l i v) = rw length-set h in
-    drop-cons (set l i v) i 0 k ∙ rw (getD-set-same l i v 0, drop-set-lt (suc i) l i v (omega arith), add-one i)
 
 pub digits-step : (i n : ℕ) (l : List ℕ) → 0 < i → i < length l → 10 ≤ n
     → digitsThen (i - 1 + 1) (n / 10) (drop (i - 1 + 1) (set l i (digitOf (n % 10)))) ≡ digitsThen (i + 1) n (drop (i + 1) l)

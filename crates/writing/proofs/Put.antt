@@ -10,7 +10,7 @@ use lib.ListN.{length, getD, set, take, drop, length-append, length-drop}
 use lib.Seq.{getD-drop, take-suc, length-take-le}
 use Rattle.codec.specs.Bytes.{toBytes}
 use Rattle.codec.specs.Parts.{written}
-use Rattle.codec.proofs.Part.{written-none, written-one, written-more, written-append}
+use Rattle.codec.proofs.Part.{written-none, written-more, written-append, written-cons, written-three}
 use Rattle.codec.proofs.Round.{length-toBytes}
 use Rattle.bucket_words.specs.Words.{bucketWords, bucketFrom}
 use Rattle.concrete.specs.Layout.{header, bucketPlace}
@@ -21,16 +21,6 @@ use Rattle.plane.proofs.Read.{length-readAll, read-add}
 use Rattle.writing.specs.Steps.{seenFrom, pairFrom, recordsOf}
 use Rattle.plane.specs.Fits.{Every}
 use Rattle.plane.proofs.Round.{Sized, bytes-append, length-bytes}
-
--- one byte, then the others
-pub written-cons : (a x : ℕ) (p t : List ℕ) → written (a + 1) p (set t a x) ≡ written a (x ∷ p) t
-written-cons a x p t = ap (written (a + 1) p) (sym (written-one a x t)) ∙ sym (written-append a (x ∷ []) p t)
-
--- two bytes, then the others
-pub written-two : (a x y : ℕ) (p t : List ℕ) → written (a + 2) p (set (set t a x) (a + 1) y) ≡ written a (x ∷ y ∷ p) t
-written-two a x y p t =
-    let n : a + 2 ≡ a + 1 + 1 = omega arith in
-    rw n (written-cons (a + 1) y p (set t a x) ∙ written-cons a x (y ∷ p) t)
 
 -- the record of a base entry, once the byte of its kind and its word are there
 pub entry-put : (a w plan : ℕ) (t l : List ℕ) → l ≡ written (a + 1) (toBytes wordBytes w) (set t a entryKind)
@@ -112,12 +102,6 @@ entries-next i a p t =
     (sym (getD-drop (i * 2) p 0 0 ∙ ap (λ (k : ℕ). getD p k 0) (add-zero (i * 2)))) (sym (getD-drop (i * 2) p 1 0))
     ∙ read-next entryRecord entryLength 2 pairFrom i a p t (entries-sized i p)
 
--- three parts one after the other
-three : (a m k : ℕ) (B E F t o1 o2 : List ℕ) → length B ≡ m → length E ≡ k → o1 ≡ written a B t → o2 ≡ written (a + m) E o1
-    → written (a + m + k) F o2 ≡ written a (B ++ (E ++ F)) t
-three a m k B E F t o1 o2 b e f g =
-    rw (g, f, ← b, ← e) (sym (written-append a B (E ++ F) t ∙ written-append (a + length B) E F (written a B t)))
-
 pub records-put : (n r m k : ℕ) (t out o1 o2 o3 : List ℕ) → bucketPlace n r m + k * 2 ≤ length t
     → o1 ≡ written bucketsAt (bytesOf bucketRecord (readAll (bucketWords n r) (seenFrom n r) m (drop header t))) out
     → o2 ≡ written (entriesAt r m) (bytesOf entryRecord (readAll 2 pairFrom k (drop (bucketPlace n r m) t))) o1
@@ -126,7 +110,7 @@ records-put n r m k t out o1 o2 o3 h e f g =
     let bs = readAll (bucketWords n r) (seenFrom n r) m (drop header t) in
     let es = readAll 2 pairFrom k (drop (bucketPlace n r m) t) in
     g
-    ∙ three bucketsAt (m * bucketLength r) (k * entryLength) (bytesOf bucketRecord bs) (bytesOf entryRecord es) endRecord out o1 o2
+    ∙ written-three bucketsAt (m * bucketLength r) (k * entryLength) (bytesOf bucketRecord bs) (bytesOf entryRecord es) endRecord out o1 o2
     (length-bytes bucketRecord (bucketLength r) bs (buckets-sized n r m (drop header t) (rw length-drop (omega arith))) ∙ ap (λ (i : ℕ). i * bucketLength r) (length-readAll (bucketWords n r) (seenFrom n r) m (drop header t)))
     (length-bytes entryRecord entryLength es (entries-sized k (drop (bucketPlace n r m) t)) ∙ ap (λ (i : ℕ). i * entryLength) (length-readAll 2 pairFrom k (drop (bucketPlace n r m) t)))
     e f

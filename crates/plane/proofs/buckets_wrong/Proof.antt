@@ -5,8 +5,9 @@ use Prim.Native.Nat.{_≤_}
 use native.Mathlib.Omega.{arith}
 use borrow.Author.Needs.{needs}
 use lib.ListN.{length, drop}
+use Rattle.lists.proofs.Parts.{rest}
 use Rattle.plane.specs.Plane.{bucketsWrong}
-use Rattle.plane.proofs.Scan.{rest, refused, passed, both, whole-next, buckets-step, buckets-here}
+use Rattle.plane.proofs.Scan.{refused, passed, both, whole-next, buckets-step, buckets-here}
 use Rattle.plane.proofs.buckets_wrong.Statement.{statement}
 use Rattle.plane.proofs.buckets_wrong.Tie as tie
 

@@ -4,8 +4,9 @@ use mathlib.Core.Path.{_≡_, sym}
 use mathlib.Core.Bool.{true}
 use borrow.Author.Needs.{needs}
 use lib.ListN.{drop}
+use Rattle.lists.proofs.Parts.{rest}
 use Rattle.plane.specs.Plane.{endFits}
-use Rattle.plane.proofs.Scan.{rest, refused, passed, end-cut, end-more, end-right}
+use Rattle.plane.proofs.Scan.{refused, passed, end-cut, end-more, end-right}
 use Rattle.plane.proofs.end_wrong.Statement.{statement}
 use Rattle.plane.proofs.end_wrong.Tie as tie
 

@@ -5,9 +5,10 @@ use mathlib.Core.Bool.{true}
 use native.Mathlib.Omega.{arith}
 use borrow.Author.Needs.{needs}
 use lib.ListN.{drop}
+use Rattle.lists.proofs.Parts.{rest}
 use Rattle.plane.specs.Record.{entryKind, entryBody}
 use Rattle.plane.specs.Plane.{whole, entriesWrong}
-use Rattle.plane.proofs.Scan.{rest, refused, passed, whole-next, entries-cut, entries-step}
+use Rattle.plane.proofs.Scan.{refused, passed, whole-next, entries-cut, entries-step}
 use Rattle.plane.proofs.entries_wrong.Statement.{statement}
 use Rattle.plane.proofs.entries_wrong.Tie as tie
 

@@ -4,9 +4,10 @@ use mathlib.Core.Path.{_≡_, sym, _∙_}
 use native.Mathlib.Omega.{arith}
 use borrow.Author.Needs.{needs}
 use lib.ListN.{length-drop}
+use Rattle.lists.proofs.Parts.{rest}
 use Rattle.plane.specs.Plane.{planeFrom}
 use Rattle.plane.specs.Lookup.{levelPlan, planFrom}
-use Rattle.plane.proofs.Scan.{rest, Known, known}
+use Rattle.plane.proofs.Scan.{Known, known}
 use Rattle.plane.proofs.plan_in.Statement.{statement}
 use Rattle.plane.proofs.plan_in.Tie as tie
 

@@ -5,9 +5,10 @@ use Prim.Native.Nat.{_+_, _*_}
 use native.Mathlib.Omega.{arith}
 use borrow.Author.Needs.{needs}
 use lib.ListN.{getD, length-drop}
+use Rattle.lists.proofs.Parts.{rest}
 use Rattle.plane.specs.Plane.{planeFrom}
 use Rattle.plane.specs.Lookup.{levelPlan, secondPlan}
-use Rattle.plane.proofs.Scan.{rest, Known, known}
+use Rattle.plane.proofs.Scan.{Known, known}
 use Rattle.plane.proofs.second_plan.Statement.{statement}
 use Rattle.plane.proofs.second_plan.Tie as tie
 

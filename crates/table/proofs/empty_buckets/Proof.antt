@@ -11,7 +11,7 @@ use Rattle.bucket_words.specs.Words.{wordsOf}
 use Rattle.bucket.specs.Bucket.{emptyBucket}
 use Rattle.concrete.specs.Layout.{levelNumbers}
 use Rattle.concrete.specs.Calls.{rows, solutions}
-use Rattle.table.proofs.Stretch.{length-stretch}
+use Rattle.lists.proofs.Parts.{length-stretch}
 use Rattle.table.proofs.Opened.{level-more}
 use Rattle.table.proofs.empty_buckets.Statement.{statement}
 use Rattle.table.proofs.empty_buckets.Tie as tie

@@ -6,7 +6,7 @@ use borrow.Author.Needs.{needs}
 use lib.ListN.{length, length-set, length-take, length-drop}
 use Rattle.codec.proofs.Part.{length-written}
 use Rattle.bucket_words.specs.Words.{bucketFrom}
-use Rattle.writing.proofs.Put.{written-two}
+use Rattle.codec.proofs.Part.{written-two}
 use Rattle.writing.proofs.put_bucket.Statement.{statement}
 use Rattle.writing.proofs.put_bucket.Tie as tie
 

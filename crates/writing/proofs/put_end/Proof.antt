@@ -5,7 +5,7 @@ use borrow.Author.Needs.{needs}
 use lib.ListN.{length, length-set}
 use Rattle.codec.proofs.Part.{length-written}
 use Rattle.plane.specs.Record.{endKind, endBytes}
-use Rattle.writing.proofs.Put.{written-cons}
+use Rattle.codec.proofs.Part.{written-cons}
 use Rattle.writing.proofs.put_end.Statement.{statement}
 use Rattle.writing.proofs.put_end.Tie as tie
 

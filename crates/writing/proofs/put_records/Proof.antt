@@ -6,7 +6,7 @@ use native.Mathlib.Omega.{arith}
 use borrow.Author.Needs.{needs}
 use lib.ListN.{length, length-drop}
 use Rattle.codec.proofs.Part.{length-written}
-use Rattle.plane.proofs.Scan.{rest}
+use Rattle.lists.proofs.Parts.{rest}
 use Rattle.writing.proofs.Put.{records-put}
 use Rattle.writing.proofs.put_records.Statement.{statement}
 use Rattle.writing.proofs.put_records.Tie as tie
