@@ -3,3 +3,4 @@ pub mod Scan
 pub mod Read
 pub mod Round
 pub mod Exact
+pub mod Octets

@@ -4,7 +4,7 @@ use mathlib.Core.Path.{_≡_, refl, sym, ap, _∙_}
 use mathlib.Core.Bool.{Bool, true, false, cond, not, _&&_}
 use mathlib.Core.List.{List}
 use Prim.Native.Nat.{ℕ, zero, suc, _+_, _-_, _*_, _≤_, _<_}
-use native.Mathlib.Nat.{suc-mul}
+use native.Mathlib.Nat.{suc-mul, zero-mul}
 use native.Mathlib.Numerals.{sub-one}
 use native.Mathlib.Omega.{arith}
 use borrow.Author.Tests.{not-true, not-false, leb-true, eqb-true, le-leb, lt-leb, eq-eqb, ne-eqb}
@@ -16,8 +16,8 @@ use Rattle.model.specs.Model.{baseLimit}
 use Rattle.concrete.specs.Layout.{inRange, mostBuckets1, mostBuckets2}
 use Rattle.plane.specs.declared.Wrong.{Wrong}
 use Rattle.plane.specs.declared.Wrong.the-variants.{Nowhere, At}
-use Rattle.plane.specs.Record.{headerKind, headerBody, format, bucketKind, bucketBody, entryKind, entryBody, entryFrom, bucketLength, entryLength, endLength}
-use Rattle.plane.specs.Plane.{buckets1, buckets2, baseCount, whole, headerFits, bucketFits, bucketsWrong, entryFits, entriesWrong, endFits, endWrong, orNext, recordsWrong, wrongAt, bucketsAt, entriesAt, endAt, planeLength}
+use Rattle.plane.specs.Record.{Kind, sizeOf, bucketRecords, entryRecords, headerKind, headerBody, format, entryKind, entryBody, entryFrom, bucketLength, entryLength, endLength}
+use Rattle.plane.specs.Plane.{fits, wrongIn, boundAllowed, entryAllowed, exceeding, buckets1, buckets2, baseCount, whole, headerFits, bucketFits, bucketsWrong, entryFits, entriesWrong, endFits, endWrong, orNext, recordsWrong, wrongAt, bucketsAt, entriesAt, endAt, planeLength}
 
 -- two tests that hold
 pub both : (a b : Bool) → (a && b) ≡ true → (a ≡ true) × (b ≡ true)
@@ -59,33 +59,50 @@ whole-next kind body at p e =
     let h : body < length p - at = rw length-drop at (whole-length kind body (drop at p) e) in
     omega arith
 
+-- ---- m records of one kind
+
+module _ {A S : Type 0} (k : Kind A) (allowed : S → A → Bool) (next : S → A → S) where
+  abbrev wrong : S → ℕ → ℕ → List ℕ → Wrong
+  wrong = wrongIn k allowed next
+
+  -- one that fits
+  pub scan-step : (s : S) (left at : ℕ) (p : List ℕ) → 0 < left → fits k allowed s (drop at p) ≡ true
+      → wrong s left at (drop at p) ≡ wrong (next s (k .read (drop at p))) (left - 1) (at + sizeOf k) (drop (at + sizeOf k) p)
+  scan-step s zero at p h e = absurd (omega arith)
+  scan-step s (suc m) at p h e = rw (e, drop-drop, sub-one)
+
+  -- one that does not
+  pub scan-here : (s : S) (left at : ℕ) (p : List ℕ) → 0 < left → fits k allowed s p ≡ false → wrong s left at p ≡ At at
+  scan-here s zero at p h e = absurd (omega arith)
+  scan-here s (suc m) at p h e = rw e
+
+  -- one that fits, and nothing wrong after it
+  pub scan-next : (s : S) (m at : ℕ) (p : List ℕ) → fits k allowed s p ≡ true → wrong (next s (k .read p)) m (at + sizeOf k) (drop (sizeOf k) p) ≡ Nowhere
+      → wrong s (suc m) at p ≡ Nowhere
+  scan-next s m at p e f = rw (e, f)
+
+  -- m that fit are there
+  pub scan-room : (s : S) (m at : ℕ) (p : List ℕ) → wrong s m at p ≡ Nowhere → m * sizeOf k ≤ length p
+  scan-room s zero at p e = rw (zero-mul (sizeOf k)) (omega arith)
+  scan-room s (suc m) at p e =
+      let f = right (fits k allowed s p) (wrong (next s (k .read p)) m (at + sizeOf k) (drop (sizeOf k) p)) at e in
+      let n : k .body < length p = whole-length (k .number) (k .body) p (both (whole (k .number) (k .body) p) _ (f .0) .0) in
+      let i : m * sizeOf k ≤ length p - sizeOf k = rw length-drop at (scan-room (next s (k .read p)) m (at + sizeOf k) (drop (sizeOf k) p) (f .1)) in
+      rw (suc-mul m (sizeOf k)) (omega arith)
+
 module _ (r : ℕ) where
   pub buckets-step : (left at : ℕ) (p : List ℕ) → 0 < left → bucketFits r (drop at p) ≡ true
       → bucketsWrong r left at (drop at p) ≡ bucketsWrong r (left - 1) (at + bucketLength r) (drop (at + bucketLength r) p)
   unfolding bucketsWrong
-  buckets-step zero at p h e = absurd (omega arith)
-  buckets-step (suc m) at p h e = rw (e, drop-drop, sub-one)
+  buckets-step = scan-step (bucketRecords r) boundAllowed (λ s b. s) tt
 
   pub buckets-here : (left at : ℕ) (p : List ℕ) → 0 < left → bucketFits r p ≡ false → bucketsWrong r left at p ≡ At at
   unfolding bucketsWrong
-  buckets-here zero at p h e = absurd (omega arith)
-  buckets-here (suc m) at p h e = rw e
+  buckets-here = scan-here (bucketRecords r) boundAllowed (λ s b. s) tt
 
-  -- one that fits, and nothing wrong after it
-  pub buckets-next : (m at : ℕ) (p : List ℕ) → bucketFits r p ≡ true → bucketsWrong r m (at + bucketLength r) (drop (bucketLength r) p) ≡ Nowhere
-      → bucketsWrong r (suc m) at p ≡ Nowhere
-  unfolding bucketsWrong
-  buckets-next m at p e f = rw (e, f)
-
-  -- m buckets that fit are there
   pub buckets-room : (m at : ℕ) (p : List ℕ) → bucketsWrong r m at p ≡ Nowhere → m * bucketLength r ≤ length p
   unfolding bucketsWrong
-  buckets-room zero at p e = omega arith
-  buckets-room (suc m) at p e =
-      let f : (bucketFits r p ≡ true) × (bucketsWrong r m (at + bucketLength r) (drop (bucketLength r) p) ≡ Nowhere) = right (bucketFits r p) _ at e in
-      let n : bucketBody r < length p = whole-length bucketKind (bucketBody r) p (both (whole bucketKind (bucketBody r) p) _ (f .0) .0) in
-      let i : m * bucketLength r ≤ length p - (bucketLength r) = rw length-drop at (buckets-room m _ _ (f .1)) in
-      rw (suc-mul m (bucketLength r)) (omega arith)
+  buckets-room = scan-room (bucketRecords r) boundAllowed (λ s b. s) tt
 
 -- a base entry that is cut, one whose word w is too small, and one that fits
 pub entries-cut : (least left at : ℕ) (p : List ℕ) → 0 < left → whole entryKind entryBody p ≡ false → entriesWrong least left at p ≡ At at
@@ -105,19 +122,9 @@ unfolding entriesWrong
 entries-step least zero at w p h e i l = absurd (omega arith)
 entries-step least (suc k) at w p h e i l = rw (e, ← i, le-leb least w l, drop-drop entryLength at p, sub-one)
 
-pub entries-next : (least k at : ℕ) (p : List ℕ) → entryFits least p ≡ true → entriesWrong (suc (entryFrom p .word)) k (at + entryLength) (drop entryLength p) ≡ Nowhere
-    → entriesWrong least (suc k) at p ≡ Nowhere
-unfolding entriesWrong
-entries-next least k at p e f = rw (e, f)
-
 pub entries-room : (least k at : ℕ) (p : List ℕ) → entriesWrong least k at p ≡ Nowhere → k * entryLength ≤ length p
 unfolding entriesWrong
-entries-room least zero at p e = omega arith
-entries-room least (suc k) at p e =
-    let f = right (entryFits least p) (entriesWrong (suc (entryFrom p .word)) k (at + entryLength) (drop entryLength p)) at e in
-    let n : entryBody < length p = whole-length entryKind entryBody p (both (whole entryKind entryBody p) _ (f .0) .0) in
-    let i : k * entryLength ≤ length p - entryLength = rw length-drop at (entries-room _ k _ _ (f .1)) in
-    omega arith
+entries-room = scan-room entryRecords entryAllowed exceeding
 
 -- the j entries that are there, then one that is cut
 pub entries-short : (least k j at : ℕ) (p : List ℕ) → j < k → length p < suc j * entryLength
@@ -142,6 +149,11 @@ module _ (at : ℕ) (p : List ℕ) where
 
   pub end-right : endFits p ≡ true → length p ≡ endLength → endWrong at p ≡ Nowhere
   end-right e h = rw (e, eq-eqb (length p) endLength h)
+
+  pub end-parts : endWrong at p ≡ Nowhere → (endFits p ≡ true) × (length p ≡ endLength)
+  end-parts e =
+      let f = right (endFits p) (cond (eqb (length p) endLength) Nowhere (At (at + endLength))) at e in
+      (f .0, eqb-true (length p) endLength (right (eqb (length p) endLength) Nowhere _ (f .1) .0))
 
 -- what a header that fits says
 pub record Header (p : List ℕ) : Type 0 where
@@ -205,13 +217,13 @@ module _ (r : ℕ) (p : List ℕ) where
       let h = right (headerFits p) (recordsWrong r (bucketCount p) (baseCount p) p) 0 e in
       let n1 = next (bucketsWrong r (bucketCount p) bucketsAt (drop bucketsAt p)) _ (h .1) in
       let n2 = next (entriesWrong 0 (baseCount p) (entriesIn r p) (drop (entriesIn r p) p)) _ (n1 .1) in
-      let f = right (endFits q) (cond (eqb (length q) endLength) Nowhere (At (endIn r p + endLength))) (endIn r p) (n2 .1) in
+      let f = end-parts (endIn r p) q (n2 .1) in
       record {
         header = h .0;
         buckets = n1 .0;
         entries = n2 .0;
         end = f .0;
-        nothing = eqb-true (length q) endLength (right (eqb (length q) endLength) Nowhere _ (f .1) .0);
+        nothing = f .1;
       }
 
   pub right-length : Right → length p ≡ planeLength r (bucketCount p) (baseCount p)

@@ -2,8 +2,8 @@
 -- bucket, 8 there.
 -- Assumes nothing.
 use Prim.Native.Nat.{ℕ, zero, suc, _+_, _*_}
-use mathlib.Core.Bool.{Bool, cond, _&&_}
-use mathlib.Core.List.{List, _++_}
+use mathlib.Core.Bool.{Bool, true, cond, _&&_}
+use mathlib.Core.List.{List, [], _∷_, _++_}
 use lib.Dec.{eqb, leb}
 use lib.ListN.{length, getD, take, drop}
 use Rattle.codec.specs.Bytes.{eqList}
@@ -13,7 +13,7 @@ use Rattle.model.specs.Model.{baseLimit}
 use Rattle.concrete.specs.Layout.{inRange}
 use Rattle.plane.specs.declared.Wrong.{Wrong}
 use Rattle.plane.specs.declared.Wrong.the-variants.{Nowhere, At}
-use Rattle.plane.specs.Record.{PlaneBucket, bytesOf, readAll, headerKind, headerBody, format, headerRecord, bucketKind, bucketBody, bucketRecord, bucketFrom, entryKind, entryBody, entryRecord, entryFrom, endKind, endBody, endBytes, endRecord, bucketLength, entryLength, endLength}
+use Rattle.plane.specs.Record.{Kind, sizeOf, PlaneBucket, bucketRecords, entryRecords, bytesOf, readAll, headerKind, headerBody, format, headerRecord, bucketRecord, bucketFrom, entryRecord, entryFrom, endKind, endBody, endBytes, endRecord, bucketLength, entryLength, endLength}
 
 -- what a plane says
 pub record Plane : Type 0 where
@@ -49,6 +49,21 @@ planeLength r buckets k = endAt r buckets k + endLength
 abbrev pub whole : ℕ → ℕ → List ℕ → Bool
 whole kind body p = leb (1 + body) (length p) && eqb (getD p 0 0) kind
 
+-- a record of the kind k whose value is allowed by what the records before it leave, s
+abbrev pub fits : {A S : Type 0} → Kind A → (S → A → Bool) → S → List ℕ → Bool
+fits k allowed s p = whole (k .number) (k .body) p && allowed s (k .read p)
+
+-- m records of the kind k
+abbrev pub wrongIn : {A S : Type 0} → Kind A → (S → A → Bool) → (S → A → S) → S → ℕ → ℕ → List ℕ → Wrong
+wrongIn k allowed next s zero at p = Nowhere
+wrongIn k allowed next s (suc m) at p =
+    cond (fits k allowed s p) (wrongIn k allowed next (next s (k .read p)) m (at + sizeOf k) (drop (sizeOf k) p)) (At at)
+
+-- the values of records, one after the other, are allowed
+abbrev pub allAllowed : {A S : Type 0} → (S → A → Bool) → (S → A → S) → S → List A → Bool
+allAllowed allowed next s [] = true
+allAllowed allowed next s (x ∷ xs) = allowed s x && allAllowed allowed next (next s x) xs
+
 -- the numbers of a header: buckets of level 1
 abbrev pub buckets1 : List ℕ → ℕ
 buckets1 p = getD p 2 0
@@ -66,23 +81,30 @@ abbrev pub headerFits : List ℕ → Bool
 headerFits p = whole headerKind headerBody p && (eqb (getD p 1 0) format && (inRange (buckets1 p) (buckets2 p) && leb (baseCount p) baseLimit))
 
 -- kind 2: a bound of at most 8
+abbrev pub boundAllowed : Unit {0} → PlaneBucket → Bool
+boundAllowed s b = leb (b .bound) largestBound
+
 abbrev pub bucketFits : ℕ → List ℕ → Bool
-bucketFits r p = whole bucketKind (bucketBody r) p && leb (getD p 1 0) largestBound
+bucketFits r p = fits (bucketRecords r) boundAllowed tt p
 
 -- m of them
 unfoldable pub bucketsWrong : ℕ → ℕ → ℕ → List ℕ → Wrong
-bucketsWrong r zero at p = Nowhere
-bucketsWrong r (suc m) at p = cond (bucketFits r p) (bucketsWrong r m (at + bucketLength r) (drop (bucketLength r) p)) (At at)
+bucketsWrong r m at p = wrongIn (bucketRecords r) boundAllowed (λ s b. s) tt m at p
 
 -- kind 3: a word of at least `least`
-abbrev pub entryFits : ℕ → List ℕ → Bool
-entryFits least p = whole entryKind entryBody p && leb least (entryFrom p .word)
+abbrev pub entryAllowed : ℕ → Entry → Bool
+entryAllowed least e = leb least (e .word)
 
--- k of them: each must exceed the one before
+abbrev pub entryFits : ℕ → List ℕ → Bool
+entryFits least p = fits entryRecords entryAllowed least p
+
+-- each must exceed the one before
+abbrev pub exceeding : ℕ → Entry → ℕ
+exceeding least e = suc (e .word)
+
+-- k of them
 unfoldable pub entriesWrong : ℕ → ℕ → ℕ → List ℕ → Wrong
-entriesWrong least zero at p = Nowhere
-entriesWrong least (suc k) at p =
-    cond (entryFits least p) (entriesWrong (suc (entryFrom p .word)) k (at + entryLength) (drop entryLength p)) (At at)
+entriesWrong least k at p = wrongIn entryRecords entryAllowed exceeding least k at p
 
 -- kind 4: the fixed byte string
 abbrev pub endFits : List ℕ → Bool

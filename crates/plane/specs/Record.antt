@@ -24,6 +24,21 @@ wordBytes = 8
 abbrev pub wordFrom : List ℕ → ℕ
 wordFrom p = fromBytes (take wordBytes p)
 
+-- a kind of record: its number, how many bytes follow the kind byte, what those are, and what a record in front of some bytes says
+pub record Kind (A : Type 0) : Type 0 where
+  pub number : ℕ
+  pub body : ℕ
+  pub write : A → List ℕ
+  pub read : List ℕ → A
+
+-- how long a record is, with the kind byte
+abbrev pub sizeOf : {A : Type 0} → Kind A → ℕ
+sizeOf k = 1 + k .body
+
+-- a record
+abbrev pub recordOf : {A : Type 0} → Kind A → A → List ℕ
+recordOf k x = k .number ∷ k .write x
+
 -- ---- kind 1: format 1, buckets of level 1, of level 2, base count (4 bytes)
 
 abbrev pub headerKind : ℕ
@@ -59,13 +74,21 @@ pub record PlaneBucket : Type 0 where
   pub bound : ℕ
   pub sols : List ℕ
 
+-- its bytes
+abbrev pub bucketBytes : PlaneBucket → List ℕ
+bucketBytes b = b .bound ∷ bytesOf (toBytes wordBytes) (b .sols)
+
 -- its record
 abbrev pub bucketRecord : PlaneBucket → List ℕ
-bucketRecord b = bucketKind ∷ b .bound ∷ bytesOf (toBytes wordBytes) (b .sols)
+bucketRecord b = bucketKind ∷ bucketBytes b
 
 -- the bucket whose record is at the front of the bytes
 abbrev pub bucketFrom : ℕ → List ℕ → PlaneBucket
 bucketFrom r p = record { bound = getD p 1 0; sols = readAll wordBytes wordFrom r (drop 2 p) }
+
+-- kind 2
+abbrev pub bucketRecords : ℕ → Kind PlaneBucket
+bucketRecords r = record { number = bucketKind; body = bucketBody r; write = bucketBytes; read = bucketFrom r }
 
 -- ---- kind 3: w' (8), plan (1)
 
@@ -80,13 +103,21 @@ entryBody = wordBytes + 1
 abbrev pub entryLength : ℕ
 entryLength = 1 + entryBody
 
--- the record of a base entry, by its w'
+-- the bytes of a base entry, by its w'
+abbrev pub entryBytes : Entry → List ℕ
+entryBytes e = toBytes wordBytes (e .word) ++ (e .plan ∷ [])
+
+-- its record
 abbrev pub entryRecord : Entry → List ℕ
-entryRecord e = entryKind ∷ (toBytes wordBytes (e .word) ++ (e .plan ∷ []))
+entryRecord e = entryKind ∷ entryBytes e
 
 -- the entry whose record is at the front of the bytes
 abbrev pub entryFrom : List ℕ → Entry
 entryFrom p = record { word = wordFrom (drop 1 p); plan = getD p (1 + wordBytes) 0 }
+
+-- kind 3
+abbrev pub entryRecords : Kind Entry
+entryRecords = record { number = entryKind; body = entryBody; write = entryBytes; read = entryFrom }
 
 -- ---- kind 4 closes
 
