@@ -18,7 +18,7 @@ use Rattle.bucket.specs.Bucket.{largestBound}
 use Rattle.model.specs.Model.{baseLimit}
 use Rattle.concrete.specs.Layout.{inRange}
 use Rattle.plane.specs.declared.Wrong.the-variants.{Nowhere}
-use Rattle.plane.specs.Record.{bucketBytes, entryBytes, endLength, Kind, sizeOf, recordOf, bucketRecords, entryRecords, bytesOf, readAll, wordBytes, wordFrom, headerKind, headerBody, format, headerRecord, bucketBody, bucketRecord, bucketFrom, entryBody, entryRecord, entryFrom, endKind, endBody, endBytes, endRecord, bucketLength, entryLength}
+use Rattle.plane.specs.Record.{Format, bucketBytes, entryBytes, endLength, Kind, sizeOf, recordOf, bucketRecords, entryRecords, bytesOf, readAll, wordBytes, wordFrom, headerKind, headerBody, headerRecord, bucketBody, bucketRecord, bucketFrom, entryBody, entryRecord, entryFrom, endKind, endBody, endBytes, endRecord, bucketLength, entryLength}
 use Rattle.plane.specs.Plane.{endFits, fits, wrongIn, allAllowed, boundAllowed, entryAllowed, exceeding, baseCount, planeBytes, planeFrom, bucketsAt, whole, bucketsWrong, entriesWrong, wrongAt}
 use Rattle.plane.specs.Fits.{Every, Below, FitsBucket, FitsEntry, Fits}
 use Rattle.plane.proofs.Scan.{both, right, whole-length, Right, parts, bucketCount, entriesIn, endIn}
@@ -80,20 +80,20 @@ front kind body p e =
     ap (λ (x : ℕ). x ∷ drop 1 p) (sym k) ∙ sym (drop-cons p 0 0 (omega (arith, whole-length kind body p e)))
 
 -- a bucket after its kind byte
-module _ (r : ℕ) (p : List ℕ) (there : bucketBody r < length p) (b : AllBytes p) where
-  room : r * wordBytes ≤ length (drop 2 p)
+module _ (F : Format) (p : List ℕ) (there : bucketBody F < length p) (b : AllBytes p) where
+  room : F .words * wordBytes ≤ length (drop 2 p)
   room = rw length-drop (omega arith)
 
-  pub bucket-body : bucketBytes (bucketFrom r p) ++ drop (bucketLength r) p ≡ drop 1 p
+  pub bucket-body : bucketBytes (bucketFrom F p) ++ drop (bucketLength F) p ≡ drop 1 p
   bucket-body =
-      let n : bucketLength r ≡ 2 + r * wordBytes = omega arith in
-      rw (n, ← drop-drop (r * wordBytes) 2 p, words-bytes r (drop 2 p) room (bytes-drop 2 p b)) (sym (drop-cons p 1 0 (omega arith)))
+      let n : bucketLength F ≡ 2 + F .words * wordBytes = omega arith in
+      rw (n, ← drop-drop (F .words * wordBytes) 2 p, words-bytes (F .words) (drop 2 p) room (bytes-drop 2 p b)) (sym (drop-cons p 1 0 (omega arith)))
 
-  pub bucket-fit : leb (getD p 1 0) largestBound ≡ true → FitsBucket r (bucketFrom r p)
+  pub bucket-fit : leb (getD p 1 0) largestBound ≡ true → FitsBucket F (bucketFrom F p)
   bucket-fit e = record {
     low = leb-true (getD p 1 0) largestBound e;
-    wide = length-readAll wordBytes wordFrom r (drop 2 p);
-    words = words-lt r (drop 2 p) room (bytes-drop 2 p b);
+    wide = length-readAll wordBytes wordFrom (F .words) (drop 2 p);
+    words = words-lt (F .words) (drop 2 p) room (bytes-drop 2 p b);
   }
 
 -- an entry after its kind byte
@@ -147,16 +147,16 @@ module _ {A S : Type 0} (k : Kind A) (allowed : S → A → Bool) (next : S → 
       let f = right (fits k allowed s p) _ at e in
       (one s p (f .0) b, scan-fit F one (next s (k .read p)) m (at + sizeOf k) (drop (sizeOf k) p) (f .1) (bytes-drop (sizeOf k) p b))
 
-buckets-bytes : (r m at : ℕ) (p : List ℕ) → bucketsWrong r m at p ≡ Nowhere → AllBytes p
-    → bytesOf bucketRecord (readAll (bucketLength r) (bucketFrom r) m p) ++ drop (m * bucketLength r) p ≡ p
+buckets-bytes : (F : Format) (m at : ℕ) (p : List ℕ) → bucketsWrong F m at p ≡ Nowhere → AllBytes p
+    → bytesOf (bucketRecord F) (readAll (bucketLength F) (bucketFrom F) m p) ++ drop (m * bucketLength F) p ≡ p
 unfolding bucketsWrong
-buckets-bytes r = scan-bytes (bucketRecords r) boundAllowed (λ s b. s)
-    (λ s p e b. fits-bytes (bucketRecords r) boundAllowed s p e (bucket-body r p (fits-there (bucketRecords r) boundAllowed s p e) b)) tt
+buckets-bytes F = scan-bytes (bucketRecords F) boundAllowed (λ s b. s)
+    (λ s p e b. fits-bytes (bucketRecords F) boundAllowed s p e (bucket-body F p (fits-there (bucketRecords F) boundAllowed s p e) b)) tt
 
-buckets-fit : (r m at : ℕ) (p : List ℕ) → bucketsWrong r m at p ≡ Nowhere → AllBytes p → Every (FitsBucket r) (readAll (bucketLength r) (bucketFrom r) m p)
+buckets-fit : (F : Format) (m at : ℕ) (p : List ℕ) → bucketsWrong F m at p ≡ Nowhere → AllBytes p → Every (FitsBucket F) (readAll (bucketLength F) (bucketFrom F) m p)
 unfolding bucketsWrong
-buckets-fit r = scan-fit (bucketRecords r) boundAllowed (λ s b. s) (FitsBucket r)
-    (λ s p e b. bucket-fit r p (fits-there (bucketRecords r) boundAllowed s p e) b (fits-allowed (bucketRecords r) boundAllowed s p e)) tt
+buckets-fit F = scan-fit (bucketRecords F) boundAllowed (λ s b. s) (FitsBucket F)
+    (λ s p e b. bucket-fit F p (fits-there (bucketRecords F) boundAllowed s p e) b (fits-allowed (bucketRecords F) boundAllowed s p e)) tt
 
 entries-bytes : (least k at : ℕ) (p : List ℕ) → entriesWrong least k at p ≡ Nowhere → AllBytes p
     → bytesOf entryRecord (readAll entryLength entryFrom k p) ++ drop (k * entryLength) p ≡ p
@@ -195,61 +195,61 @@ end-bytes q e n =
 
 -- ---- the plane
 
-module _ (r : ℕ) (p : List ℕ) (e : wrongAt r p ≡ Nowhere) (b : AllBytes p) where
+module _ (F : Format) (p : List ℕ) (e : wrongAt F p ≡ Nowhere) (b : AllBytes p) where
   abbrev s : ℕ
-  s = bucketLength r
+  s = bucketLength F
 
-  h : Right r p
-  h = parts r p e
+  h : Right F p
+  h = parts F p e
 
-  head-bytes : headerRecord (getD p 2 0) (getD p 3 0) (getD p 4 0) ++ drop bucketsAt p ≡ p
+  head-bytes : headerRecord F (getD p 2 0) (getD p 3 0) (getD p 4 0) ++ drop bucketsAt p ≡ p
   head-bytes =
       let a = both (whole headerKind headerBody p) _ (h .header) in
       let there : headerBody < length p = whole-length headerKind headerBody p (a .0) in
-      let f : getD p 1 0 ≡ format = eqb-true (getD p 1 0) format (both (eqb (getD p 1 0) format) _ (a .1) .0) in
+      let f : getD p 1 0 ≡ F .number = eqb-true (getD p 1 0) (F .number) (both (eqb (getD p 1 0) (F .number)) _ (a .1) .0) in
       let tail : getD p 1 0 ∷ getD p 2 0 ∷ getD p 3 0 ∷ getD p 4 0 ∷ drop 5 p ≡ drop 1 p =
       rw (← drop-cons p 4 0 (omega arith), ← drop-cons p 3 0 (omega arith), ← drop-cons p 2 0 (omega arith), ← drop-cons p 1 0 (omega arith)) in
       ap (λ (x : ℕ). headerKind ∷ x ∷ getD p 2 0 ∷ getD p 3 0 ∷ getD p 4 0 ∷ drop 5 p) (sym f) ∙ ap (λ (q : List ℕ). headerKind ∷ q) tail ∙ front headerKind headerBody p (a .0)
 
-  two : planeFrom r p .level1 ++ planeFrom r p .level2 ≡ readAll s (bucketFrom r) (bucketCount p) (drop bucketsAt p)
+  two : planeFrom F p .level1 ++ planeFrom F p .level2 ≡ readAll s (bucketFrom F) (bucketCount p) (drop bucketsAt p)
   unfolding planeFrom
-  two = sym (read-add s (bucketFrom r) (getD p 2 0) (getD p 3 0) (drop bucketsAt p) ∙ rw drop-drop refl)
+  two = sym (read-add s (bucketFrom F) (getD p 2 0) (getD p 3 0) (drop bucketsAt p) ∙ rw drop-drop refl)
 
-  base-bytes : bytesOf entryRecord (planeFrom r p .base) ++ endRecord ≡ drop (entriesIn r p) p
+  base-bytes : bytesOf entryRecord (planeFrom F p .base) ++ endRecord ≡ drop (entriesIn F p) p
   unfolding planeFrom
   base-bytes =
-      rw (end-bytes (drop (endIn r p) p) (h .end) (h .nothing), ← drop-drop (baseCount p * entryLength) (entriesIn r p) p)
-      (entries-bytes 0 (baseCount p) (entriesIn r p) (drop (entriesIn r p) p) (h .entries) (bytes-drop (entriesIn r p) p b))
+      rw (end-bytes (drop (endIn F p) p) (h .end) (h .nothing), ← drop-drop (baseCount p * entryLength) (entriesIn F p) p)
+      (entries-bytes 0 (baseCount p) (entriesIn F p) (drop (entriesIn F p) p) (h .entries) (bytes-drop (entriesIn F p) p b))
 
-  pub length1 : length (planeFrom r p .level1) ≡ getD p 2 0
+  pub length1 : length (planeFrom F p .level1) ≡ getD p 2 0
   unfolding planeFrom
-  length1 = length-readAll s (bucketFrom r) (getD p 2 0) _
+  length1 = length-readAll s (bucketFrom F) (getD p 2 0) _
 
-  pub length2 : length (planeFrom r p .level2) ≡ getD p 3 0
+  pub length2 : length (planeFrom F p .level2) ≡ getD p 3 0
   unfolding planeFrom
-  length2 = length-readAll s (bucketFrom r) (getD p 3 0) _
+  length2 = length-readAll s (bucketFrom F) (getD p 3 0) _
 
-  length0 : length (planeFrom r p .base) ≡ baseCount p
+  length0 : length (planeFrom F p .base) ≡ baseCount p
   unfolding planeFrom
   length0 = length-readAll entryLength entryFrom (baseCount p) _
 
   -- the bytes are those of the plane that they say
-  pub read-written : planeBytes (planeFrom r p) ≡ p
+  pub read-written : planeBytes F (planeFrom F p) ≡ p
   unfolding planeBytes
   read-written =
-      rw (base-bytes, two, ← drop-drop (bucketCount p * s) bucketsAt p, buckets-bytes r (bucketCount p) bucketsAt (drop bucketsAt p) (h .buckets) (bytes-drop bucketsAt p b), length1, length2, length0)
+      rw (base-bytes, two, ← drop-drop (bucketCount p * s) bucketsAt p, buckets-bytes F (bucketCount p) bucketsAt (drop bucketsAt p) (h .buckets) (bytes-drop bucketsAt p b), length1, length2, length0)
       head-bytes
 
   -- which fits
-  pub read-fits : Fits r (planeFrom r p)
+  pub read-fits : Fits F (planeFrom F p)
   unfolding planeFrom
   read-fits =
       let a = both (whole headerKind headerBody p) _ (h .header) in
-      let c = both (inRange (getD p 2 0) (getD p 3 0)) _ (both (eqb (getD p 1 0) format) _ (a .1) .1) in
+      let c = both (inRange (getD p 2 0) (getD p 3 0)) _ (both (eqb (getD p 1 0) (F .number)) _ (a .1) .1) in
       record {
         range = rw (length1, length2) (c .0);
         few = rw length0 (leb-true (baseCount p) baseLimit (c .1));
-        buckets = rw two (buckets-fit r (bucketCount p) bucketsAt (drop bucketsAt p) (h .buckets) (bytes-drop bucketsAt p b));
-        entries = entries-fit 0 (baseCount p) (entriesIn r p) (drop (entriesIn r p) p) (h .entries) (bytes-drop (entriesIn r p) p b);
-        ascending = entries-ascending 0 (baseCount p) (entriesIn r p) (drop (entriesIn r p) p) (h .entries);
+        buckets = rw two (buckets-fit F (bucketCount p) bucketsAt (drop bucketsAt p) (h .buckets) (bytes-drop bucketsAt p b));
+        entries = entries-fit 0 (baseCount p) (entriesIn F p) (drop (entriesIn F p) p) (h .entries) (bytes-drop (entriesIn F p) p b);
+        ascending = entries-ascending 0 (baseCount p) (entriesIn F p) (drop (entriesIn F p) p) (h .entries);
       }

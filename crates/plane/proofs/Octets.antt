@@ -14,7 +14,7 @@ use Rattle.codec.specs.Bytes.{toBytes}
 use Rattle.bucket.specs.Bucket.{largestBound}
 use Rattle.model.specs.Model.{baseLimit}
 use Rattle.concrete.specs.Layout.{mostBuckets1, mostBuckets2}
-use Rattle.plane.specs.Record.{bytesOf, wordBytes, PlaneBucket, bucketKind, bucketRecord, entryKind, entryRecord, headerRecord, endRecord}
+use Rattle.plane.specs.Record.{Format, bytesOf, wordBytes, PlaneBucket, bucketRecord, entryKind, entryBytes, entryRecord, headerRecord, endRecord}
 use Rattle.plane.specs.Plane.{Plane, planeBytes}
 use Rattle.plane.specs.Fits.{Every, FitsBucket, FitsEntry, Fits}
 use Rattle.plane.proofs.Scan.{both}
@@ -52,29 +52,32 @@ few : (p : List ℕ) → Every (λ x. x < 256) p → AllBytes p
 few [] h = octets-nil
 few (x ∷ p) h = octets-cons x p (h .0) (few p (h .1))
 
-octets-bucket : (r : ℕ) (b : PlaneBucket) → FitsBucket r b → AllBytes (bucketRecord b)
-octets-bucket r b h =
-    let l : b .bound ≤ largestBound = h .low in
-    octets-append (bucketKind ∷ b .bound ∷ []) (bytesOf (toBytes wordBytes) (b .sols)) (few (bucketKind ∷ b .bound ∷ []) (lit< tt, (omega arith, tt)))
-    (octets-of (toBytes wordBytes) (b .sols) (all-numbers wordBytes (b .sols)))
-
 octets-entry : (e : Entry) → FitsEntry e → AllBytes (entryRecord e)
 octets-entry e h =
-    octets-append (entryKind ∷ []) (toBytes wordBytes (e .word) ++ (e .plan ∷ [])) (few (entryKind ∷ []) (lit< tt, tt))
+    octets-append (entryKind ∷ []) (entryBytes e) (few (entryKind ∷ []) (lit< tt, tt))
     (octets-append (toBytes wordBytes (e .word)) (e .plan ∷ []) (octets-number wordBytes (e .word)) (few (e .plan ∷ []) (h .plan, tt)))
 
-pub plane-octets : (r : ℕ) (P : Plane) → Fits r P → AllBytes (planeBytes P)
-unfolding planeBytes
-plane-octets r P f =
-    let n1 : ℕ = length (P .level1) in
-    let n2 : ℕ = length (P .level2) in
-    let d = both (leb 1 n1 && leb n1 mostBuckets1) _ (f .range) in
-    let l1 : n1 ≤ mostBuckets1 = leb-true n1 mostBuckets1 (both (leb 1 n1) _ (d .0) .1) in
-    let l2 : n2 ≤ mostBuckets2 = leb-true n2 mostBuckets2 (both (leb 1 n2) _ (d .1) .1) in
-    let l0 : length (P .base) ≤ baseLimit = f .few in
-    let B : List ℕ = bytesOf bucketRecord (P .level1 ++ P .level2) in
-    let E : List ℕ = bytesOf entryRecord (P .base) in
-    octets-append (headerRecord n1 n2 (length (P .base))) (B ++ (E ++ endRecord)) (few (headerRecord n1 n2 (length (P .base))) (lit< tt, (lit< tt, (omega arith, (omega arith, (omega arith, tt))))))
-    (octets-append B (E ++ endRecord) (octets-of bucketRecord (P .level1 ++ P .level2) (every (octets-bucket r) (P .level1 ++ P .level2) (f .buckets)))
-    (octets-append E endRecord (octets-of entryRecord (P .base) (every octets-entry (P .base) (f .entries)))
-    (few endRecord (lit< tt, (lit< tt, (lit< tt, (lit< tt, (lit< tt, tt))))))))
+-- in a format whose number and kind are bytes
+module _ (F : Format) (number : F .number < 256) (kind : F .bucketKind < 256) where
+  octets-bucket : (b : PlaneBucket) → FitsBucket F b → AllBytes (bucketRecord F b)
+  octets-bucket b h =
+      let l : b .bound ≤ largestBound = h .low in
+      octets-append (F .bucketKind ∷ b .bound ∷ []) (bytesOf (toBytes wordBytes) (b .sols)) (few (F .bucketKind ∷ b .bound ∷ []) (kind, (omega arith, tt)))
+      (octets-of (toBytes wordBytes) (b .sols) (all-numbers wordBytes (b .sols)))
+
+  pub plane-octets : (P : Plane) → Fits F P → AllBytes (planeBytes F P)
+  unfolding planeBytes
+  plane-octets P f =
+      let n1 : ℕ = length (P .level1) in
+      let n2 : ℕ = length (P .level2) in
+      let d = both (leb 1 n1 && leb n1 mostBuckets1) _ (f .range) in
+      let l1 : n1 ≤ mostBuckets1 = leb-true n1 mostBuckets1 (both (leb 1 n1) _ (d .0) .1) in
+      let l2 : n2 ≤ mostBuckets2 = leb-true n2 mostBuckets2 (both (leb 1 n2) _ (d .1) .1) in
+      let l0 : length (P .base) ≤ baseLimit = f .few in
+      let B : List ℕ = bytesOf (bucketRecord F) (P .level1 ++ P .level2) in
+      let E : List ℕ = bytesOf entryRecord (P .base) in
+      octets-append (headerRecord F n1 n2 (length (P .base))) (B ++ (E ++ endRecord))
+      (few (headerRecord F n1 n2 (length (P .base))) (lit< tt, (number, (omega arith, (omega arith, (omega arith, tt))))))
+      (octets-append B (E ++ endRecord) (octets-of (bucketRecord F) (P .level1 ++ P .level2) (every octets-bucket (P .level1 ++ P .level2) (f .buckets)))
+      (octets-append E endRecord (octets-of entryRecord (P .base) (every octets-entry (P .base) (f .entries)))
+      (few endRecord (lit< tt, (lit< tt, (lit< tt, (lit< tt, (lit< tt, tt))))))))

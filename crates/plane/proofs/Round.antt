@@ -16,7 +16,7 @@ use Rattle.codec.proofs.Round.{length-toBytes, from-to}
 use Rattle.bucket.specs.Bucket.{largestBound}
 use Rattle.model.specs.Model.{baseLimit}
 use Rattle.plane.specs.declared.Wrong.the-variants.{Nowhere}
-use Rattle.plane.specs.Record.{Kind, sizeOf, recordOf, bucketRecords, entryRecords, bytesOf, readAll, wordBytes, wordFrom, headerBody, headerRecord, PlaneBucket, bucketRecord, bucketFrom, entryRecord, entryFrom, endBytes, endRecord, bucketLength, entryLength}
+use Rattle.plane.specs.Record.{Format, Kind, sizeOf, recordOf, bucketRecords, entryRecords, bytesOf, readAll, wordBytes, wordFrom, headerBody, headerRecord, PlaneBucket, bucketRecord, bucketFrom, entryRecord, entryFrom, endBytes, endRecord, bucketLength, entryLength}
 use Rattle.plane.specs.Plane.{wrongIn, allAllowed, boundAllowed, entryAllowed, exceeding, Plane, planeBytes, planeFrom, bucketsAt, entriesAt, endAt, planeLength, bucketsWrong, entriesWrong, wrongAt}
 use Rattle.plane.proofs.Scan.{both, scan-next, Right, nowhere}
 use Rattle.plane.specs.Fits.{Every, Below, FitsBucket, FitsEntry, Fits}
@@ -65,13 +65,13 @@ word-back x h =
     (length-toBytes wordBytes x, λ q. ap fromBytes (take-at (toBytes wordBytes x) q wordBytes (length-toBytes wordBytes x)) ∙ from-to wordBytes x h)
 
 -- the solution words of a bucket that fits
-words-back : (r : ℕ) (b : PlaneBucket) → FitsBucket r b → Every (Back (toBytes wordBytes) wordBytes wordFrom) (b .sols)
-words-back r b h = every word-back (b .sols) (h .words)
+words-back : (F : Format) (b : PlaneBucket) → FitsBucket F b → Every (Back (toBytes wordBytes) wordBytes wordFrom) (b .sols)
+words-back F b h = every word-back (b .sols) (h .words)
 
-pub bucket-back : (r : ℕ) (b : PlaneBucket) → FitsBucket r b → Back bucketRecord (bucketLength r) (bucketFrom r) b
-bucket-back r b h = (
-  omega (arith, length-bytes (toBytes wordBytes) wordBytes (b .sols) (every (λ x k. k .0) (b .sols) (words-back r b h)), h .wide),
-  λ q. ap (λ (s : List ℕ). record { bound = b .bound; sols = s }) (rw (← h .wide) (read-back (toBytes wordBytes) wordBytes wordFrom (b .sols) q (words-back r b h))),
+pub bucket-back : (F : Format) (b : PlaneBucket) → FitsBucket F b → Back (bucketRecord F) (bucketLength F) (bucketFrom F) b
+bucket-back F b h = (
+  omega (arith, length-bytes (toBytes wordBytes) wordBytes (b .sols) (every (λ x k. k .0) (b .sols) (words-back F b h)), h .wide),
+  λ q. ap (λ (s : List ℕ). record { bound = b .bound; sols = s }) (rw (← h .wide) (read-back (toBytes wordBytes) wordBytes wordFrom (b .sols) q (words-back F b h))),
 )
 
 pub entry-back : (e : Entry) → FitsEntry e → Back entryRecord entryLength entryFrom e
@@ -100,9 +100,9 @@ module _ {A S : Type 0} (k : Kind A) (allowed : S → A → Bool) (next : S → 
       (rw (le-leb (sizeOf k) (length (recordOf k x ++ rest)) n, eq-eqb (k .number) (k .number) refl, v, c .0))
       (rw (v, drop-at (recordOf k x) rest (sizeOf k) (h .0 .0)) (scan-right (next s x) xs q (at + sizeOf k) (h .1) (c .1)))
 
-bounds-allowed : (r : ℕ) (bs : List PlaneBucket) → Every (FitsBucket r) bs → allAllowed boundAllowed (λ s b. s) tt bs ≡ true
-bounds-allowed r [] h = refl
-bounds-allowed r (b ∷ bs) h = rw (le-leb (b .bound) largestBound (h .0 .low)) (bounds-allowed r bs (h .1))
+bounds-allowed : (F : Format) (bs : List PlaneBucket) → Every (FitsBucket F) bs → allAllowed boundAllowed (λ s b. s) tt bs ≡ true
+bounds-allowed F [] h = refl
+bounds-allowed F (b ∷ bs) h = rw (le-leb (b .bound) largestBound (h .0 .low)) (bounds-allowed F bs (h .1))
 
 -- the first word is at least `least`
 abbrev pub From : ℕ → List Entry → Type 0
@@ -123,7 +123,7 @@ ascending-allowed least (e ∷ es) a f = rw (le-leb least (e .word) f) (ascendin
 
 -- ---- the plane
 
-module _ (r : ℕ) (P : Plane) (h : Fits r P) where
+module _ (F : Format) (P : Plane) (h : Fits F P) where
   abbrev m : ℕ
   m = length (P .level1) + length (P .level2)
 
@@ -131,78 +131,78 @@ module _ (r : ℕ) (P : Plane) (h : Fits r P) where
   k = length (P .base)
 
   abbrev B : List ℕ
-  B = bytesOf bucketRecord (P .level1 ++ P .level2)
+  B = bytesOf (bucketRecord F) (P .level1 ++ P .level2)
 
   abbrev E : List ℕ
   E = bytesOf entryRecord (P .base)
 
-  length-B : length B ≡ m * bucketLength r
+  length-B : length B ≡ m * bucketLength F
   length-B =
-      length-bytes bucketRecord (bucketLength r) (P .level1 ++ P .level2) (every (λ b f. bucket-back r b f .0) (P .level1 ++ P .level2) (h .buckets))
-      ∙ ap (λ (n : ℕ). n * bucketLength r) (length-append (P .level1) (P .level2))
+      length-bytes (bucketRecord F) (bucketLength F) (P .level1 ++ P .level2) (every (λ b f. bucket-back F b f .0) (P .level1 ++ P .level2) (h .buckets))
+      ∙ ap (λ (n : ℕ). n * bucketLength F) (length-append (P .level1) (P .level2))
 
   length-E : length E ≡ k * entryLength
   length-E = length-bytes entryRecord entryLength (P .base) (every (λ e f. entry-back e f .0) (P .base) (h .entries))
 
-  at-entries : drop (entriesAt r m) (planeBytes P) ≡ E ++ endRecord
+  at-entries : drop (entriesAt F m) (planeBytes F P) ≡ E ++ endRecord
   unfolding planeBytes
   at-entries =
-      drop-append-add (headerRecord (length (P .level1)) (length (P .level2)) k) (B ++ (E ++ endRecord)) (m * bucketLength r)
-      ∙ drop-at B (E ++ endRecord) (m * bucketLength r) length-B
+      drop-append-add (headerRecord F (length (P .level1)) (length (P .level2)) k) (B ++ (E ++ endRecord)) (m * bucketLength F)
+      ∙ drop-at B (E ++ endRecord) (m * bucketLength F) length-B
 
-  at-end : drop (endAt r m k) (planeBytes P) ≡ endRecord
-  at-end = sym (drop-drop (k * entryLength) (entriesAt r m) (planeBytes P)) ∙ ap (drop (k * entryLength)) at-entries ∙ drop-at E endRecord (k * entryLength) length-E
+  at-end : drop (endAt F m k) (planeBytes F P) ≡ endRecord
+  at-end = sym (drop-drop (k * entryLength) (entriesAt F m) (planeBytes F P)) ∙ ap (drop (k * entryLength)) at-entries ∙ drop-at E endRecord (k * entryLength) length-E
 
   -- document 01's length of a plane
-  pub plane-length : length (planeBytes P) ≡ planeLength r m k
+  pub plane-length : length (planeBytes F P) ≡ planeLength F m k
   unfolding planeBytes
   plane-length = rw (length-append, length-append, length-append, length-B, length-E) (omega arith)
 
   -- the buckets of each level
-  all : (bs : List PlaneBucket) → Every (FitsBucket r) bs → Every (Back bucketRecord (bucketLength r) (bucketFrom r)) bs
-  all bs f = every (bucket-back r) bs f
+  all : (bs : List PlaneBucket) → Every (FitsBucket F) bs → Every (Back (bucketRecord F) (bucketLength F) (bucketFrom F)) bs
+  all bs f = every (bucket-back F) bs f
 
-  right : Right r (planeBytes P)
+  right : Right F (planeBytes F P)
   unfolding planeBytes bucketsWrong entriesWrong
   right = record {
-    header = rw (le-leb (1 + headerBody) (length (planeBytes P)) (omega arith), h .range, le-leb k baseLimit (h .few));
+    header = rw (le-leb (1 + headerBody) (length (planeBytes F P)) (omega arith), eq-eqb (F .number) (F .number) refl, h .range, le-leb k baseLimit (h .few));
     buckets = rw (← length-append (P .level1) (P .level2))
-        (scan-right (bucketRecords r) boundAllowed (λ s b. s) tt (P .level1 ++ P .level2) (E ++ endRecord) bucketsAt (all (P .level1 ++ P .level2) (h .buckets)) (bounds-allowed r (P .level1 ++ P .level2) (h .buckets)));
+        (scan-right (bucketRecords F) boundAllowed (λ s b. s) tt (P .level1 ++ P .level2) (E ++ endRecord) bucketsAt (all (P .level1 ++ P .level2) (h .buckets)) (bounds-allowed F (P .level1 ++ P .level2) (h .buckets)));
     entries = rw at-entries
-        (scan-right entryRecords entryAllowed exceeding 0 (P .base) endRecord (entriesAt r m) (every entry-back (P .base) (h .entries)) (ascending-allowed 0 (P .base) (h .ascending) (from-zero (P .base))));
+        (scan-right entryRecords entryAllowed exceeding 0 (P .base) endRecord (entriesAt F m) (every entry-back (P .base) (h .entries)) (ascending-allowed 0 (P .base) (h .ascending) (from-zero (P .base))));
     end = rw (at-end, equal-refl endBytes);
     nothing = ap length at-end;
   }
 
-  pub written-right : wrongAt r (planeBytes P) ≡ Nowhere
-  written-right = nowhere r (planeBytes P) right
+  pub written-right : wrongAt F (planeBytes F P) ≡ Nowhere
+  written-right = nowhere F (planeBytes F P) right
 
-  two : Every (FitsBucket r) (P .level1) × Every (FitsBucket r) (P .level2)
-  two = every-split (FitsBucket r) (P .level1) (P .level2) (h .buckets)
+  two : Every (FitsBucket F) (P .level1) × Every (FitsBucket F) (P .level2)
+  two = every-split (FitsBucket F) (P .level1) (P .level2) (h .buckets)
 
-  split : B ++ (E ++ endRecord) ≡ bytesOf bucketRecord (P .level1) ++ (bytesOf bucketRecord (P .level2) ++ (E ++ endRecord))
+  split : B ++ (E ++ endRecord) ≡ bytesOf (bucketRecord F) (P .level1) ++ (bytesOf (bucketRecord F) (P .level2) ++ (E ++ endRecord))
   split =
-      ap (λ (b : List ℕ). b ++ (E ++ endRecord)) (bytes-append bucketRecord (P .level1) (P .level2))
-      ∙ append-assoc (bytesOf bucketRecord (P .level1)) (bytesOf bucketRecord (P .level2)) (E ++ endRecord)
+      ap (λ (b : List ℕ). b ++ (E ++ endRecord)) (bytes-append (bucketRecord F) (P .level1) (P .level2))
+      ∙ append-assoc (bytesOf (bucketRecord F) (P .level1)) (bytesOf (bucketRecord F) (P .level2)) (E ++ endRecord)
 
-  at-second : drop (entriesAt r (length (P .level1))) (planeBytes P) ≡ bytesOf bucketRecord (P .level2) ++ (E ++ endRecord)
+  at-second : drop (entriesAt F (length (P .level1))) (planeBytes F P) ≡ bytesOf (bucketRecord F) (P .level2) ++ (E ++ endRecord)
   unfolding planeBytes
   at-second =
-      let n : ℕ = length (P .level1) * bucketLength r in
-      drop-append-add (headerRecord (length (P .level1)) (length (P .level2)) k) (B ++ (E ++ endRecord)) n
+      let n : ℕ = length (P .level1) * bucketLength F in
+      drop-append-add (headerRecord F (length (P .level1)) (length (P .level2)) k) (B ++ (E ++ endRecord)) n
       ∙ ap (drop n) split
-      ∙ drop-at (bytesOf bucketRecord (P .level1)) (bytesOf bucketRecord (P .level2) ++ (E ++ endRecord)) n
-      (length-bytes bucketRecord (bucketLength r) (P .level1) (every (λ b f. f .0) (P .level1) (all (P .level1) (two .0))))
+      ∙ drop-at (bytesOf (bucketRecord F) (P .level1)) (bytesOf (bucketRecord F) (P .level2) ++ (E ++ endRecord)) n
+      (length-bytes (bucketRecord F) (bucketLength F) (P .level1) (every (λ b f. f .0) (P .level1) (all (P .level1) (two .0))))
 
   -- the plane that was written is read
-  pub written-read : planeFrom r (planeBytes P) ≡ P
+  pub written-read : planeFrom F (planeBytes F P) ≡ P
   unfolding planeBytes planeFrom
   written-read =
-      let level : ℕ → List ℕ → List PlaneBucket = readAll (bucketLength r) (bucketFrom r) in
+      let level : ℕ → List ℕ → List PlaneBucket = readAll (bucketLength F) (bucketFrom F) in
       let e1 : level (length (P .level1)) (B ++ (E ++ endRecord)) ≡ P .level1 =
-      ap (level (length (P .level1))) split ∙ read-back bucketRecord (bucketLength r) (bucketFrom r) (P .level1) (bytesOf bucketRecord (P .level2) ++ (E ++ endRecord)) (all (P .level1) (two .0)) in
-      let e2 : level (length (P .level2)) (drop (entriesAt r (length (P .level1))) (planeBytes P)) ≡ P .level2 =
-      ap (level (length (P .level2))) at-second ∙ read-back bucketRecord (bucketLength r) (bucketFrom r) (P .level2) (E ++ endRecord) (all (P .level2) (two .1)) in
-      let e3 : readAll entryLength entryFrom k (drop (entriesAt r m) (planeBytes P)) ≡ P .base =
+      ap (level (length (P .level1))) split ∙ read-back (bucketRecord F) (bucketLength F) (bucketFrom F) (P .level1) (bytesOf (bucketRecord F) (P .level2) ++ (E ++ endRecord)) (all (P .level1) (two .0)) in
+      let e2 : level (length (P .level2)) (drop (entriesAt F (length (P .level1))) (planeBytes F P)) ≡ P .level2 =
+      ap (level (length (P .level2))) at-second ∙ read-back (bucketRecord F) (bucketLength F) (bucketFrom F) (P .level2) (E ++ endRecord) (all (P .level2) (two .1)) in
+      let e3 : readAll entryLength entryFrom k (drop (entriesAt F m) (planeBytes F P)) ≡ P .base =
       ap (readAll entryLength entryFrom k) at-entries ∙ read-back entryRecord entryLength entryFrom (P .base) endRecord (every entry-back (P .base) (h .entries)) in
       λ i. record { level1 = e1 i; level2 = e2 i; base = e3 i }

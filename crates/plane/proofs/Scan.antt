@@ -16,7 +16,7 @@ use Rattle.model.specs.Model.{baseLimit}
 use Rattle.concrete.specs.Layout.{inRange, mostBuckets1, mostBuckets2}
 use Rattle.plane.specs.declared.Wrong.{Wrong}
 use Rattle.plane.specs.declared.Wrong.the-variants.{Nowhere, At}
-use Rattle.plane.specs.Record.{Kind, sizeOf, bucketRecords, entryRecords, headerKind, headerBody, format, entryKind, entryBody, entryFrom, bucketLength, entryLength, endLength}
+use Rattle.plane.specs.Record.{Format, Kind, sizeOf, bucketRecords, entryRecords, headerKind, headerBody, entryKind, entryBody, entryFrom, bucketLength, entryLength, endLength}
 use Rattle.plane.specs.Plane.{fits, wrongIn, boundAllowed, entryAllowed, exceeding, buckets1, buckets2, baseCount, whole, headerFits, bucketFits, bucketsWrong, entryFits, entriesWrong, endFits, endWrong, orNext, recordsWrong, wrongAt, bucketsAt, entriesAt, endAt, planeLength}
 
 -- two tests that hold
@@ -90,19 +90,19 @@ module _ {A S : Type 0} (k : Kind A) (allowed : S → A → Bool) (next : S → 
       let i : m * sizeOf k ≤ length p - sizeOf k = rw length-drop at (scan-room (next s (k .read p)) m (at + sizeOf k) (drop (sizeOf k) p) (f .1)) in
       rw (suc-mul m (sizeOf k)) (omega arith)
 
-module _ (r : ℕ) where
-  pub buckets-step : (left at : ℕ) (p : List ℕ) → 0 < left → bucketFits r (drop at p) ≡ true
-      → bucketsWrong r left at (drop at p) ≡ bucketsWrong r (left - 1) (at + bucketLength r) (drop (at + bucketLength r) p)
+module _ (F : Format) where
+  pub buckets-step : (left at : ℕ) (p : List ℕ) → 0 < left → bucketFits F (drop at p) ≡ true
+      → bucketsWrong F left at (drop at p) ≡ bucketsWrong F (left - 1) (at + bucketLength F) (drop (at + bucketLength F) p)
   unfolding bucketsWrong
-  buckets-step = scan-step (bucketRecords r) boundAllowed (λ s b. s) tt
+  buckets-step = scan-step (bucketRecords F) boundAllowed (λ s b. s) tt
 
-  pub buckets-here : (left at : ℕ) (p : List ℕ) → 0 < left → bucketFits r p ≡ false → bucketsWrong r left at p ≡ At at
+  pub buckets-here : (left at : ℕ) (p : List ℕ) → 0 < left → bucketFits F p ≡ false → bucketsWrong F left at p ≡ At at
   unfolding bucketsWrong
-  buckets-here = scan-here (bucketRecords r) boundAllowed (λ s b. s) tt
+  buckets-here = scan-here (bucketRecords F) boundAllowed (λ s b. s) tt
 
-  pub buckets-room : (m at : ℕ) (p : List ℕ) → bucketsWrong r m at p ≡ Nowhere → m * bucketLength r ≤ length p
+  pub buckets-room : (m at : ℕ) (p : List ℕ) → bucketsWrong F m at p ≡ Nowhere → m * bucketLength F ≤ length p
   unfolding bucketsWrong
-  buckets-room = scan-room (bucketRecords r) boundAllowed (λ s b. s) tt
+  buckets-room = scan-room (bucketRecords F) boundAllowed (λ s b. s) tt
 
 -- a base entry that is cut, one whose word w is too small, and one that fits
 pub entries-cut : (least left at : ℕ) (p : List ℕ) → 0 < left → whole entryKind entryBody p ≡ false → entriesWrong least left at p ≡ At at
@@ -157,17 +157,17 @@ module _ (at : ℕ) (p : List ℕ) where
 
 -- what a header that fits says
 pub record Header (p : List ℕ) : Type 0 where
-  pub there : 4 < length p
+  pub there : headerBody < length p
   pub some1 : 1 ≤ getD p 2 0
   pub most1 : getD p 2 0 ≤ mostBuckets1
   pub some2 : 1 ≤ getD p 3 0
   pub most2 : getD p 3 0 ≤ mostBuckets2
   pub entries : getD p 4 0 ≤ baseLimit
 
-pub header : (p : List ℕ) → headerFits p ≡ true → Header p
-header p e =
+pub header : (F : Format) (p : List ℕ) → headerFits F p ≡ true → Header p
+header F p e =
     let a = both (whole headerKind headerBody p) _ e in
-    let b = both (eqb (getD p 1 0) format) _ (a .1) in
+    let b = both (eqb (getD p 1 0) (F .number)) _ (a .1) in
     let c = both (inRange (getD p 2 0) (getD p 3 0)) _ (b .1) in
     let d = both (leb 1 (getD p 2 0) && leb (getD p 2 0) mostBuckets1) _ (c .0) in
     let d1 = both (leb 1 (getD p 2 0)) _ (d .0) in
@@ -191,33 +191,33 @@ abbrev pub bucketCount : List ℕ → ℕ
 bucketCount p = buckets1 p + buckets2 p
 
 -- where the entries and the end start by it
-abbrev pub entriesIn : ℕ → List ℕ → ℕ
-entriesIn r p = entriesAt r (bucketCount p)
+abbrev pub entriesIn : Format → List ℕ → ℕ
+entriesIn F p = entriesAt F (bucketCount p)
 
-abbrev pub endIn : ℕ → List ℕ → ℕ
-endIn r p = endAt r (bucketCount p) (baseCount p)
+abbrev pub endIn : Format → List ℕ → ℕ
+endIn F p = endAt F (bucketCount p) (baseCount p)
 
 -- a plane that is wrong nowhere, part by part
-module _ (r : ℕ) (p : List ℕ) where
+module _ (F : Format) (p : List ℕ) where
   pub record Right : Type 0 where
-    pub header : headerFits p ≡ true
-    pub buckets : bucketsWrong r (bucketCount p) bucketsAt (drop bucketsAt p) ≡ Nowhere
-    pub entries : entriesWrong 0 (baseCount p) (entriesIn r p) (drop (entriesIn r p) p) ≡ Nowhere
-    pub end : endFits (drop (endIn r p) p) ≡ true
-    pub nothing : length (drop (endIn r p) p) ≡ endLength
+    pub header : headerFits F p ≡ true
+    pub buckets : bucketsWrong F (bucketCount p) bucketsAt (drop bucketsAt p) ≡ Nowhere
+    pub entries : entriesWrong 0 (baseCount p) (entriesIn F p) (drop (entriesIn F p) p) ≡ Nowhere
+    pub end : endFits (drop (endIn F p) p) ≡ true
+    pub nothing : length (drop (endIn F p) p) ≡ endLength
 
-  pub nowhere : Right → wrongAt r p ≡ Nowhere
+  pub nowhere : Right → wrongAt F p ≡ Nowhere
   unfolding wrongAt
   nowhere h = rw (h .header, h .buckets, h .entries, h .end, h .nothing)
 
-  pub parts : wrongAt r p ≡ Nowhere → Right
+  pub parts : wrongAt F p ≡ Nowhere → Right
   unfolding wrongAt
   parts e =
-      let q : List ℕ = drop (endIn r p) p in
-      let h = right (headerFits p) (recordsWrong r (bucketCount p) (baseCount p) p) 0 e in
-      let n1 = next (bucketsWrong r (bucketCount p) bucketsAt (drop bucketsAt p)) _ (h .1) in
-      let n2 = next (entriesWrong 0 (baseCount p) (entriesIn r p) (drop (entriesIn r p) p)) _ (n1 .1) in
-      let f = end-parts (endIn r p) q (n2 .1) in
+      let q : List ℕ = drop (endIn F p) p in
+      let h = right (headerFits F p) (recordsWrong F (bucketCount p) (baseCount p) p) 0 e in
+      let n1 = next (bucketsWrong F (bucketCount p) bucketsAt (drop bucketsAt p)) _ (h .1) in
+      let n2 = next (entriesWrong 0 (baseCount p) (entriesIn F p) (drop (entriesIn F p) p)) _ (n1 .1) in
+      let f = end-parts (endIn F p) q (n2 .1) in
       record {
         header = h .0;
         buckets = n1 .0;
@@ -226,15 +226,15 @@ module _ (r : ℕ) (p : List ℕ) where
         nothing = f .1;
       }
 
-  pub right-length : Right → length p ≡ planeLength r (bucketCount p) (baseCount p)
+  pub right-length : Right → length p ≡ planeLength F (bucketCount p) (baseCount p)
   right-length h =
-      let e : length p - endIn r p ≡ endLength = rw length-drop at (h .nothing) in
+      let e : length p - endIn F p ≡ endLength = rw length-drop at (h .nothing) in
       omega arith
 
   -- what a right plane's header and length say
   pub record Known : Type 0 where
     pub header : Header p
-    pub whole : length p ≡ planeLength r (bucketCount p) (baseCount p)
+    pub whole : length p ≡ planeLength F (bucketCount p) (baseCount p)
 
-  pub known : wrongAt r p ≡ Nowhere → Known
-  known e = record { header = header p (parts e .header); whole = right-length (parts e) }
+  pub known : wrongAt F p ≡ Nowhere → Known
+  known e = record { header = header F p (parts e .header); whole = right-length (parts e) }

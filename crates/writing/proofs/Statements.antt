@@ -20,6 +20,7 @@ use Rattle.concrete.specs.Calls.{rows, solutions, tableOf, planIn, FlatSound}
 use Rattle.concrete.specs.History.{Put, tables, Opened, acceptedCalls}
 use Rattle.concrete.proofs.Statements.{sound-exactly, always-sound, plan}
 use Rattle.plane.specs.declared.Wrong.the-variants.{Nowhere}
+use Rattle.plane.specs.Record.{Format, format1}
 use Rattle.plane.specs.Plane.{Plane, planeBytes, planeLength, planeFrom, wrongAt}
 use Rattle.plane.specs.Lookup.{lookupCall}
 use Rattle.plane.specs.Fits.{Fits, OfPlane}
@@ -30,27 +31,27 @@ use Rattle.writing.proofs.Accepted.{shows, was-shaped, was-sound, was-w
 use Rattle.writing.proofs.Shown.{Words, Sols, narrow, live-shown}
 use Rattle.writing.proofs.Bounded.{after-sols}
 
--- ---- "The plane", at every number r of solution words
+-- ---- "The plane", in every format F
 
 -- wrong nowhere exactly if the bytes are those of a plane within the limits
-pub right-exactly : (r : ℕ) (p : List ℕ) → AllBytes p → (wrongAt r p ≡ Nowhere) ↔ OfPlane r p
-right-exactly r p b = (
-  λ e. record { plane = planeFrom r p; fits = read-fits r p e b; bytes = read-written r p e b },
-  λ o. rw (o .bytes) at (written-right r (o .plane) (o .fits)),
+pub right-exactly : (F : Format) (p : List ℕ) → AllBytes p → (wrongAt F p ≡ Nowhere) ↔ OfPlane F p
+right-exactly F p b = (
+  λ e. record { plane = planeFrom F p; fits = read-fits F p e b; bytes = read-written F p e b },
+  λ o. rw (o .bytes) at (written-right F (o .plane) (o .fits)),
 )
 
 -- the plane that was written is read
-pub read-back : (r : ℕ) (P : Plane) → Fits r P → planeFrom r (planeBytes P) ≡ P
+pub read-back : (F : Format) (P : Plane) → Fits F P → planeFrom F (planeBytes F P) ≡ P
 read-back = written-read
 
 -- "Length 10 + 66 × buckets + 10 × entries, so 142 to 5,930"
-pub length-is : (P : Plane) → Fits solutions P → length (planeBytes P) ≡ 10 + 66 * (length (P .level1) + length (P .level2)) + 10 * length (P .base)
-length-is P h = plane-length solutions P h ∙ omega arith
+pub length-is : (P : Plane) → Fits format1 P → length (planeBytes format1 P) ≡ 10 + 66 * (length (P .level1) + length (P .level2)) + 10 * length (P .base)
+length-is P h = plane-length format1 P h ∙ omega arith
 
-pub shortest : planeLength solutions 2 0 ≡ 142
+pub shortest : planeLength format1 2 0 ≡ 142
 shortest = refl
 
-pub longest : planeLength solutions (mostBuckets1 + mostBuckets2) baseLimit ≡ 5930
+pub longest : planeLength format1 (mostBuckets1 + mostBuckets2) baseLimit ≡ 5930
 longest = refl
 
 -- ---- statement 2, the plane's half
@@ -63,7 +64,7 @@ module _ (t out : List ℕ) (n : ℕ) (e : writeCall t out .answer ≡ Accepted 
     -- written from a table, whose numbers have 64 bits, and read again, the plane gives for each identifier, live or not, the answer of
     -- the table's own XOR words or base list
     pub statement-2 : (id : List ℕ) → lookupCall id (take n (writeCall t out .output)) ≡ shownTo (tableOf t) (readOf id)
-    statement-2 = gives (narrow rows solutions t w) (sound-exactly t (was-shaped t out n e .0) w .0 (was-sound t out n e .0))
+    statement-2 = gives (narrow rows format1 t w) (sound-exactly t (was-shaped t out n e .0) w .0 (was-sound t out n e .0))
 
     -- so a live identifier gets its word's plan
     pub live-plan : (id : List ℕ) (v p : ℕ) → readOf id ≡ Word v → planIn t v ≡ some p → lookupCall id (take n (writeCall t out .output)) ≡ Accepted p
@@ -82,6 +83,6 @@ module _ (t : List ℕ) (o : Opened t) (ps : List Put) (out : List ℕ) (n : ℕ
 
 -- in a list of calls the writer meets no cause but 9
 pub list-writes : (t : List ℕ) → Opened t → (ps : List Put) (out : List ℕ)
-    → writeCall (after tables t ps) out ≡ putFront (planeBytes (planeOf (tableOf (after tables t ps)))) out
+    → writeCall (after tables t ps) out ≡ putFront (planeBytes format1 (planeOf (tableOf (after tables t ps)))) out
 unfolding writeCall
 list-writes t o ps out = rw (always-sound t o ps .0, always-sound t o ps .1)
