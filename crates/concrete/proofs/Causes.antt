@@ -37,7 +37,7 @@ use Rattle.concrete.proofs.Calls.{Match, served-match, sound-stands-fla
 
 -- ---- tests and what they say
 
-and-fails : (a b : Bool) {P Q : Type 0} → (a ≡ false) ↔ P → (b ≡ false) ↔ Q → ((a && b) ≡ false) ↔ (P ⊎ Q)
+pub and-fails : (a b : Bool) {P Q : Type 0} → (a ≡ false) ↔ P → (b ≡ false) ↔ Q → ((a && b) ≡ false) ↔ (P ⊎ Q)
 and-fails true b p q = (λ e. inr (q .0 e), ⊎-elim (λ x. absurd (true≢false (p .1 x))) (q .1))
 and-fails false b p q = (λ e. inl (p .0 refl), λ x. refl)
 

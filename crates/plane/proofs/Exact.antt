@@ -19,9 +19,9 @@ use Rattle.model.specs.Model.{baseLimit}
 use Rattle.concrete.specs.Layout.{inRange}
 use Rattle.plane.specs.declared.Wrong.the-variants.{Nowhere}
 use Rattle.plane.specs.Record.{Format, bucketBytes, entryBytes, endLength, Kind, sizeOf, recordOf, bucketRecords, entryRecords, bytesOf, readAll, wordBytes, wordFrom, headerKind, headerBody, headerRecord, bucketBody, bucketRecord, bucketFrom, entryBody, entryRecord, entryFrom, endKind, endBody, endBytes, endRecord, bucketLength, entryLength}
-use Rattle.plane.specs.Plane.{endFits, fits, wrongIn, allAllowed, boundAllowed, entryAllowed, exceeding, baseCount, planeBytes, planeFrom, bucketsAt, whole, bucketsWrong, entriesWrong, wrongAt}
+use Rattle.plane.specs.Plane.{endFits, fits, wrongIn, allAllowed, boundAllowed, entryAllowed, exceeding, bucketCount, baseCount, planeBytes, planeFrom, bucketsAt, whole, bucketsWrong, entriesWrong, wrongAt}
 use Rattle.plane.specs.Fits.{Every, Below, FitsBucket, FitsEntry, Fits}
-use Rattle.plane.proofs.Scan.{both, right, whole-length, Right, parts, bucketCount, entriesIn, endIn}
+use Rattle.plane.proofs.Scan.{both, right, whole-length, Right, parts, entriesIn, endIn}
 use Rattle.plane.proofs.Read.{drop-more, length-readAll, read-add}
 
 -- each is below 256

@@ -4,3 +4,4 @@ pub mod Read
 pub mod Round
 pub mod Exact
 pub mod Octets
+pub mod Offset

@@ -17,14 +17,14 @@ use Rattle.concrete.specs.Layout.{inRange, mostBuckets1, mostBuckets2}
 use Rattle.plane.specs.declared.Wrong.{Wrong}
 use Rattle.plane.specs.declared.Wrong.the-variants.{Nowhere, At}
 use Rattle.plane.specs.Record.{Format, Kind, sizeOf, bucketRecords, entryRecords, headerKind, headerBody, entryKind, entryBody, entryFrom, bucketLength, entryLength, endLength}
-use Rattle.plane.specs.Plane.{fits, wrongIn, boundAllowed, entryAllowed, exceeding, buckets1, buckets2, baseCount, whole, headerFits, bucketFits, bucketsWrong, entryFits, entriesWrong, endFits, endWrong, orNext, recordsWrong, wrongAt, bucketsAt, entriesAt, endAt, planeLength}
+use Rattle.plane.specs.Plane.{fits, wrongIn, boundAllowed, entryAllowed, exceeding, bucketCount, baseCount, whole, headerFits, bucketFits, bucketsWrong, entryFits, entriesWrong, endFits, endWrong, orNext, recordsWrong, wrongAt, bucketsAt, entriesAt, endAt, planeLength}
 
 -- two tests that hold
 pub both : (a b : Bool) → (a && b) ≡ true → (a ≡ true) × (b ≡ true)
 both true b e = (refl, e)
 both false b e = absurd (true→T e)
 
-at-nowhere : {at : ℕ} → At at ≡ Nowhere → ⊥
+pub at-nowhere : {at : ℕ} → At at ≡ Nowhere → ⊥
 at-nowhere e = let z : _≡_ {A = ℕ} 0 1 = cc in omega arith
 
 -- a record that is right, and nothing wrong after it
@@ -186,11 +186,7 @@ pub next : (a o : Wrong) → orNext a o ≡ Nowhere → (a ≡ Nowhere) × (o �
 next Nowhere o e = (refl, e)
 next (At at) o e = absurd (at-nowhere e)
 
--- the buckets of both levels
-abbrev pub bucketCount : List ℕ → ℕ
-bucketCount p = buckets1 p + buckets2 p
-
--- where the entries and the end start by it
+-- where the entries and the end start by the header
 abbrev pub entriesIn : Format → List ℕ → ℕ
 entriesIn F p = entriesAt F (bucketCount p)
 

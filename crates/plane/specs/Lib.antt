@@ -3,3 +3,4 @@ pub mod Record
 pub mod Plane
 pub mod Lookup
 pub mod Fits
+pub mod Offset

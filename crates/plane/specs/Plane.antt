@@ -72,6 +72,10 @@ buckets1 p = getD p 2 0
 abbrev pub buckets2 : List ℕ → ℕ
 buckets2 p = getD p 3 0
 
+-- of both
+abbrev pub bucketCount : List ℕ → ℕ
+bucketCount p = buckets1 p + buckets2 p
+
 -- base count
 abbrev pub baseCount : List ℕ → ℕ
 baseCount p = getD p 4 0
@@ -129,7 +133,7 @@ recordsWrong F buckets k p =
 -- document 01's "offset of the first byte of the first record that is cut, of a wrong kind, or with a value not allowed; or of the first
 -- byte after kind 4"
 unfoldable pub wrongAt : Format → List ℕ → Wrong
-wrongAt F p = cond (headerFits F p) (recordsWrong F (buckets1 p + buckets2 p) (baseCount p) p) (At 0)
+wrongAt F p = cond (headerFits F p) (recordsWrong F (bucketCount p) (baseCount p) p) (At 0)
 
 -- ---- what the bytes say, where nothing is wrong
 
@@ -138,5 +142,5 @@ unfoldable pub planeFrom : Format → List ℕ → Plane
 planeFrom F p = record {
   level1 = readAll (bucketLength F) (bucketFrom F) (buckets1 p) (drop bucketsAt p);
   level2 = readAll (bucketLength F) (bucketFrom F) (buckets2 p) (drop (entriesAt F (buckets1 p)) p);
-  base = readAll entryLength entryFrom (baseCount p) (drop (entriesAt F (buckets1 p + buckets2 p)) p);
+  base = readAll entryLength entryFrom (baseCount p) (drop (entriesAt F (bucketCount p)) p);
 }

@@ -6,7 +6,7 @@ use native.Mathlib.Omega.{arith}
 use borrow.Author.Needs.{needs}
 use lib.ListN.{getD, length-drop}
 use Rattle.plane.specs.Record.{format1, bucketLength}
-use Rattle.plane.specs.Plane.{buckets1, buckets2, entriesAt, planeFrom}
+use Rattle.plane.specs.Plane.{bucketCount, entriesAt, planeFrom}
 use Rattle.plane.specs.Lookup.{levelPlan, secondPlan}
 use Rattle.plane.proofs.Scan.{rest, Known, known}
 use Rattle.plane.proofs.second_plan.Statement.{statement}
@@ -94,7 +94,7 @@ returns-2 c =
     let p = e .before .before .before .before .before .before .before .before .args .plane .now in
     let s1 = e .before .before .before .before .before .size .result in
     let s2 = c .before .before .before .before .size2 .result in
-    let at : entriesAt format1 s1 + s2 * bucketLength format1 ≡ entriesAt format1 (buckets1 p + buckets2 p) = omega arith in
+    let at : entriesAt format1 s1 + s2 * bucketLength format1 ≡ entriesAt format1 (bucketCount p) = omega arith in
     let base = rw (rest, at, c .before .size3 .ensures) at (c .base-plan .ensures) in
     rw (sym (level2 (e .before .before)) ∙ e .enum-told .given .1) base
 
