@@ -5,3 +5,4 @@ pub mod Round
 pub mod Exact
 pub mod Octets
 pub mod Offset
+pub mod Causes

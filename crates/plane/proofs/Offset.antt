@@ -63,7 +63,7 @@ pub found-append : (p : List ℕ) (ds es : List Expected) (o : Wrong) → found 
 found-append p [] es o = refl
 found-append p (d ∷ ds) es o = ap (λ (x : Wrong). cond (rightTest p d) x (At (d .at))) (found-append p ds es o)
 
-at-one : {i j : ℕ} → At i ≡ At j → i ≡ j
+pub at-one : {i j : ℕ} → At i ≡ At j → i ≡ j
 at-one e = cc
 
 -- it is the first that is wrong

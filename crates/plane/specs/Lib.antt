@@ -4,3 +4,4 @@ pub mod Plane
 pub mod Lookup
 pub mod Fits
 pub mod Offset
+pub mod Causes
