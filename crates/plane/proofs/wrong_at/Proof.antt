@@ -1,6 +1,6 @@
 -- `plane::wrong_at` meets its contract.
 -- Assumes nothing.
-use mathlib.Core.Path.{_≡_}
+use mathlib.Core.Path.{_≡_, refl}
 use mathlib.Core.Bool.{true}
 use native.Mathlib.Omega.{arith}
 use borrow.Author.Needs.{needs}
@@ -15,7 +15,7 @@ header-fits-requires c κs = search needs
 
 returns : tie.Need-returns
 unfolding wrongAt
-returns c = rw (refused _ (c .before .header-fits .ensures) (c .if1 .taken))
+returns c = rw (refused _ (c .before .header-fits .ensures) (c .if1 .taken)) refl
 
 fits : (c : tie.Else1) → headerFits format1 (c .before .before .before .args .plane .now) ≡ true
 fits c = passed (c .before .header-fits .result) (c .before .header-fits .ensures) (c .if1 .left)

@@ -38,7 +38,7 @@ needed c = c .plane-len .ensures ∙ sym (facts (c .before .before .before .befo
 returns : tie.Need-returns
 returns c =
     let a = c .before .before .before .before .before .before .before .args in
-    put-short (planeBytes format1 (planeOf (tableOf (a .t .now)))) (a .out .now) (c .before .plane-len .result) (needed (c .before)) (c .if1 .taken)
+    put-short (planeBytes format1 (planeOf (tableOf (a .t .now)))) (a .out .now) (c .before .plane-len .result) (needed (c .before)) (omega (arith, c .before .plane-len .ensures))
 
 write-plane-requires : tie.Need-write-plane-requires
 write-plane-requires c κs =
