@@ -17,7 +17,7 @@ use Rattle.gf2.specs.Vectors.{product}
 use Rattle.hash.specs.Mix.{mixOf}
 use Rattle.identifier.specs.Place.{thresholdAt, bucketAt}
 use Rattle.plane.specs.declared.Held.the-variants.{Plan, Passed}
-use Rattle.plane.specs.Record.{readAll, wordBytes, wordFrom, bucketFrom, entryFrom, bucketLength, entryLength}
+use Rattle.plane.specs.Record.{Format, readAll, wordBytes, wordFrom, bucketFrom, entryFrom, bucketLength, entryLength}
 use Rattle.plane.specs.Lookup.{bucketOf, levelPlan}
 
 module _ {A : Type 0} (size : ℕ) (read : List ℕ → A) where
@@ -49,10 +49,10 @@ part-words (suc r) p =
     let more : wordBytes * suc r ≡ wordBytes + wordBytes * r = omega arith in
     rw (more, take-take wordBytes (wordBytes + wordBytes * r) p (omega arith), drop-take wordBytes (wordBytes * r) p, part-words r (drop wordBytes p))
 
-pub bucket-part : (r at : ℕ) (p : List ℕ) → bucketFrom r (take (at + (bucketLength r) - at) (drop at p)) ≡ bucketFrom r (drop at p)
-bucket-part r at p =
-    let size : at + (bucketLength r) - at ≡ 2 + wordBytes * r = omega arith in
-    rw (size, getD-take (2 + wordBytes * r) (drop at p) 1 0 (omega arith), drop-take 2 (wordBytes * r) (drop at p), part-words r (drop 2 (drop at p)))
+pub bucket-part : (F : Format) (at : ℕ) (p : List ℕ) → bucketFrom F (take (at + (bucketLength F) - at) (drop at p)) ≡ bucketFrom F (drop at p)
+bucket-part F at p =
+    let size : at + (bucketLength F) - at ≡ 2 + wordBytes * F .words = omega arith in
+    rw (size, getD-take (2 + wordBytes * F .words) (drop at p) 1 0 (omega arith), drop-take 2 (wordBytes * F .words) (drop at p), part-words (F .words) (drop 2 (drop at p)))
 
 pub entry-part : (at : ℕ) (p : List ℕ) → entryFrom (take (at + entryLength - at) (drop at p)) ≡ entryFrom (drop at p)
 entry-part at p =
@@ -63,9 +63,9 @@ entry-part at p =
     go [] = refl
     go (x ∷ q) = rw (take-take 8 9 q (lit≤ tt), getD-take 9 q 8 0 (lit< tt))
 
--- solution word i of a bucket of r
-pub word-at : (r i : ℕ) (p : List ℕ) → i < r → wordFrom (drop (2 + i * wordBytes) p) ≡ getD (bucketFrom r p .sols) i 0
-word-at r i p h = sym (getD-readAll wordBytes wordFrom r i (drop 2 p) 0 h ∙ ap wordFrom (drop-drop (i * wordBytes) 2 p))
+-- solution word i of a bucket
+pub word-at : (F : Format) (i : ℕ) (p : List ℕ) → i < F .words → wordFrom (drop (2 + i * wordBytes) p) ≡ getD (bucketFrom F p .sols) i 0
+word-at F i p h = sym (getD-readAll wordBytes wordFrom (F .words) i (drop 2 p) 0 h ∙ ap wordFrom (drop-drop (i * wordBytes) 2 p))
 
 -- the entry in front, of `left` ones, has the word v, or another word w
 pub find-here : (v left w : ℕ) (p : List ℕ) → 0 < left → w ≡ entryFrom p .word → w ≡ v
@@ -81,17 +81,17 @@ find-next v zero at w p h e i = absurd (omega arith)
 find-next v (suc k) at w p h e i = rw (ne-eqb v (entryFrom (drop at p) .word) (λ j. i (e ∙ sym j)), drop-drop entryLength at p, sub-one)
 
 -- the bucket of v, of a level of m
-pub level-bucket : (r m v : ℕ) (p : List ℕ) → 0 < m
-    → bucketOf (readAll (bucketLength r) (bucketFrom r) m p) v ≡ bucketFrom r (drop (bucketAt m (mixOf v) * (bucketLength r)) p)
-level-bucket r m v p h =
-    rw (length-readAll (bucketLength r) (bucketFrom r) m p)
-    (getD-readAll (bucketLength r) (bucketFrom r) m (bucketAt m (mixOf v)) p (record { bound = 0; sols = [] }) (mod-lt (mixOf v / 8) h))
+pub level-bucket : (F : Format) (m v : ℕ) (p : List ℕ) → 0 < m
+    → bucketOf (readAll (bucketLength F) (bucketFrom F) m p) v ≡ bucketFrom F (drop (bucketAt m (mixOf v) * (bucketLength F)) p)
+level-bucket F m v p h =
+    rw (length-readAll (bucketLength F) (bucketFrom F) m p)
+    (getD-readAll (bucketLength F) (bucketFrom F) m (bucketAt m (mixOf v)) p (record { bound = 0; sols = [] }) (mod-lt (mixOf v / 8) h))
 
-module _ (r m v at : ℕ) (p : List ℕ) (some : 0 < m) (e : at ≡ bucketAt m (mixOf v) * (bucketLength r)) where
-  pub level-held : thresholdAt (mixOf v) < getD (drop at p) 1 0 → levelPlan (readAll (bucketLength r) (bucketFrom r) m p) v ≡ Plan (product (bucketFrom r (drop at p) .sols) v)
+module _ (F : Format) (m v at : ℕ) (p : List ℕ) (some : 0 < m) (e : at ≡ bucketAt m (mixOf v) * (bucketLength F)) where
+  pub level-held : thresholdAt (mixOf v) < getD (drop at p) 1 0 → levelPlan (readAll (bucketLength F) (bucketFrom F) m p) v ≡ Plan (product (bucketFrom F (drop at p) .sols) v)
   unfolding levelPlan
-  level-held h = rw (level-bucket r m v p some, ← e, lt-ltb (thresholdAt (mixOf v)) (getD (drop at p) 1 0) h)
+  level-held h = rw (level-bucket F m v p some, ← e, lt-ltb (thresholdAt (mixOf v)) (getD (drop at p) 1 0) h)
 
-  pub level-passed : getD (drop at p) 1 0 ≤ thresholdAt (mixOf v) → levelPlan (readAll (bucketLength r) (bucketFrom r) m p) v ≡ Passed
+  pub level-passed : getD (drop at p) 1 0 ≤ thresholdAt (mixOf v) → levelPlan (readAll (bucketLength F) (bucketFrom F) m p) v ≡ Passed
   unfolding levelPlan
-  level-passed h = rw (level-bucket r m v p some, ← e, le-ltb (thresholdAt (mixOf v)) (getD (drop at p) 1 0) h)
+  level-passed h = rw (level-bucket F m v p some, ← e, le-ltb (thresholdAt (mixOf v)) (getD (drop at p) 1 0) h)

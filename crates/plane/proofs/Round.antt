@@ -1,12 +1,12 @@
 -- What is written is read again: the bytes of a plane that fits are wrong nowhere, have the length of a plane, and say that plane.
 -- Assumes nothing.
 use mathlib.Core.Path.{_≡_, refl, sym, ap, ap₂, _∙_}
-use mathlib.Core.Bool.{true}
+use mathlib.Core.Bool.{Bool, true}
 use mathlib.Core.List.{List, [], _∷_, _++_, append-assoc}
 use Prim.Native.Nat.{ℕ, suc, _+_, _*_, _≤_}
 use native.Mathlib.Nat.{suc-mul, zero-mul}
 use native.Mathlib.Omega.{arith}
-use borrow.Author.Tests.{le-leb}
+use borrow.Author.Tests.{le-leb, eq-eqb}
 use lib.ListN.{length, drop, length-append}
 use lib.Seq.{take-at, drop-at, getD-at, drop-append-add, drop-drop}
 use Rattle.lists.specs.Entries.{Entry, Above, Ascending}
@@ -16,18 +16,18 @@ use Rattle.codec.proofs.Round.{length-toBytes, from-to}
 use Rattle.bucket.specs.Bucket.{largestBound}
 use Rattle.model.specs.Model.{baseLimit}
 use Rattle.plane.specs.declared.Wrong.the-variants.{Nowhere}
-use Rattle.plane.specs.Record.{bytesOf, readAll, wordBytes, wordFrom, headerBody, headerRecord, PlaneBucket, bucketRecord, bucketFrom, entryRecord, entryFrom, endBytes, endRecord, bucketLength, entryLength}
-use Rattle.plane.specs.Plane.{bucketFits, entryFits, Plane, planeBytes, planeFrom, bucketsAt, entriesAt, endAt, planeLength, bucketsWrong, entriesWrong, wrongAt}
-use Rattle.plane.proofs.Scan.{Right, nowhere, buckets-next, entries-next}
+use Rattle.plane.specs.Record.{Format, Kind, sizeOf, recordOf, bucketRecords, entryRecords, bytesOf, readAll, wordBytes, wordFrom, headerBody, headerRecord, PlaneBucket, bucketRecord, bucketFrom, entryRecord, entryFrom, endBytes, endRecord, bucketLength, entryLength}
+use Rattle.plane.specs.Plane.{wrongIn, allAllowed, boundAllowed, entryAllowed, exceeding, Plane, planeBytes, planeFrom, bucketsAt, entriesAt, endAt, planeLength, bucketsWrong, entriesWrong, wrongAt}
+use Rattle.plane.proofs.Scan.{both, scan-next, Right, nowhere}
 use Rattle.plane.specs.Fits.{Every, Below, FitsBucket, FitsEntry, Fits}
 
 -- ---- things one after the other
 
-every : {A : Type 0} {P Q : A → Type 0} → ((x : A) → P x → Q x) → (xs : List A) → Every P xs → Every Q xs
+pub every : {A : Type 0} {P Q : A → Type 0} → ((x : A) → P x → Q x) → (xs : List A) → Every P xs → Every Q xs
 every f [] h = tt
 every f (x ∷ xs) h = (f x (h .0), every f xs (h .1))
 
-every-split : {A : Type 0} (P : A → Type 0) (xs ys : List A) → Every P (xs ++ ys) → Every P xs × Every P ys
+pub every-split : {A : Type 0} (P : A → Type 0) (xs ys : List A) → Every P (xs ++ ys) → Every P xs × Every P ys
 every-split P [] ys h = (tt, h)
 every-split P (x ∷ xs) ys h = ((h .0, every-split P xs ys (h .1) .0), every-split P xs ys (h .1) .1)
 
@@ -49,7 +49,7 @@ module _ {A : Type 0} (f : A → List ℕ) where
 
     module _ (read : List ℕ → A) where
       -- that are read again, whatever follows
-      abbrev Back : A → Type 0
+      abbrev pub Back : A → Type 0
       Back x = Sized x × ((q : List ℕ) → read (f x ++ q) ≡ x)
 
       pub read-back : (xs : List A) (q : List ℕ) → Every Back xs → readAll size read (length xs) (bytesOf f xs ++ q) ≡ xs
@@ -60,21 +60,21 @@ module _ {A : Type 0} (f : A → List ℕ) where
 
 -- ---- each kind of thing
 
-word-back : (x : ℕ) → Below wordBytes x → Back (toBytes wordBytes) wordBytes wordFrom x
+pub word-back : (x : ℕ) → Below wordBytes x → Back (toBytes wordBytes) wordBytes wordFrom x
 word-back x h =
     (length-toBytes wordBytes x, λ q. ap fromBytes (take-at (toBytes wordBytes x) q wordBytes (length-toBytes wordBytes x)) ∙ from-to wordBytes x h)
 
 -- the solution words of a bucket that fits
-words-back : (r : ℕ) (b : PlaneBucket) → FitsBucket r b → Every (Back (toBytes wordBytes) wordBytes wordFrom) (b .sols)
-words-back r b h = every word-back (b .sols) (h .words)
+words-back : (F : Format) (b : PlaneBucket) → FitsBucket F b → Every (Back (toBytes wordBytes) wordBytes wordFrom) (b .sols)
+words-back F b h = every word-back (b .sols) (h .words)
 
-bucket-back : (r : ℕ) (b : PlaneBucket) → FitsBucket r b → Back bucketRecord (bucketLength r) (bucketFrom r) b
-bucket-back r b h = (
-  omega (arith, length-bytes (toBytes wordBytes) wordBytes (b .sols) (every (λ x k. k .0) (b .sols) (words-back r b h)), h .wide),
-  λ q. ap (λ (s : List ℕ). record { bound = b .bound; sols = s }) (rw (← h .wide) (read-back (toBytes wordBytes) wordBytes wordFrom (b .sols) q (words-back r b h))),
+pub bucket-back : (F : Format) (b : PlaneBucket) → FitsBucket F b → Back (bucketRecord F) (bucketLength F) (bucketFrom F) b
+bucket-back F b h = (
+  omega (arith, length-bytes (toBytes wordBytes) wordBytes (b .sols) (every (λ x k. k .0) (b .sols) (words-back F b h)), h .wide),
+  λ q. ap (λ (s : List ℕ). record { bound = b .bound; sols = s }) (rw (← h .wide) (read-back (toBytes wordBytes) wordBytes wordFrom (b .sols) q (words-back F b h))),
 )
 
-entry-back : (e : Entry) → FitsEntry e → Back entryRecord entryLength entryFrom e
+pub entry-back : (e : Entry) → FitsEntry e → Back entryRecord entryLength entryFrom e
 entry-back e h =
     let t : List ℕ = toBytes wordBytes (e .word) in
     let n : length t ≡ wordBytes = length-toBytes wordBytes (e .word) in (
@@ -84,23 +84,28 @@ entry-back e h =
 
 -- ---- the check of what is written
 
-module _ (r : ℕ) where
-  bucket-fits : (b : PlaneBucket) (q : List ℕ) → FitsBucket r b → bucketFits r (bucketRecord b ++ q) ≡ true
-  bucket-fits b q h =
-      let n : bucketLength r ≤ length (bucketRecord b ++ q) = rw length-append (omega (arith, bucket-back r b h .0)) in
-      rw (le-leb (bucketLength r) (length (bucketRecord b ++ q)) n, le-leb (b .bound) largestBound (h .low))
+-- records of one kind that are read again, with allowed values, are wrong nowhere
+module _ {A S : Type 0} (k : Kind A) (allowed : S → A → Bool) (next : S → A → S) where
+  pub scan-right : (s : S) (xs : List A) (q : List ℕ) (at : ℕ) → Every (Back (recordOf k) (sizeOf k) (k .read)) xs → allAllowed allowed next s xs ≡ true
+      → wrongIn k allowed next s (length xs) at (bytesOf (recordOf k) xs ++ q) ≡ Nowhere
+  unfolding bytesOf
+  scan-right s [] q at h a = refl
+  scan-right s (x ∷ xs) q at h a =
+      let rest : List ℕ = bytesOf (recordOf k) xs ++ q in
+      let c = both (allowed s x) (allAllowed allowed next (next s x) xs) a in
+      let n : sizeOf k ≤ length (recordOf k x ++ rest) = rw (length-append (recordOf k x) rest) (omega (arith, h .0 .0)) in
+      let v : k .read (recordOf k x ++ rest) ≡ x = h .0 .1 rest in
+      ap (wrongIn k allowed next s (suc (length xs)) at) (append-assoc (recordOf k x) (bytesOf (recordOf k) xs) q)
+      ∙ scan-next k allowed next s (length xs) at (recordOf k x ++ rest)
+      (rw (le-leb (sizeOf k) (length (recordOf k x ++ rest)) n, eq-eqb (k .number) (k .number) refl, v, c .0))
+      (rw (v, drop-at (recordOf k x) rest (sizeOf k) (h .0 .0)) (scan-right (next s x) xs q (at + sizeOf k) (h .1) (c .1)))
 
-  buckets-right : (bs : List PlaneBucket) (q : List ℕ) (at : ℕ) → Every (FitsBucket r) bs → bucketsWrong r (length bs) at (bytesOf bucketRecord bs ++ q) ≡ Nowhere
-  unfolding bytesOf bucketsWrong
-  buckets-right [] q at h = refl
-  buckets-right (b ∷ bs) q at h =
-      let rest : List ℕ = bytesOf bucketRecord bs ++ q in
-      ap (bucketsWrong r (suc (length bs)) at) (append-assoc (bucketRecord b) (bytesOf bucketRecord bs) q)
-      ∙ buckets-next r (length bs) at (bucketRecord b ++ rest) (bucket-fits b rest (h .0))
-      (rw (drop-at (bucketRecord b) rest (bucketLength r) (bucket-back r b (h .0) .0)) (buckets-right bs q (at + bucketLength r) (h .1)))
+bounds-allowed : (F : Format) (bs : List PlaneBucket) → Every (FitsBucket F) bs → allAllowed boundAllowed (λ s b. s) tt bs ≡ true
+bounds-allowed F [] h = refl
+bounds-allowed F (b ∷ bs) h = rw (le-leb (b .bound) largestBound (h .0 .low)) (bounds-allowed F bs (h .1))
 
 -- the first word is at least `least`
-abbrev From : ℕ → List Entry → Type 0
+abbrev pub From : ℕ → List Entry → Type 0
 From least [] = Unit {0}
 From least (e ∷ es) = least ≤ e .word
 
@@ -108,30 +113,17 @@ from-above : (w : ℕ) (es : List Entry) → Above w es → From (suc w) es
 from-above w [] h = tt
 from-above w (e ∷ es) h = h .0
 
-from-zero : (es : List Entry) → From 0 es
+pub from-zero : (es : List Entry) → From 0 es
 from-zero [] = tt
 from-zero (e ∷ es) = omega arith
 
-entry-fits : (least : ℕ) (e : Entry) (q : List ℕ) → FitsEntry e → least ≤ e .word → entryFits least (entryRecord e ++ q) ≡ true
-entry-fits least e q h f =
-    let n : entryLength ≤ length (entryRecord e ++ q) = rw length-append (omega (arith, entry-back e h .0)) in
-    let w : entryFrom (entryRecord e ++ q) .word ≡ e .word = ap (λ (x : Entry). x .word) (entry-back e h .1 q) in
-    rw (le-leb entryLength (length (entryRecord e ++ q)) n, w, le-leb least (e .word) f)
-
-entries-right : (es : List Entry) (q : List ℕ) (least at : ℕ) → Every FitsEntry es → Ascending es → From least es
-    → entriesWrong least (length es) at (bytesOf entryRecord es ++ q) ≡ Nowhere
-unfolding bytesOf entriesWrong
-entries-right [] q least at h a f = refl
-entries-right (e ∷ es) q least at h a f =
-    let rest : List ℕ = bytesOf entryRecord es ++ q in
-    let w : entryFrom (entryRecord e ++ rest) .word ≡ e .word = ap (λ (x : Entry). x .word) (entry-back e (h .0) .1 rest) in
-    ap (entriesWrong least (suc (length es)) at) (append-assoc (entryRecord e) (bytesOf entryRecord es) q)
-    ∙ entries-next least (length es) at (entryRecord e ++ rest) (entry-fits least e rest (h .0) f)
-    (rw (w, drop-at (entryRecord e) rest entryLength (entry-back e (h .0) .0)) (entries-right es q (suc (e .word)) (at + entryLength) (h .1) (a .1) (from-above (e .word) es (a .0))))
+pub ascending-allowed : (least : ℕ) (es : List Entry) → Ascending es → From least es → allAllowed entryAllowed exceeding least es ≡ true
+ascending-allowed least [] a f = refl
+ascending-allowed least (e ∷ es) a f = rw (le-leb least (e .word) f) (ascending-allowed (suc (e .word)) es (a .1) (from-above (e .word) es (a .0)))
 
 -- ---- the plane
 
-module _ (r : ℕ) (P : Plane) (h : Fits r P) where
+module _ (F : Format) (P : Plane) (h : Fits F P) where
   abbrev m : ℕ
   m = length (P .level1) + length (P .level2)
 
@@ -139,76 +131,78 @@ module _ (r : ℕ) (P : Plane) (h : Fits r P) where
   k = length (P .base)
 
   abbrev B : List ℕ
-  B = bytesOf bucketRecord (P .level1 ++ P .level2)
+  B = bytesOf (bucketRecord F) (P .level1 ++ P .level2)
 
   abbrev E : List ℕ
   E = bytesOf entryRecord (P .base)
 
-  length-B : length B ≡ m * bucketLength r
+  length-B : length B ≡ m * bucketLength F
   length-B =
-      length-bytes bucketRecord (bucketLength r) (P .level1 ++ P .level2) (every (λ b f. bucket-back r b f .0) (P .level1 ++ P .level2) (h .buckets))
-      ∙ ap (λ (n : ℕ). n * bucketLength r) (length-append (P .level1) (P .level2))
+      length-bytes (bucketRecord F) (bucketLength F) (P .level1 ++ P .level2) (every (λ b f. bucket-back F b f .0) (P .level1 ++ P .level2) (h .buckets))
+      ∙ ap (λ (n : ℕ). n * bucketLength F) (length-append (P .level1) (P .level2))
 
   length-E : length E ≡ k * entryLength
   length-E = length-bytes entryRecord entryLength (P .base) (every (λ e f. entry-back e f .0) (P .base) (h .entries))
 
-  at-entries : drop (entriesAt r m) (planeBytes P) ≡ E ++ endRecord
+  at-entries : drop (entriesAt F m) (planeBytes F P) ≡ E ++ endRecord
   unfolding planeBytes
   at-entries =
-      drop-append-add (headerRecord (length (P .level1)) (length (P .level2)) k) (B ++ (E ++ endRecord)) (m * bucketLength r)
-      ∙ drop-at B (E ++ endRecord) (m * bucketLength r) length-B
+      drop-append-add (headerRecord F (length (P .level1)) (length (P .level2)) k) (B ++ (E ++ endRecord)) (m * bucketLength F)
+      ∙ drop-at B (E ++ endRecord) (m * bucketLength F) length-B
 
-  at-end : drop (endAt r m k) (planeBytes P) ≡ endRecord
-  at-end = sym (drop-drop (k * entryLength) (entriesAt r m) (planeBytes P)) ∙ ap (drop (k * entryLength)) at-entries ∙ drop-at E endRecord (k * entryLength) length-E
+  at-end : drop (endAt F m k) (planeBytes F P) ≡ endRecord
+  at-end = sym (drop-drop (k * entryLength) (entriesAt F m) (planeBytes F P)) ∙ ap (drop (k * entryLength)) at-entries ∙ drop-at E endRecord (k * entryLength) length-E
 
   -- document 01's length of a plane
-  pub plane-length : length (planeBytes P) ≡ planeLength r m k
+  pub plane-length : length (planeBytes F P) ≡ planeLength F m k
   unfolding planeBytes
   plane-length = rw (length-append, length-append, length-append, length-B, length-E) (omega arith)
 
-  right : Right r (planeBytes P)
-  unfolding planeBytes
+  -- the buckets of each level
+  all : (bs : List PlaneBucket) → Every (FitsBucket F) bs → Every (Back (bucketRecord F) (bucketLength F) (bucketFrom F)) bs
+  all bs f = every (bucket-back F) bs f
+
+  right : Right F (planeBytes F P)
+  unfolding planeBytes bucketsWrong entriesWrong
   right = record {
-    header = rw (le-leb (1 + headerBody) (length (planeBytes P)) (omega arith), h .range, le-leb k baseLimit (h .few));
-    buckets = rw (← length-append (P .level1) (P .level2)) (buckets-right r (P .level1 ++ P .level2) (E ++ endRecord) bucketsAt (h .buckets));
-    entries = rw at-entries (entries-right (P .base) endRecord 0 (entriesAt r m) (h .entries) (h .ascending) (from-zero (P .base)));
+    header = rw (le-leb (1 + headerBody) (length (planeBytes F P)) (omega arith), eq-eqb (F .number) (F .number) refl, h .range, le-leb k baseLimit (h .few));
+    buckets = rw (← length-append (P .level1) (P .level2))
+        (scan-right (bucketRecords F) boundAllowed (λ s b. s) tt (P .level1 ++ P .level2) (E ++ endRecord) bucketsAt (all (P .level1 ++ P .level2) (h .buckets)) (bounds-allowed F (P .level1 ++ P .level2) (h .buckets)));
+    entries = rw at-entries
+        (scan-right entryRecords entryAllowed exceeding 0 (P .base) endRecord (entriesAt F m) (every entry-back (P .base) (h .entries)) (ascending-allowed 0 (P .base) (h .ascending) (from-zero (P .base))));
     end = rw (at-end, equal-refl endBytes);
     nothing = ap length at-end;
   }
 
-  pub written-right : wrongAt r (planeBytes P) ≡ Nowhere
-  written-right = nowhere r (planeBytes P) right
+  pub written-right : wrongAt F (planeBytes F P) ≡ Nowhere
+  written-right = nowhere F (planeBytes F P) right
 
-  -- the buckets of each level
-  all : (bs : List PlaneBucket) → Every (FitsBucket r) bs → Every (Back bucketRecord (bucketLength r) (bucketFrom r)) bs
-  all bs f = every (bucket-back r) bs f
+  two : Every (FitsBucket F) (P .level1) × Every (FitsBucket F) (P .level2)
+  two = every-split (FitsBucket F) (P .level1) (P .level2) (h .buckets)
 
-  two : Every (FitsBucket r) (P .level1) × Every (FitsBucket r) (P .level2)
-  two = every-split (FitsBucket r) (P .level1) (P .level2) (h .buckets)
-
-  split : B ++ (E ++ endRecord) ≡ bytesOf bucketRecord (P .level1) ++ (bytesOf bucketRecord (P .level2) ++ (E ++ endRecord))
+  split : B ++ (E ++ endRecord) ≡ bytesOf (bucketRecord F) (P .level1) ++ (bytesOf (bucketRecord F) (P .level2) ++ (E ++ endRecord))
   split =
-      ap (λ (b : List ℕ). b ++ (E ++ endRecord)) (bytes-append bucketRecord (P .level1) (P .level2))
-      ∙ append-assoc (bytesOf bucketRecord (P .level1)) (bytesOf bucketRecord (P .level2)) (E ++ endRecord)
+      ap (λ (b : List ℕ). b ++ (E ++ endRecord)) (bytes-append (bucketRecord F) (P .level1) (P .level2))
+      ∙ append-assoc (bytesOf (bucketRecord F) (P .level1)) (bytesOf (bucketRecord F) (P .level2)) (E ++ endRecord)
 
-  at-second : drop (entriesAt r (length (P .level1))) (planeBytes P) ≡ bytesOf bucketRecord (P .level2) ++ (E ++ endRecord)
+  at-second : drop (entriesAt F (length (P .level1))) (planeBytes F P) ≡ bytesOf (bucketRecord F) (P .level2) ++ (E ++ endRecord)
   unfolding planeBytes
   at-second =
-      let n : ℕ = length (P .level1) * bucketLength r in
-      drop-append-add (headerRecord (length (P .level1)) (length (P .level2)) k) (B ++ (E ++ endRecord)) n
+      let n : ℕ = length (P .level1) * bucketLength F in
+      drop-append-add (headerRecord F (length (P .level1)) (length (P .level2)) k) (B ++ (E ++ endRecord)) n
       ∙ ap (drop n) split
-      ∙ drop-at (bytesOf bucketRecord (P .level1)) (bytesOf bucketRecord (P .level2) ++ (E ++ endRecord)) n
-      (length-bytes bucketRecord (bucketLength r) (P .level1) (every (λ b f. f .0) (P .level1) (all (P .level1) (two .0))))
+      ∙ drop-at (bytesOf (bucketRecord F) (P .level1)) (bytesOf (bucketRecord F) (P .level2) ++ (E ++ endRecord)) n
+      (length-bytes (bucketRecord F) (bucketLength F) (P .level1) (every (λ b f. f .0) (P .level1) (all (P .level1) (two .0))))
 
   -- the plane that was written is read
-  pub written-read : planeFrom r (planeBytes P) ≡ P
+  pub written-read : planeFrom F (planeBytes F P) ≡ P
   unfolding planeBytes planeFrom
   written-read =
-      let level : ℕ → List ℕ → List PlaneBucket = readAll (bucketLength r) (bucketFrom r) in
+      let level : ℕ → List ℕ → List PlaneBucket = readAll (bucketLength F) (bucketFrom F) in
       let e1 : level (length (P .level1)) (B ++ (E ++ endRecord)) ≡ P .level1 =
-      ap (level (length (P .level1))) split ∙ read-back bucketRecord (bucketLength r) (bucketFrom r) (P .level1) (bytesOf bucketRecord (P .level2) ++ (E ++ endRecord)) (all (P .level1) (two .0)) in
-      let e2 : level (length (P .level2)) (drop (entriesAt r (length (P .level1))) (planeBytes P)) ≡ P .level2 =
-      ap (level (length (P .level2))) at-second ∙ read-back bucketRecord (bucketLength r) (bucketFrom r) (P .level2) (E ++ endRecord) (all (P .level2) (two .1)) in
-      let e3 : readAll entryLength entryFrom k (drop (entriesAt r m) (planeBytes P)) ≡ P .base =
+      ap (level (length (P .level1))) split ∙ read-back (bucketRecord F) (bucketLength F) (bucketFrom F) (P .level1) (bytesOf (bucketRecord F) (P .level2) ++ (E ++ endRecord)) (all (P .level1) (two .0)) in
+      let e2 : level (length (P .level2)) (drop (entriesAt F (length (P .level1))) (planeBytes F P)) ≡ P .level2 =
+      ap (level (length (P .level2))) at-second ∙ read-back (bucketRecord F) (bucketLength F) (bucketFrom F) (P .level2) (E ++ endRecord) (all (P .level2) (two .1)) in
+      let e3 : readAll entryLength entryFrom k (drop (entriesAt F m) (planeBytes F P)) ≡ P .base =
       ap (readAll entryLength entryFrom k) at-entries ∙ read-back entryRecord entryLength entryFrom (P .base) endRecord (every entry-back (P .base) (h .entries)) in
       λ i. record { level1 = e1 i; level2 = e2 i; base = e3 i }

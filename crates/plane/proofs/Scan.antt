@@ -4,7 +4,7 @@ use mathlib.Core.Path.{_≡_, refl, sym, ap, _∙_}
 use mathlib.Core.Bool.{Bool, true, false, cond, not, _&&_}
 use mathlib.Core.List.{List}
 use Prim.Native.Nat.{ℕ, zero, suc, _+_, _-_, _*_, _≤_, _<_}
-use native.Mathlib.Nat.{suc-mul}
+use native.Mathlib.Nat.{suc-mul, zero-mul}
 use native.Mathlib.Numerals.{sub-one}
 use native.Mathlib.Omega.{arith}
 use borrow.Author.Tests.{not-true, not-false, leb-true, eqb-true, le-leb, lt-leb, eq-eqb, ne-eqb}
@@ -16,15 +16,15 @@ use Rattle.model.specs.Model.{baseLimit}
 use Rattle.concrete.specs.Layout.{inRange, mostBuckets1, mostBuckets2}
 use Rattle.plane.specs.declared.Wrong.{Wrong}
 use Rattle.plane.specs.declared.Wrong.the-variants.{Nowhere, At}
-use Rattle.plane.specs.Record.{headerKind, headerBody, format, bucketKind, bucketBody, entryKind, entryBody, entryFrom, bucketLength, entryLength, endLength}
-use Rattle.plane.specs.Plane.{buckets1, buckets2, baseCount, whole, headerFits, bucketFits, bucketsWrong, entryFits, entriesWrong, endFits, endWrong, orNext, recordsWrong, wrongAt, bucketsAt, entriesAt, endAt, planeLength}
+use Rattle.plane.specs.Record.{Format, Kind, sizeOf, bucketRecords, entryRecords, headerKind, headerBody, entryKind, entryBody, entryFrom, bucketLength, entryLength, endLength}
+use Rattle.plane.specs.Plane.{fits, wrongIn, boundAllowed, entryAllowed, exceeding, bucketCount, baseCount, whole, headerFits, bucketFits, bucketsWrong, entryFits, entriesWrong, endFits, endWrong, orNext, recordsWrong, wrongAt, bucketsAt, entriesAt, endAt, planeLength}
 
 -- two tests that hold
 pub both : (a b : Bool) → (a && b) ≡ true → (a ≡ true) × (b ≡ true)
 both true b e = (refl, e)
 both false b e = absurd (true→T e)
 
-at-nowhere : {at : ℕ} → At at ≡ Nowhere → ⊥
+pub at-nowhere : {at : ℕ} → At at ≡ Nowhere → ⊥
 at-nowhere e = let z : _≡_ {A = ℕ} 0 1 = cc in omega arith
 
 -- a record that is right, and nothing wrong after it
@@ -55,33 +55,50 @@ whole-next kind body at p e =
     let h : body < length p - at = rw length-drop at (whole-length kind body (drop at p) e) in
     omega arith
 
-module _ (r : ℕ) where
-  pub buckets-step : (left at : ℕ) (p : List ℕ) → 0 < left → bucketFits r (drop at p) ≡ true
-      → bucketsWrong r left at (drop at p) ≡ bucketsWrong r (left - 1) (at + bucketLength r) (drop (at + bucketLength r) p)
-  unfolding bucketsWrong
-  buckets-step zero at p h e = absurd (omega arith)
-  buckets-step (suc m) at p h e = rw (e, drop-drop, sub-one)
+-- ---- m records of one kind
 
-  pub buckets-here : (left at : ℕ) (p : List ℕ) → 0 < left → bucketFits r p ≡ false → bucketsWrong r left at p ≡ At at
-  unfolding bucketsWrong
-  buckets-here zero at p h e = absurd (omega arith)
-  buckets-here (suc m) at p h e = rw e
+module _ {A S : Type 0} (k : Kind A) (allowed : S → A → Bool) (next : S → A → S) where
+  abbrev wrong : S → ℕ → ℕ → List ℕ → Wrong
+  wrong = wrongIn k allowed next
+
+  -- one that fits
+  pub scan-step : (s : S) (left at : ℕ) (p : List ℕ) → 0 < left → fits k allowed s (drop at p) ≡ true
+      → wrong s left at (drop at p) ≡ wrong (next s (k .read (drop at p))) (left - 1) (at + sizeOf k) (drop (at + sizeOf k) p)
+  scan-step s zero at p h e = absurd (omega arith)
+  scan-step s (suc m) at p h e = rw (e, drop-drop, sub-one)
+
+  -- one that does not
+  pub scan-here : (s : S) (left at : ℕ) (p : List ℕ) → 0 < left → fits k allowed s p ≡ false → wrong s left at p ≡ At at
+  scan-here s zero at p h e = absurd (omega arith)
+  scan-here s (suc m) at p h e = rw e
 
   -- one that fits, and nothing wrong after it
-  pub buckets-next : (m at : ℕ) (p : List ℕ) → bucketFits r p ≡ true → bucketsWrong r m (at + bucketLength r) (drop (bucketLength r) p) ≡ Nowhere
-      → bucketsWrong r (suc m) at p ≡ Nowhere
-  unfolding bucketsWrong
-  buckets-next m at p e f = rw (e, f)
+  pub scan-next : (s : S) (m at : ℕ) (p : List ℕ) → fits k allowed s p ≡ true → wrong (next s (k .read p)) m (at + sizeOf k) (drop (sizeOf k) p) ≡ Nowhere
+      → wrong s (suc m) at p ≡ Nowhere
+  scan-next s m at p e f = rw (e, f)
 
-  -- m buckets that fit are there
-  pub buckets-room : (m at : ℕ) (p : List ℕ) → bucketsWrong r m at p ≡ Nowhere → m * bucketLength r ≤ length p
+  -- m that fit are there
+  pub scan-room : (s : S) (m at : ℕ) (p : List ℕ) → wrong s m at p ≡ Nowhere → m * sizeOf k ≤ length p
+  scan-room s zero at p e = rw (zero-mul (sizeOf k)) (omega arith)
+  scan-room s (suc m) at p e =
+      let f = right (fits k allowed s p) (wrong (next s (k .read p)) m (at + sizeOf k) (drop (sizeOf k) p)) at e in
+      let n : k .body < length p = whole-length (k .number) (k .body) p (both (whole (k .number) (k .body) p) _ (f .0) .0) in
+      let i : m * sizeOf k ≤ length p - sizeOf k = rw length-drop at (scan-room (next s (k .read p)) m (at + sizeOf k) (drop (sizeOf k) p) (f .1)) in
+      rw (suc-mul m (sizeOf k)) (omega arith)
+
+module _ (F : Format) where
+  pub buckets-step : (left at : ℕ) (p : List ℕ) → 0 < left → bucketFits F (drop at p) ≡ true
+      → bucketsWrong F left at (drop at p) ≡ bucketsWrong F (left - 1) (at + bucketLength F) (drop (at + bucketLength F) p)
   unfolding bucketsWrong
-  buckets-room zero at p e = omega arith
-  buckets-room (suc m) at p e =
-      let f : (bucketFits r p ≡ true) × (bucketsWrong r m (at + bucketLength r) (drop (bucketLength r) p) ≡ Nowhere) = right (bucketFits r p) _ at e in
-      let n : bucketBody r < length p = whole-length bucketKind (bucketBody r) p (both (whole bucketKind (bucketBody r) p) _ (f .0) .0) in
-      let i : m * bucketLength r ≤ length p - (bucketLength r) = rw length-drop at (buckets-room m _ _ (f .1)) in
-      rw (suc-mul m (bucketLength r)) (omega arith)
+  buckets-step = scan-step (bucketRecords F) boundAllowed (λ s b. s) tt
+
+  pub buckets-here : (left at : ℕ) (p : List ℕ) → 0 < left → bucketFits F p ≡ false → bucketsWrong F left at p ≡ At at
+  unfolding bucketsWrong
+  buckets-here = scan-here (bucketRecords F) boundAllowed (λ s b. s) tt
+
+  pub buckets-room : (m at : ℕ) (p : List ℕ) → bucketsWrong F m at p ≡ Nowhere → m * bucketLength F ≤ length p
+  unfolding bucketsWrong
+  buckets-room = scan-room (bucketRecords F) boundAllowed (λ s b. s) tt
 
 -- a base entry that is cut, one whose word w is too small, and one that fits
 pub entries-cut : (least left at : ℕ) (p : List ℕ) → 0 < left → whole entryKind entryBody p ≡ false → entriesWrong least left at p ≡ At at
@@ -101,19 +118,9 @@ unfolding entriesWrong
 entries-step least zero at w p h e i l = absurd (omega arith)
 entries-step least (suc k) at w p h e i l = rw (e, ← i, le-leb least w l, drop-drop entryLength at p, sub-one)
 
-pub entries-next : (least k at : ℕ) (p : List ℕ) → entryFits least p ≡ true → entriesWrong (suc (entryFrom p .word)) k (at + entryLength) (drop entryLength p) ≡ Nowhere
-    → entriesWrong least (suc k) at p ≡ Nowhere
-unfolding entriesWrong
-entries-next least k at p e f = rw (e, f)
-
 pub entries-room : (least k at : ℕ) (p : List ℕ) → entriesWrong least k at p ≡ Nowhere → k * entryLength ≤ length p
 unfolding entriesWrong
-entries-room least zero at p e = omega arith
-entries-room least (suc k) at p e =
-    let f = right (entryFits least p) (entriesWrong (suc (entryFrom p .word)) k (at + entryLength) (drop entryLength p)) at e in
-    let n : entryBody < length p = whole-length entryKind entryBody p (both (whole entryKind entryBody p) _ (f .0) .0) in
-    let i : k * entryLength ≤ length p - entryLength = rw length-drop at (entries-room _ k _ _ (f .1)) in
-    omega arith
+entries-room = scan-room entryRecords entryAllowed exceeding
 
 -- the j entries that are there, then one that is cut
 pub entries-short : (least k j at : ℕ) (p : List ℕ) → j < k → length p < suc j * entryLength
@@ -139,19 +146,24 @@ module _ (at : ℕ) (p : List ℕ) where
   pub end-right : endFits p ≡ true → length p ≡ endLength → endWrong at p ≡ Nowhere
   end-right e h = rw (e, eq-eqb (length p) endLength h)
 
+  pub end-parts : endWrong at p ≡ Nowhere → (endFits p ≡ true) × (length p ≡ endLength)
+  end-parts e =
+      let f = right (endFits p) (cond (eqb (length p) endLength) Nowhere (At (at + endLength))) at e in
+      (f .0, eqb-true (length p) endLength (right (eqb (length p) endLength) Nowhere _ (f .1) .0))
+
 -- what a header that fits says
 pub record Header (p : List ℕ) : Type 0 where
-  pub there : 4 < length p
+  pub there : headerBody < length p
   pub some1 : 1 ≤ getD p 2 0
   pub most1 : getD p 2 0 ≤ mostBuckets1
   pub some2 : 1 ≤ getD p 3 0
   pub most2 : getD p 3 0 ≤ mostBuckets2
   pub entries : getD p 4 0 ≤ baseLimit
 
-pub header : (p : List ℕ) → headerFits p ≡ true → Header p
-header p e =
+pub header : (F : Format) (p : List ℕ) → headerFits F p ≡ true → Header p
+header F p e =
     let a = both (whole headerKind headerBody p) _ e in
-    let b = both (eqb (getD p 1 0) format) _ (a .1) in
+    let b = both (eqb (getD p 1 0) (F .number)) _ (a .1) in
     let c = both (inRange (getD p 2 0) (getD p 3 0)) _ (b .1) in
     let d = both (leb 1 (getD p 2 0) && leb (getD p 2 0) mostBuckets1) _ (c .0) in
     let d1 = both (leb 1 (getD p 2 0)) _ (d .0) in
@@ -170,55 +182,51 @@ pub next : (a o : Wrong) → orNext a o ≡ Nowhere → (a ≡ Nowhere) × (o �
 next Nowhere o e = (refl, e)
 next (At at) o e = absurd (at-nowhere e)
 
--- the buckets of both levels
-abbrev pub bucketCount : List ℕ → ℕ
-bucketCount p = buckets1 p + buckets2 p
+-- where the entries and the end start by the header
+abbrev pub entriesIn : Format → List ℕ → ℕ
+entriesIn F p = entriesAt F (bucketCount p)
 
--- where the entries and the end start by it
-abbrev pub entriesIn : ℕ → List ℕ → ℕ
-entriesIn r p = entriesAt r (bucketCount p)
-
-abbrev pub endIn : ℕ → List ℕ → ℕ
-endIn r p = endAt r (bucketCount p) (baseCount p)
+abbrev pub endIn : Format → List ℕ → ℕ
+endIn F p = endAt F (bucketCount p) (baseCount p)
 
 -- a plane that is wrong nowhere, part by part
-module _ (r : ℕ) (p : List ℕ) where
+module _ (F : Format) (p : List ℕ) where
   pub record Right : Type 0 where
-    pub header : headerFits p ≡ true
-    pub buckets : bucketsWrong r (bucketCount p) bucketsAt (drop bucketsAt p) ≡ Nowhere
-    pub entries : entriesWrong 0 (baseCount p) (entriesIn r p) (drop (entriesIn r p) p) ≡ Nowhere
-    pub end : endFits (drop (endIn r p) p) ≡ true
-    pub nothing : length (drop (endIn r p) p) ≡ endLength
+    pub header : headerFits F p ≡ true
+    pub buckets : bucketsWrong F (bucketCount p) bucketsAt (drop bucketsAt p) ≡ Nowhere
+    pub entries : entriesWrong 0 (baseCount p) (entriesIn F p) (drop (entriesIn F p) p) ≡ Nowhere
+    pub end : endFits (drop (endIn F p) p) ≡ true
+    pub nothing : length (drop (endIn F p) p) ≡ endLength
 
-  pub nowhere : Right → wrongAt r p ≡ Nowhere
+  pub nowhere : Right → wrongAt F p ≡ Nowhere
   unfolding wrongAt
   nowhere h = rw (h .header, h .buckets, h .entries, h .end, h .nothing)
 
-  pub parts : wrongAt r p ≡ Nowhere → Right
+  pub parts : wrongAt F p ≡ Nowhere → Right
   unfolding wrongAt
   parts e =
-      let q : List ℕ = drop (endIn r p) p in
-      let h = right (headerFits p) (recordsWrong r (bucketCount p) (baseCount p) p) 0 e in
-      let n1 = next (bucketsWrong r (bucketCount p) bucketsAt (drop bucketsAt p)) _ (h .1) in
-      let n2 = next (entriesWrong 0 (baseCount p) (entriesIn r p) (drop (entriesIn r p) p)) _ (n1 .1) in
-      let f = right (endFits q) (cond (eqb (length q) endLength) Nowhere (At (endIn r p + endLength))) (endIn r p) (n2 .1) in
+      let q : List ℕ = drop (endIn F p) p in
+      let h = right (headerFits F p) (recordsWrong F (bucketCount p) (baseCount p) p) 0 e in
+      let n1 = next (bucketsWrong F (bucketCount p) bucketsAt (drop bucketsAt p)) _ (h .1) in
+      let n2 = next (entriesWrong 0 (baseCount p) (entriesIn F p) (drop (entriesIn F p) p)) _ (n1 .1) in
+      let f = end-parts (endIn F p) q (n2 .1) in
       record {
         header = h .0;
         buckets = n1 .0;
         entries = n2 .0;
         end = f .0;
-        nothing = eqb-true (length q) endLength (right (eqb (length q) endLength) Nowhere _ (f .1) .0);
+        nothing = f .1;
       }
 
-  pub right-length : Right → length p ≡ planeLength r (bucketCount p) (baseCount p)
+  pub right-length : Right → length p ≡ planeLength F (bucketCount p) (baseCount p)
   right-length h =
-      let e : length p - endIn r p ≡ endLength = rw length-drop at (h .nothing) in
+      let e : length p - endIn F p ≡ endLength = rw length-drop at (h .nothing) in
       omega arith
 
   -- what a right plane's header and length say
   pub record Known : Type 0 where
     pub header : Header p
-    pub whole : length p ≡ planeLength r (bucketCount p) (baseCount p)
+    pub whole : length p ≡ planeLength F (bucketCount p) (baseCount p)
 
-  pub known : wrongAt r p ≡ Nowhere → Known
-  known e = record { header = header p (parts e .header); whole = right-length (parts e) }
+  pub known : wrongAt F p ≡ Nowhere → Known
+  known e = record { header = header F p (parts e .header); whole = right-length (parts e) }

@@ -1,4 +1,4 @@
--- A plane within document 01's limits: just these have bytes that are wrong nowhere. r is the number of solution words.
+-- A plane within document 01's limits: just these have bytes that are wrong nowhere. F is the format.
 -- Assumes nothing.
 use Prim.Native.Nat.{ℕ, _^_, _≤_, _<_}
 use mathlib.Core.Path.{_≡_}
@@ -9,7 +9,7 @@ use Rattle.lists.specs.Entries.{Entry, Ascending}
 use Rattle.bucket.specs.Bucket.{largestBound}
 use Rattle.model.specs.Model.{baseLimit}
 use Rattle.concrete.specs.Layout.{inRange}
-use Rattle.plane.specs.Record.{wordBytes, PlaneBucket}
+use Rattle.plane.specs.Record.{Format, wordBytes, PlaneBucket}
 use Rattle.plane.specs.Plane.{Plane, planeBytes}
 
 -- each element of the list has the property
@@ -21,24 +21,24 @@ Every P (x ∷ xs) = P x × Every P xs
 abbrev pub Below : ℕ → ℕ → Type 0
 Below n x = x < 256 ^ n
 
-pub record FitsBucket (r : ℕ) (b : PlaneBucket) : Type 0 where
+pub record FitsBucket (F : Format) (b : PlaneBucket) : Type 0 where
   pub low : b .bound ≤ largestBound
-  pub wide : length (b .sols) ≡ r
+  pub wide : length (b .sols) ≡ F .words
   pub words : Every (Below wordBytes) (b .sols)
 
 pub record FitsEntry (e : Entry) : Type 0 where
   pub word : Below wordBytes (e .word)
   pub plan : Below 1 (e .plan)
 
-pub record Fits (r : ℕ) (P : Plane) : Type 0 where
+pub record Fits (F : Format) (P : Plane) : Type 0 where
   pub range : inRange (length (P .level1)) (length (P .level2)) ≡ true
   pub few : length (P .base) ≤ baseLimit
-  pub buckets : Every (FitsBucket r) (P .level1 ++ P .level2)
+  pub buckets : Every (FitsBucket F) (P .level1 ++ P .level2)
   pub entries : Every FitsEntry (P .base)
   pub ascending : Ascending (P .base)
 
 -- the bytes are those of a plane that fits
-pub record OfPlane (r : ℕ) (p : List ℕ) : Type 0 where
+pub record OfPlane (F : Format) (p : List ℕ) : Type 0 where
   pub plane : Plane
-  pub fits : Fits r plane
-  pub bytes : planeBytes plane ≡ p
+  pub fits : Fits F plane
+  pub bytes : planeBytes F plane ≡ p

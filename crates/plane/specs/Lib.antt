@@ -3,3 +3,5 @@ pub mod Record
 pub mod Plane
 pub mod Lookup
 pub mod Fits
+pub mod Offset
+pub mod Causes

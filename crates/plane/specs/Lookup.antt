@@ -15,12 +15,11 @@ use Rattle.identifier.specs.Identifier.{readOf}
 use Rattle.identifier.specs.Place.{secondOf, thresholdAt, bucketAt}
 use Rattle.identifier.specs.declared.Read.{Read}
 use Rattle.identifier.specs.declared.Read.the-variants.{Word, Refused}
-use Rattle.concrete.specs.Calls.{solutions}
 use Rattle.plane.specs.declared.Held.{Held}
 use Rattle.plane.specs.declared.Held.the-variants.{Plan, Passed}
 use Rattle.plane.specs.declared.Wrong.{Wrong}
 use Rattle.plane.specs.declared.Wrong.the-variants.{Nowhere, At}
-use Rattle.plane.specs.Record.{PlaneBucket}
+use Rattle.plane.specs.Record.{format1, PlaneBucket}
 use Rattle.plane.specs.Plane.{Plane, wrongAt, planeFrom}
 
 -- the bucket of the vector v, of one level; the default is never met where there is a bucket
@@ -59,11 +58,11 @@ planFrom P w = orElse (levelPlan (P .level1) w) (secondPlan P (secondOf w))
 -- cause 10, or the plan of the word w
 abbrev pub looked : List ℕ → ℕ → Wrong → Answer
 looked p w (At at) = WrongPlane at
-looked p w Nowhere = Accepted (planFrom (planeFrom solutions p) w)
+looked p w Nowhere = Accepted (planFrom (planeFrom format1 p) w)
 
 abbrev pub lookupRead : List ℕ → Read → Answer
 lookupRead p (Refused a) = a
-lookupRead p (Word w) = looked p w (wrongAt solutions p)
+lookupRead p (Word w) = looked p w (wrongAt format1 p)
 
 -- the lookup: causes 1, 2, 10
 unfoldable pub lookupCall : List ℕ → List ℕ → Answer

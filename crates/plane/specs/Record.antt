@@ -5,6 +5,7 @@ use mathlib.Core.List.{List, [], _∷_, _++_}
 use lib.ListN.{getD, take, drop}
 use Rattle.codec.specs.Bytes.{fromBytes, toBytes}
 use Rattle.lists.specs.Entries.{Entry}
+use Rattle.concrete.specs.Calls.{solutions}
 
 -- the bytes of things, one after the other
 unfoldable pub bytesOf : {A : Type 0} → (A → List ℕ) → List A → List ℕ
@@ -24,7 +25,32 @@ wordBytes = 8
 abbrev pub wordFrom : List ℕ → ℕ
 wordFrom p = fromBytes (take wordBytes p)
 
--- ---- kind 1: format 1, buckets of level 1, of level 2, base count (4 bytes)
+-- a kind of record: its number, how many bytes follow the kind byte, what those are, and what a record in front of some bytes says
+pub record Kind (A : Type 0) : Type 0 where
+  pub number : ℕ
+  pub body : ℕ
+  pub write : A → List ℕ
+  pub read : List ℕ → A
+
+-- how long a record is, with the kind byte
+abbrev pub sizeOf : {A : Type 0} → Kind A → ℕ
+sizeOf k = 1 + k .body
+
+-- a record
+abbrev pub recordOf : {A : Type 0} → Kind A → A → List ℕ
+recordOf k x = k .number ∷ k .write x
+
+-- what one format of planes may have otherwise than another: its number, the solution words of a bucket, the kind of its bucket records
+pub record Format : Type 0 where
+  pub number : ℕ
+  pub words : ℕ
+  pub bucketKind : ℕ
+
+-- the only format
+abbrev pub format1 : Format
+format1 = record { number = 1; words = solutions; bucketKind = 2 }
+
+-- ---- kind 1: format, buckets of level 1, of level 2, base count (4 bytes)
 
 abbrev pub headerKind : ℕ
 headerKind = 1
@@ -33,39 +59,40 @@ headerKind = 1
 abbrev pub headerBody : ℕ
 headerBody = 4
 
--- the only format
-abbrev pub format : ℕ
-format = 1
-
 -- with the kind byte first
-abbrev pub headerRecord : ℕ → ℕ → ℕ → List ℕ
-headerRecord buckets1 buckets2 entries = headerKind ∷ format ∷ buckets1 ∷ buckets2 ∷ entries ∷ []
+abbrev pub headerRecord : Format → ℕ → ℕ → ℕ → List ℕ
+headerRecord F buckets1 buckets2 entries = headerKind ∷ F .number ∷ buckets1 ∷ buckets2 ∷ entries ∷ []
 
--- ---- kind 2: bound (1 byte), r solution words (8 each)
-
-abbrev pub bucketKind : ℕ
-bucketKind = 2
+-- ---- kind 2 in format 1: bound (1 byte), solution words (8 each)
 
 -- the bytes after the kind byte
-abbrev pub bucketBody : ℕ → ℕ
-bucketBody r = 1 + wordBytes * r
+abbrev pub bucketBody : Format → ℕ
+bucketBody F = 1 + wordBytes * F .words
 
 -- with the kind byte
-abbrev pub bucketLength : ℕ → ℕ
-bucketLength r = 1 + bucketBody r
+abbrev pub bucketLength : Format → ℕ
+bucketLength F = 1 + bucketBody F
 
 -- a bucket as the posts see it
 pub record PlaneBucket : Type 0 where
   pub bound : ℕ
   pub sols : List ℕ
 
--- its record
-abbrev pub bucketRecord : PlaneBucket → List ℕ
-bucketRecord b = bucketKind ∷ b .bound ∷ bytesOf (toBytes wordBytes) (b .sols)
+-- its record without the kind byte
+abbrev pub bucketBytes : PlaneBucket → List ℕ
+bucketBytes b = b .bound ∷ bytesOf (toBytes wordBytes) (b .sols)
+
+-- with the kind byte
+abbrev pub bucketRecord : Format → PlaneBucket → List ℕ
+bucketRecord F b = F .bucketKind ∷ bucketBytes b
 
 -- the bucket whose record is at the front of the bytes
-abbrev pub bucketFrom : ℕ → List ℕ → PlaneBucket
-bucketFrom r p = record { bound = getD p 1 0; sols = readAll wordBytes wordFrom r (drop 2 p) }
+abbrev pub bucketFrom : Format → List ℕ → PlaneBucket
+bucketFrom F p = record { bound = getD p 1 0; sols = readAll wordBytes wordFrom (F .words) (drop 2 p) }
+
+-- the kind of these records
+abbrev pub bucketRecords : Format → Kind PlaneBucket
+bucketRecords F = record { number = F .bucketKind; body = bucketBody F; write = bucketBytes; read = bucketFrom F }
 
 -- ---- kind 3: w' (8), plan (1)
 
@@ -80,13 +107,21 @@ entryBody = wordBytes + 1
 abbrev pub entryLength : ℕ
 entryLength = 1 + entryBody
 
--- the record of a base entry, by its w'
+-- the record of a base entry, by its w', without the kind byte
+abbrev pub entryBytes : Entry → List ℕ
+entryBytes e = toBytes wordBytes (e .word) ++ (e .plan ∷ [])
+
+-- with the kind byte
 abbrev pub entryRecord : Entry → List ℕ
-entryRecord e = entryKind ∷ (toBytes wordBytes (e .word) ++ (e .plan ∷ []))
+entryRecord e = entryKind ∷ entryBytes e
 
 -- the entry whose record is at the front of the bytes
 abbrev pub entryFrom : List ℕ → Entry
 entryFrom p = record { word = wordFrom (drop 1 p); plan = getD p (1 + wordBytes) 0 }
+
+-- the kind of these records
+abbrev pub entryRecords : Kind Entry
+entryRecords = record { number = entryKind; body = entryBody; write = entryBytes; read = entryFrom }
 
 -- ---- kind 4 closes
 

@@ -16,7 +16,7 @@ ghost use Rattle.gf2.specs.Vectors.{product};
 ghost use Rattle.model.specs.Model.{baseLimit};
 ghost use Rattle.concrete.specs.Layout.{mostBuckets1, mostBuckets2};
 ghost use Rattle.plane.specs.declared.Wrong.the-variants.{Nowhere};
-ghost use Rattle.plane.specs.Record.{readAll, bucketLength, entryLength, bucketFrom, entryFrom};
+ghost use Rattle.plane.specs.Record.{format1, readAll, bucketLength, entryLength, bucketFrom, entryFrom};
 ghost use Rattle.plane.specs.Plane.{bucketsAt, whole, headerFits, bucketFits, bucketsWrong, entriesWrong, endFits, endWrong, recordsWrong, wrongAt, planeFrom};
 ghost use Rattle.concrete.specs.Calls.{solutions};
 ghost use Rattle.plane.specs.Lookup.{orStranger, levelPlan, secondPlan, planFrom, looked, lookupCall};
@@ -87,7 +87,7 @@ fn wide(b: u8) -> u64
 }
 
 // A record of this kind, not cut, stands in front.
-pub(crate) fn whole(p: &[u8], kind: u8, body: usize) -> bool
+pub fn whole(p: &[u8], kind: u8, body: usize) -> bool
     ensures { λ r. ⌜ r ≡ whole kind body (now (p .entry)) ⌝ }
 {
     if p.len() <= body {
@@ -98,7 +98,7 @@ pub(crate) fn whole(p: &[u8], kind: u8, body: usize) -> bool
 
 // The header: format 1, bucket numbers in range, at most 64 entries.
 pub(crate) fn header_fits(p: &[u8]) -> bool
-    ensures { λ r. ⌜ r ≡ headerFits (now (p .entry)) ⌝ }
+    ensures { λ r. ⌜ r ≡ headerFits format1 (now (p .entry)) ⌝ }
 {
     if !whole(p, Record::HEADER, Record::HEADER_BODY) {
         return false;
@@ -114,7 +114,7 @@ pub(crate) fn header_fits(p: &[u8]) -> bool
 
 // A bucket in front, with a bound of at most 8.
 pub(crate) fn bucket_fits(p: &[u8]) -> bool
-    ensures { λ r. ⌜ r ≡ bucketFits solutions (now (p .entry)) ⌝ }
+    ensures { λ r. ⌜ r ≡ bucketFits format1 (now (p .entry)) ⌝ }
 {
     if !whole(p, Record::BUCKET, Record::BUCKET_BODY) {
         return false;
@@ -125,7 +125,7 @@ pub(crate) fn bucket_fits(p: &[u8]) -> bool
 // m buckets from the offset first on.
 pub(crate) fn buckets_wrong(plane: &[u8], first: usize, m: usize) -> Wrong
     requires { ⌜ first ≤ length (now plane) ⌝ }
-    ensures { λ r. ⌜ r ≡ bucketsWrong solutions m first (drop first (now (plane .entry))) ⌝ }
+    ensures { λ r. ⌜ r ≡ bucketsWrong format1 m first (drop first (now (plane .entry))) ⌝ }
 {
     let mut at = first;
     let mut left = m;
@@ -140,7 +140,7 @@ pub(crate) fn buckets_wrong(plane: &[u8], first: usize, m: usize) -> Wrong
 }
 
 // The word of the base entry in front.
-pub(crate) fn entry_word(p: &[u8]) -> u64
+pub fn entry_word(p: &[u8]) -> u64
     ensures { λ r. ⌜ r ≡ entryFrom (now (p .entry)) .word ⌝ }
 {
     codec::get_u64(p, 1)
@@ -213,7 +213,7 @@ pub(crate) fn end_fits(p: &[u8]) -> bool
 }
 
 // The end at the offset at, and nothing after it.
-pub(crate) fn end_wrong(plane: &[u8], at: usize) -> Wrong
+pub fn end_wrong(plane: &[u8], at: usize) -> Wrong
     requires { ⌜ at ≤ length (now plane) ⌝ }
     ensures { λ r. ⌜ r ≡ endWrong at (drop at (now (plane .entry))) ⌝ }
 {
@@ -230,7 +230,7 @@ pub(crate) fn end_wrong(plane: &[u8], at: usize) -> Wrong
 // The records after the header.
 pub(crate) fn records_wrong(plane: &[u8], buckets: usize, entries: usize) -> Wrong
     requires { ⌜ (bucketsAt ≤ length (now plane)) × (buckets ≤ mostBuckets1 + mostBuckets2) × (entries ≤ baseLimit) ⌝ }
-    ensures { λ r. ⌜ r ≡ recordsWrong solutions buckets entries (now (plane .entry)) ⌝ }
+    ensures { λ r. ⌜ r ≡ recordsWrong format1 buckets entries (now (plane .entry)) ⌝ }
 {
     let entries_at = Record::BUCKETS_AT + buckets * Record::BUCKET_LEN;
     let end_at = entries_at + entries * Record::ENTRY_LEN;
@@ -248,8 +248,8 @@ pub(crate) fn records_wrong(plane: &[u8], buckets: usize, entries: usize) -> Wro
 }
 
 // The whole plane, in one pass.
-pub(crate) fn wrong_at(plane: &[u8]) -> Wrong
-    ensures { λ r. ⌜ r ≡ wrongAt solutions (now (plane .entry)) ⌝ }
+pub fn wrong_at(plane: &[u8]) -> Wrong
+    ensures { λ r. ⌜ r ≡ wrongAt format1 (now (plane .entry)) ⌝ }
 {
     if !header_fits(plane) {
         return Wrong::At(0);
@@ -260,14 +260,14 @@ pub(crate) fn wrong_at(plane: &[u8]) -> Wrong
 // Solution word i of the bucket in front.
 pub(crate) fn solution(p: &[u8], i: usize) -> u64
     requires { ⌜ i < solutions ⌝ }
-    ensures { λ r. ⌜ r ≡ getD (bucketFrom solutions (now (p .entry)) .sols) i 0 ⌝ }
+    ensures { λ r. ⌜ r ≡ getD (bucketFrom format1 (now (p .entry)) .sols) i 0 ⌝ }
 {
     codec::get_u64(p, 2 + i * 8)
 }
 
 // The plan that the bucket in front gives for the vector v.
 pub(crate) fn bucket_plan(p: &[u8], v: u64) -> u64
-    ensures { λ r. ⌜ r ≡ product (bucketFrom solutions (now (p .entry)) .sols) v ⌝ }
+    ensures { λ r. ⌜ r ≡ product (bucketFrom format1 (now (p .entry)) .sols) v ⌝ }
 {
     let mut plan: u64 = 0;
     let mut i = Bucket::SOLUTIONS;
@@ -299,8 +299,8 @@ pub(crate) fn base_plan(p: &[u8], k: usize, v: u64) -> u64
 
 // The plan that a level of m buckets gives for the vector v, if it holds v.
 pub(crate) fn level_plan(p: &[u8], m: u8, v: u64) -> Held
-    requires { ⌜ (0 < m) × (m * bucketLength solutions ≤ length (now p)) ⌝ }
-    ensures { λ r. ⌜ r ≡ levelPlan (readAll (bucketLength solutions) (bucketFrom solutions) m (now (p .entry))) v ⌝ }
+    requires { ⌜ (0 < m) × (m * bucketLength format1 ≤ length (now p)) ⌝ }
+    ensures { λ r. ⌜ r ≡ levelPlan (readAll (bucketLength format1) (bucketFrom format1) m (now (p .entry))) v ⌝ }
 {
     let i = identifier::bucket(v, wide(m)) as usize;
     let at = i * Record::BUCKET_LEN;
@@ -314,8 +314,8 @@ pub(crate) fn level_plan(p: &[u8], m: u8, v: u64) -> Held
 
 // The plan of the vector v of level 2, in a plane that is right.
 pub(crate) fn second_plan(plane: &[u8], v: u64) -> u64
-    requires { ⌜ wrongAt solutions (now plane) ≡ Nowhere ⌝ }
-    ensures { λ r. ⌜ r ≡ secondPlan (planeFrom solutions (now (plane .entry))) v ⌝ }
+    requires { ⌜ wrongAt format1 (now plane) ≡ Nowhere ⌝ }
+    ensures { λ r. ⌜ r ≡ secondPlan (planeFrom format1 (now (plane .entry))) v ⌝ }
 {
     let at = Record::BUCKETS_AT + size(plane[2]) * Record::BUCKET_LEN;
     let held = level_plan(&plane[at..], plane[3], v);
@@ -330,8 +330,8 @@ pub(crate) fn second_plan(plane: &[u8], v: u64) -> u64
 
 // The plan of the word w, in a plane that is right.
 pub(crate) fn plan_in(plane: &[u8], w: u64) -> u64
-    requires { ⌜ wrongAt solutions (now plane) ≡ Nowhere ⌝ }
-    ensures { λ r. ⌜ r ≡ planFrom (planeFrom solutions (now (plane .entry))) w ⌝ }
+    requires { ⌜ wrongAt format1 (now plane) ≡ Nowhere ⌝ }
+    ensures { λ r. ⌜ r ≡ planFrom (planeFrom format1 (now (plane .entry))) w ⌝ }
 {
     let held = level_plan(&plane[Record::BUCKETS_AT..], plane[2], w);
     match held {
@@ -342,7 +342,7 @@ pub(crate) fn plan_in(plane: &[u8], w: u64) -> u64
 
 // The lookup from the word on.
 pub(crate) fn lookup_word(w: u64, plane: &[u8]) -> Answer
-    ensures { λ r. ⌜ r ≡ looked (now (plane .entry)) w (wrongAt solutions (now (plane .entry))) ⌝ }
+    ensures { λ r. ⌜ r ≡ looked (now (plane .entry)) w (wrongAt format1 (now (plane .entry))) ⌝ }
 {
     let wrong = wrong_at(plane);
     match wrong {

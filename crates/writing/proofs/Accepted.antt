@@ -21,6 +21,7 @@ use Rattle.concrete.specs.Test.{shapeTest}
 use Rattle.concrete.specs.Layout.{mostBuckets1, mostBuckets2, inRange, header, lengthOf}
 use Rattle.concrete.specs.Calls.{rows, solutions, tableOf, shaped, sound, FlatSound}
 use Rattle.concrete.proofs.Statements.{sound-exactly, header-read}
+use Rattle.plane.specs.Record.{format1}
 use Rattle.plane.specs.Plane.{planeBytes, planeLength}
 use Rattle.plane.specs.Lookup.{lookupRead, lookupCall}
 use Rattle.plane.specs.Fits.{Fits}
@@ -34,18 +35,18 @@ module _ (t : List ℕ) (w : Sols (tableOf t)) (k : shaped t ≡ true) (h : Flat
   unfolding shapeTest
   in-range = both (inRange (getD t 0 0) (getD t 1 0)) _ (both (leb header (length t)) _ k .1) .0
 
-  pub fits : Fits solutions (planeOf (tableOf t))
-  fits = plane-fits rows solutions t w unmixOf (lit≤ tt) (lit≤ tt) in-range (h .table)
+  pub fits : Fits format1 (planeOf (tableOf t))
+  fits = plane-fits rows format1 t w unmixOf (lit≤ tt) (lit≤ tt) in-range (h .table)
 
   -- the plane of a sound table, read again, gives for each identifier, live or not, the answer of the table's own XOR words or base list
-  pub shows : (id : List ℕ) → lookupCall id (planeBytes (planeOf (tableOf t))) ≡ shownTo (tableOf t) (readOf id)
+  pub shows : (id : List ℕ) → lookupCall id (planeBytes format1 (planeOf (tableOf t))) ≡ shownTo (tableOf t) (readOf id)
   unfolding lookupCall
   shows id = go (readOf id)
     where
-      go : (i : Read) → lookupRead (planeBytes (planeOf (tableOf t))) i ≡ shownTo (tableOf t) i
+      go : (i : Read) → lookupRead (planeBytes format1 (planeOf (tableOf t))) i ≡ shownTo (tableOf t) i
       go (Refused a) = refl
       go (Word v) =
-          rw (written-right solutions (planeOf (tableOf t)) fits, written-read solutions (planeOf (tableOf t)) fits)
+          rw (written-right format1 (planeOf (tableOf t)) fits, written-read format1 (planeOf (tableOf t)) fits)
           (ap Accepted (shown rows solutions (tableOf t) v (h .table .level1 .some) (h .table .level2 .some)))
 
 -- what the writer knows of a sound table t
@@ -54,14 +55,14 @@ pub record Known (t : List ℕ) : Type 0 where
   pub most1 : getD t 0 0 ≤ mostBuckets1
   pub most2 : getD t 1 0 ≤ mostBuckets2
   pub few : getD t 2 0 ≤ baseLimit
-  pub fits : Fits solutions (planeOf (tableOf t))
-  pub long : length (planeBytes (planeOf (tableOf t))) ≡ planeLength solutions (getD t 0 0 + getD t 1 0) (getD t 2 0)
+  pub fits : Fits format1 (planeOf (tableOf t))
+  pub long : length (planeBytes format1 (planeOf (tableOf t))) ≡ planeLength format1 (getD t 0 0 + getD t 1 0) (getD t 2 0)
 
 pub known : (t : List ℕ) → Words t → shaped t ≡ true → sound t ≡ true → Known t
 unfolding shapeTest
 known t w k q =
     let h : FlatSound t = sound-exactly t k w .0 q in
-    let f : Fits solutions (planeOf (tableOf t)) = fits t (narrow rows solutions t w) k h in
+    let f : Fits format1 (planeOf (tableOf t)) = fits t (narrow rows format1 t w) k h in
     let r = header-read t in
     let c = both (inRange (getD t 0 0) (getD t 1 0)) _ (both (leb header (length t)) _ k .1) in
     let d = both (leb 1 (getD t 0 0) && leb (getD t 0 0) mostBuckets1) _ (c .0) in
@@ -71,7 +72,7 @@ known t w k q =
       most2 = leb-true (getD t 1 0) mostBuckets2 (both (leb 1 (getD t 1 0)) _ (d .1) .1);
       few = rw (r .2) at (h .table .fits);
       fits = f;
-      long = plane-length solutions (planeOf (tableOf t)) f
+      long = plane-length format1 (planeOf (tableOf t)) f
           ∙ rw (length-map (tableOf t .level1) seenOf, length-map (tableOf t .level2) seenOf, r .0, r .1, r .2) refl;
     }
 
@@ -87,15 +88,15 @@ accepted-of true o a out n x e = (refl, e)
 accepted-of false o a out n x e = absurd (x e)
 
 module _ (t out : List ℕ) (n : ℕ) (e : writeCall t out .answer ≡ Accepted n) where
-  pub was-shaped : (shaped t ≡ true) × (cond (sound t) (putFront (planeBytes (planeOf (tableOf t))) out) (turnedDown NotSound out) .answer ≡ Accepted n)
+  pub was-shaped : (shaped t ≡ true) × (cond (sound t) (putFront (planeBytes format1 (planeOf (tableOf t))) out) (turnedDown NotSound out) .answer ≡ Accepted n)
   unfolding writeCall
   was-shaped = accepted-of (shaped t) _ (WrongTable (length t)) out n (λ x. let z : _≡_ {A = ℕ} 0 1 = cc in omega arith) e
 
-  pub was-sound : (sound t ≡ true) × (putFront (planeBytes (planeOf (tableOf t))) out .answer ≡ Accepted n)
+  pub was-sound : (sound t ≡ true) × (putFront (planeBytes format1 (planeOf (tableOf t))) out .answer ≡ Accepted n)
   was-sound = accepted-of (sound t) _ NotSound out n (λ x. let z : _≡_ {A = ℕ} 0 1 = cc in omega arith) (was-shaped .1)
 
-  pub was-written : take n (writeCall t out .output) ≡ planeBytes (planeOf (tableOf t))
+  pub was-written : take n (writeCall t out .output) ≡ planeBytes format1 (planeOf (tableOf t))
   unfolding writeCall
   was-written =
-      let bytes : List ℕ = planeBytes (planeOf (tableOf t)) in
+      let bytes : List ℕ = planeBytes format1 (planeOf (tableOf t)) in
       rw (was-shaped .0, was-sound .0) (front-bytes (ltb (length out) (length bytes)) bytes out (ShortOutput (length bytes)) n (λ x. let z : _≡_ {A = ℕ} 0 1 = cc in omega arith) (was-sound .1))

@@ -77,7 +77,7 @@ module _ (n r : ℕ) where
         let cs = colStep-lt n (getD (b .cols) i 0) (bitXor k (2 ^ i)) (b .cols) (h .cols i) (h .cols) in
         tried (ltb i n) (record { shape = record { cols = length-colStep _ _ (b .cols) ∙ h .shape .cols; sols = length-solStep _ _ (b .sols) ∙ h .shape .sols }; cols = cs; sols = stepped _ _ (b .sols) (cs i) (h .sols) }) h
 
-    changed : (k p : ℕ) → Bounded (B.change n k p b .bucket)
+    pub changed : (k p : ℕ) → Bounded (B.change n k p b .bucket)
     unfolding B.change B.changeAt
     changed k p =
         tried (B.live n k b) (record { shape = record { cols = h .shape .cols; sols = length-solStep _ _ (b .sols) ∙ h .shape .sols }; cols = h .cols; sols = stepped _ _ (b .sols) (h .cols (B.rowOf n k b)) (h .sols) }) h
@@ -145,7 +145,7 @@ module _ (n r : ℕ) where
     pub fits : length (T .base) ≤ baseLimit
 
   module _ (S : ℕ → ℕ) (T : Table) (h : BoundedTable T) where
-    touched : (w : ℕ) (f : ℕ → Bucket → Bucket) (g : ℕ → List Entry → List Entry) (c : ℕ) → ((v : ℕ) (b : Bucket) → Bounded b → Bounded (f v b))
+    pub touched : (w : ℕ) (f : ℕ → Bucket → Bucket) (g : ℕ → List Entry → List Entry) (c : ℕ) → ((v : ℕ) (b : Bucket) → Bounded b → Bounded (f v b))
         → ((v : ℕ) → length (g v (T .base)) ≤ length (T .base)) → BoundedTable (C.touch n r S T w f g c)
     touched w f g c k l =
         by-test BoundedTable (C.holds n r S (T .level1) w) (λ _. record { level1 = put (T .level1) _ (h .level1) (k _ _ (one (T .level1) _ (h .level1))); level2 = h .level2; fits = h .fits })
@@ -156,7 +156,7 @@ module _ (n r : ℕ) where
     joined-levels e l = record { level1 = arrived S (T .level1) e (h .level1); level2 = all-arrived S (T .level2) (map (C.onSecond S) (C.arriveAt n r S (T .level1) e .out)) (h .level2); fits = l }
 
   -- its numbers give it back
-  read-back : (T : Table) → BoundedTable T → ShapedTable n r T
+  pub read-back : (T : Table) → BoundedTable T → ShapedTable n r T
   read-back T h = record { first = λ i l. one (T .level1) i (h .level1) .shape; second = λ i l. one (T .level2) i (h .level2) .shape; fits = h .fits }
 
 remove-le : (v : ℕ) (es : List Entry) → length (remove v es) ≤ length es
@@ -223,7 +223,7 @@ after-bounded t o =
     (subst BoundedNumbers (sym (k .1) ∙ ap (λ (x : Outcome). x .table) (o .accepted))
     (numbers (C.openTable rows solutions (o .buckets1) (o .buckets2)) (record { level1 = opened rows solutions (o .buckets1); level2 = opened rows solutions (o .buckets2); fits = omega arith })))
 
-level-sols : (bs : List Bucket) → Every (Bounded rows solutions) bs → Every Narrow bs
+pub level-sols : (bs : List Bucket) → Every (Bounded rows solutions) bs → Every Narrow bs
 level-sols [] h = tt
 level-sols (b ∷ bs) h = (h .0 .sols, level-sols bs (h .1))
 

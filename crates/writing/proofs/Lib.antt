@@ -4,4 +4,5 @@ pub mod Put
 pub mod Through
 pub mod Accepted
 pub mod Bounded
+pub mod Causes
 pub mod Statements

@@ -15,7 +15,7 @@ use Rattle.codec.proofs.Round.{length-toBytes}
 use Rattle.bucket_words.specs.Words.{bucketWords, bucketFrom}
 use Rattle.concrete.specs.Layout.{header, bucketPlace}
 use Rattle.concrete.proofs.Numbers.{from-part}
-use Rattle.plane.specs.Record.{bytesOf, readAll, wordBytes, bucketRecord, entryKind, entryRecord, endRecord, bucketLength, entryLength}
+use Rattle.plane.specs.Record.{Format, bytesOf, readAll, wordBytes, bucketRecord, entryKind, entryRecord, endRecord, bucketLength, entryLength}
 use Rattle.plane.specs.Plane.{bucketsAt, entriesAt, endAt}
 use Rattle.plane.proofs.Read.{length-readAll, read-add}
 use Rattle.writing.specs.Steps.{seenFrom, pairFrom, recordsOf}
@@ -75,18 +75,18 @@ bucket-here n r k xs =
     rw w (from-part n r (drop k xs))
 
 -- the length of the record of a bucket
-bucket-size : (n r : ℕ) (xs : List ℕ) → bucketWords n r ≤ length xs → Sized bucketRecord (bucketLength r) (seenFrom n r xs)
+bucket-size : (n : ℕ) (F : Format) (xs : List ℕ) → bucketWords n (F .words) ≤ length xs → Sized (bucketRecord F) (bucketLength F) (seenFrom n (F .words) xs)
 unfolding bucketFrom
-bucket-size n r xs h =
-    let l : length (take r (drop (n + 1) xs)) ≡ r = length-take-le r (drop (n + 1) xs) (rw length-drop (omega arith)) in
-    omega (arith, length-bytes (toBytes wordBytes) wordBytes (take r (drop (n + 1) xs)) (words-sized (take r (drop (n + 1) xs))))
+bucket-size n F xs h =
+    let l : length (take (F .words) (drop (n + 1) xs)) ≡ F .words = length-take-le (F .words) (drop (n + 1) xs) (rw length-drop (omega arith)) in
+    omega (arith, length-bytes (toBytes wordBytes) wordBytes (take (F .words) (drop (n + 1) xs)) (words-sized (take (F .words) (drop (n + 1) xs))))
 
-pub buckets-sized : (n r i : ℕ) (xs : List ℕ) → i * bucketWords n r ≤ length xs → Every (Sized bucketRecord (bucketLength r)) (readAll (bucketWords n r) (seenFrom n r) i xs)
+pub buckets-sized : (n : ℕ) (F : Format) (i : ℕ) (xs : List ℕ) → i * bucketWords n (F .words) ≤ length xs → Every (Sized (bucketRecord F) (bucketLength F)) (readAll (bucketWords n (F .words)) (seenFrom n (F .words)) i xs)
 unfolding readAll
-buckets-sized n r zero xs h = tt
-buckets-sized n r (suc i) xs h =
-    let k : i * bucketWords n r + bucketWords n r ≤ length xs = rw (suc-mul i (bucketWords n r)) at h in
-    (bucket-size n r xs (omega arith), buckets-sized n r i (drop (bucketWords n r) xs) (rw length-drop (omega arith)))
+buckets-sized n F zero xs h = tt
+buckets-sized n F (suc i) xs h =
+    let k : i * bucketWords n (F .words) + bucketWords n (F .words) ≤ length xs = rw (suc-mul i (bucketWords n (F .words))) at h in
+    (bucket-size n F xs (omega arith), buckets-sized n F i (drop (bucketWords n (F .words)) xs) (rw length-drop (omega arith)))
 
 entries-sized : (i : ℕ) (xs : List ℕ) → Every (Sized entryRecord entryLength) (readAll 2 pairFrom i xs)
 unfolding readAll
@@ -102,15 +102,15 @@ entries-next i a p t =
     (sym (getD-drop (i * 2) p 0 0 ∙ ap (λ (k : ℕ). getD p k 0) (add-zero (i * 2)))) (sym (getD-drop (i * 2) p 1 0))
     ∙ read-next entryRecord entryLength 2 pairFrom i a p t (entries-sized i p)
 
-pub records-put : (n r m k : ℕ) (t out o1 o2 o3 : List ℕ) → bucketPlace n r m + k * 2 ≤ length t
-    → o1 ≡ written bucketsAt (bytesOf bucketRecord (readAll (bucketWords n r) (seenFrom n r) m (drop header t))) out
-    → o2 ≡ written (entriesAt r m) (bytesOf entryRecord (readAll 2 pairFrom k (drop (bucketPlace n r m) t))) o1
-    → o3 ≡ written (endAt r m k) endRecord o2 → o3 ≡ written bucketsAt (recordsOf n r m k t) out
-records-put n r m k t out o1 o2 o3 h e f g =
-    let bs = readAll (bucketWords n r) (seenFrom n r) m (drop header t) in
-    let es = readAll 2 pairFrom k (drop (bucketPlace n r m) t) in
+pub records-put : (n : ℕ) (F : Format) (m k : ℕ) (t out o1 o2 o3 : List ℕ) → bucketPlace n (F .words) m + k * 2 ≤ length t
+    → o1 ≡ written bucketsAt (bytesOf (bucketRecord F) (readAll (bucketWords n (F .words)) (seenFrom n (F .words)) m (drop header t))) out
+    → o2 ≡ written (entriesAt F m) (bytesOf entryRecord (readAll 2 pairFrom k (drop (bucketPlace n (F .words) m) t))) o1
+    → o3 ≡ written (endAt F m k) endRecord o2 → o3 ≡ written bucketsAt (recordsOf n F m k t) out
+records-put n F m k t out o1 o2 o3 h e f g =
+    let bs = readAll (bucketWords n (F .words)) (seenFrom n (F .words)) m (drop header t) in
+    let es = readAll 2 pairFrom k (drop (bucketPlace n (F .words) m) t) in
     g
-    ∙ written-three bucketsAt (m * bucketLength r) (k * entryLength) (bytesOf bucketRecord bs) (bytesOf entryRecord es) endRecord out o1 o2
-    (length-bytes bucketRecord (bucketLength r) bs (buckets-sized n r m (drop header t) (rw length-drop (omega arith))) ∙ ap (λ (i : ℕ). i * bucketLength r) (length-readAll (bucketWords n r) (seenFrom n r) m (drop header t)))
-    (length-bytes entryRecord entryLength es (entries-sized k (drop (bucketPlace n r m) t)) ∙ ap (λ (i : ℕ). i * entryLength) (length-readAll 2 pairFrom k (drop (bucketPlace n r m) t)))
+    ∙ written-three bucketsAt (m * bucketLength F) (k * entryLength) (bytesOf (bucketRecord F) bs) (bytesOf entryRecord es) endRecord out o1 o2
+    (length-bytes (bucketRecord F) (bucketLength F) bs (buckets-sized n F m (drop header t) (rw length-drop (omega arith))) ∙ ap (λ (i : ℕ). i * bucketLength F) (length-readAll (bucketWords n (F .words)) (seenFrom n (F .words)) m (drop header t)))
+    (length-bytes entryRecord entryLength es (entries-sized k (drop (bucketPlace n (F .words) m) t)) ∙ ap (λ (i : ℕ). i * entryLength) (length-readAll 2 pairFrom k (drop (bucketPlace n (F .words) m) t)))
     e f

@@ -22,7 +22,7 @@ use Rattle.concrete.specs.Layout.{inRange, levelFrom, bucketPlace, tableFrom}
 use Rattle.concrete.specs.Sound.{SoundTable}
 use Rattle.concrete.proofs.Numbers.{header-read}
 use Rattle.plane.specs.declared.Held.the-variants.{Plan, Passed}
-use Rattle.plane.specs.Record.{wordBytes, PlaneBucket}
+use Rattle.plane.specs.Record.{Format, wordBytes, PlaneBucket}
 use Rattle.plane.specs.Lookup.{bucketOf, holds, levelPlan, orElse, orStranger, secondPlan, planFrom}
 use Rattle.plane.specs.Fits.{Every, Below, FitsBucket, FitsEntry, Fits}
 use Rattle.writing.specs.Write.{seenOf, planeOf, shownPlan}
@@ -98,13 +98,16 @@ Narrow b = Every (Below wordBytes) (b .sols)
 abbrev pub Sols : Table → Type 0
 Sols T = Every Narrow (T .level1) × Every Narrow (T .level2)
 
-module _ (n r : ℕ) where
+module _ (n : ℕ) (F : Format) where
+  abbrev r : ℕ
+  r = F .words
+
   level-narrow : (m : ℕ) (xs : List ℕ) → Words xs → Every Narrow (levelFrom n r m xs)
   unfolding bucketFrom
   level-narrow zero xs h = tt
   level-narrow (suc m) xs h = (every-take r (drop (n + 1) xs) (words-drop (n + 1) xs h), level-narrow m (drop (bucketWords n r) xs) (words-drop (bucketWords n r) xs h))
 
-  level-fits : (bs : List Bucket) → ((i : ℕ) → i < length bs → SoundBucket n r (C.nth n r bs i)) → Every Narrow bs → Every (FitsBucket r) (map seenOf bs)
+  level-fits : (bs : List Bucket) → ((i : ℕ) → i < length bs → SoundBucket n r (C.nth n r bs i)) → Every Narrow bs → Every (FitsBucket F) (map seenOf bs)
   level-fits [] s w = tt
   level-fits (b ∷ bs) s w =
       let b0 = s 0 (zero-lt-suc (length bs)) in
@@ -118,13 +121,13 @@ module _ (n r : ℕ) where
   )
 
   pub plane-fits : (xs : List ℕ) → Sols (tableFrom n r xs) → (U : ℕ → ℕ) → 2 ^ n ≤ 256 ^ wordBytes → 2 ^ r ≤ 256 ^ 1 → inRange (getD xs 0 0) (getD xs 1 0) ≡ true
-      → SoundTable n r mixOf U (tableFrom n r xs) → Fits r (planeOf (tableFrom n r xs))
+      → SoundTable n r mixOf U (tableFrom n r xs) → Fits F (planeOf (tableFrom n r xs))
   plane-fits xs w U hn hr g h =
       let t : Table = tableFrom n r xs in
       record {
         range = rw (length-map (t .level1) seenOf, length-map (t .level2) seenOf, header-read n r xs .0, header-read n r xs .1) g;
         few = h .fits;
-        buckets = every-append (FitsBucket r) (map seenOf (t .level1)) (map seenOf (t .level2)) (level-fits (t .level1) (h .level1 .buckets) (w .0)) (level-fits (t .level2) (h .level2 .buckets) (w .1));
+        buckets = every-append (FitsBucket F) (map seenOf (t .level1)) (map seenOf (t .level2)) (level-fits (t .level1) (h .level1 .buckets) (w .0)) (level-fits (t .level2) (h .level2 .buckets) (w .1));
         entries = mem-every FitsEntry (t .base) (λ e m. record { word = lt-of-lt-of-le (h .base-words e m .0) hn; plan = lt-of-lt-of-le (h .base-plans e m) hr });
         ascending = h .ascending;
       }

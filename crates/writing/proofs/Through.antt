@@ -16,7 +16,7 @@ use Rattle.bucket.specs.Bucket.{largestBound}
 use Rattle.bucket_words.specs.Words.{bucketWords}
 use Rattle.concrete.specs.Layout.{header, levelFrom, pairsFrom, bucketPlace, tableFrom}
 use Rattle.concrete.proofs.Numbers.{header-read}
-use Rattle.plane.specs.Record.{readAll, PlaneBucket, headerRecord}
+use Rattle.plane.specs.Record.{Format, readAll, PlaneBucket, headerRecord}
 use Rattle.plane.specs.Plane.{planeBytes, bucketsAt}
 use Rattle.plane.specs.Fits.{Every, FitsBucket, FitsEntry, Fits}
 use Rattle.writing.specs.Write.{seenOf, planeOf, inFront, putFront}
@@ -35,7 +35,10 @@ unfolding readAll
 pairs-read zero xs = refl
 pairs-read (suc k) xs = rw (pairs-read k (drop 2 xs))
 
-module _ (n r : ℕ) where
+module _ (n : ℕ) (F : Format) where
+  abbrev r : ℕ
+  r = F .words
+
   level-read : (m : ℕ) (xs : List ℕ) → map seenOf (levelFrom n r m xs) ≡ readAll (bucketWords n r) (seenFrom n r) m xs
   unfolding readAll
   level-read zero xs = refl
@@ -63,18 +66,18 @@ module _ (n r : ℕ) where
     unfolding tableFrom
     base-read = pairs-read k (drop (bucketPlace n r (b1 + b2)) xs)
 
-    pub plane-bytes : planeBytes (planeOf (tableFrom n r xs)) ≡ headerRecord b1 b2 k ++ recordsOf n r (b1 + b2) k xs
+    pub plane-bytes : planeBytes F (planeOf (tableFrom n r xs)) ≡ headerRecord F b1 b2 k ++ recordsOf n F (b1 + b2) k xs
     unfolding planeBytes
     plane-bytes =
         rw (levels-read, length-map (tableFrom n r xs .level1) seenOf, length-map (tableFrom n r xs .level2) seenOf, header-read n r xs .0, header-read n r xs .1, header-read n r xs .2, base-read)
 
-    module _ (h : Fits r (planeOf (tableFrom n r xs))) where
+    module _ (h : Fits F (planeOf (tableFrom n r xs))) where
       -- each bound is a byte
       pub bounds-low : (i : ℕ) → i < b1 + b2 → seenFrom n r (drop (i * bucketWords n r) (drop header xs)) .bound ≤ largestBound
       bounds-low i l =
           let d : PlaneBucket = record { bound = 0; sols = [] } in
           let bs : List PlaneBucket = readAll (bucketWords n r) (seenFrom n r) (b1 + b2) (drop header xs) in
-          let e : FitsBucket r (getD bs i d) = every-at (FitsBucket r) d bs (rw levels-read at (h .buckets)) i (rw (length-readAll (bucketWords n r) (seenFrom n r) (b1 + b2) (drop header xs)) l) in
+          let e : FitsBucket F (getD bs i d) = every-at (FitsBucket F) d bs (rw levels-read at (h .buckets)) i (rw (length-readAll (bucketWords n r) (seenFrom n r) (b1 + b2) (drop header xs)) l) in
           rw (getD-readAll (bucketWords n r) (seenFrom n r) (b1 + b2) i (drop header xs) d l) at (e .low)
 
       pub plans-low : (i : ℕ) → i < k → pairFrom (drop (i * 2) (drop (bucketPlace n r (b1 + b2)) xs)) .plan < 256
@@ -85,14 +88,14 @@ module _ (n r : ℕ) where
           rw (getD-readAll 2 pairFrom k i (drop (bucketPlace n r (b1 + b2)) xs) d l) at (e .plan)
 
 -- the header, then the records, in front of an output with room for them
-pub front-put : (n r : ℕ) (xs out o : List ℕ) → length (planeBytes (planeOf (tableFrom n r xs))) ≤ length out
-    → o ≡ written bucketsAt (recordsOf n r (getD xs 0 0 + getD xs 1 0) (getD xs 2 0) xs) (written 0 (headerRecord (getD xs 0 0) (getD xs 1 0) (getD xs 2 0)) out)
-    → o ≡ inFront (planeBytes (planeOf (tableFrom n r xs))) out .output
-front-put n r xs out o h e =
+pub front-put : (n : ℕ) (F : Format) (xs out o : List ℕ) → length (planeBytes F (planeOf (tableFrom n (F .words) xs))) ≤ length out
+    → o ≡ written bucketsAt (recordsOf n F (getD xs 0 0 + getD xs 1 0) (getD xs 2 0) xs) (written 0 (headerRecord F (getD xs 0 0) (getD xs 1 0) (getD xs 2 0)) out)
+    → o ≡ inFront (planeBytes F (planeOf (tableFrom n (F .words) xs))) out .output
+front-put n F xs out o h e =
     e
-    ∙ sym (written-append 0 (headerRecord (getD xs 0 0) (getD xs 1 0) (getD xs 2 0)) (recordsOf n r (getD xs 0 0 + getD xs 1 0) (getD xs 2 0) xs) out)
-    ∙ ap (λ (p : List ℕ). written 0 p out) (sym (plane-bytes n r xs))
-    ∙ written-fits 0 (planeBytes (planeOf (tableFrom n r xs))) out (omega arith)
+    ∙ sym (written-append 0 (headerRecord F (getD xs 0 0) (getD xs 1 0) (getD xs 2 0)) (recordsOf n F (getD xs 0 0 + getD xs 1 0) (getD xs 2 0) xs) out)
+    ∙ ap (λ (p : List ℕ). written 0 p out) (sym (plane-bytes n F xs))
+    ∙ written-fits 0 (planeBytes F (planeOf (tableFrom n (F .words) xs))) out (omega arith)
     ∙ rw zero-add refl
 
 -- an output without room for the bytes, and one with room

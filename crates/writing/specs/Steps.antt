@@ -6,7 +6,7 @@ use lib.ListN.{getD, drop}
 use Rattle.lists.specs.Entries.{Entry}
 use Rattle.bucket_words.specs.Words.{bucketWords, bucketFrom}
 use Rattle.concrete.specs.Layout.{header, bucketPlace}
-use Rattle.plane.specs.Record.{bytesOf, readAll, PlaneBucket, bucketRecord, entryRecord, endRecord}
+use Rattle.plane.specs.Record.{Format, bytesOf, readAll, PlaneBucket, bucketRecord, entryRecord, endRecord}
 use Rattle.writing.specs.Write.{seenOf}
 
 -- the bucket in front, of n rows and r solution words, as the posts see it
@@ -18,7 +18,7 @@ abbrev pub pairFrom : List ℕ → Entry
 pairFrom xs = record { word = getD xs 0 0; plan = getD xs 1 0 }
 
 -- the bytes after the header, for these numbers of buckets and base entries of the table that the numbers hold
-abbrev pub recordsOf : ℕ → ℕ → ℕ → ℕ → List ℕ → List ℕ
-recordsOf n r buckets entries t =
-    bytesOf bucketRecord (readAll (bucketWords n r) (seenFrom n r) buckets (drop header t))
-    ++ (bytesOf entryRecord (readAll 2 pairFrom entries (drop (bucketPlace n r buckets) t)) ++ endRecord)
+abbrev pub recordsOf : ℕ → Format → ℕ → ℕ → List ℕ → List ℕ
+recordsOf n F buckets entries t =
+    bytesOf (bucketRecord F) (readAll (bucketWords n (F .words)) (seenFrom n (F .words)) buckets (drop header t))
+    ++ (bytesOf entryRecord (readAll 2 pairFrom entries (drop (bucketPlace n (F .words) buckets) t)) ++ endRecord)

@@ -16,7 +16,7 @@ use Rattle.bucket.specs.declared.Bucket.{Bucket}
 use Rattle.bucket.specs.Bucket.{lookup}
 use Rattle.concrete.specs.Table.{Table, bucketOf, holds}
 use Rattle.concrete.specs.Calls.{rows, solutions, tableOf, shaped, sound}
-use Rattle.plane.specs.Record.{PlaneBucket}
+use Rattle.plane.specs.Record.{format1, PlaneBucket}
 use Rattle.plane.specs.Plane.{Plane, planeBytes}
 use Rattle.plane.specs.Lookup.{orStranger}
 
@@ -48,7 +48,7 @@ putFront bytes out = cond (ltb (length out) (length bytes)) (turnedDown (ShortOu
 -- the writer: causes 4, 5, 9
 unfoldable pub writeCall : List ℕ → List ℕ → Written
 writeCall t out =
-    cond (shaped t) (cond (sound t) (putFront (planeBytes (planeOf (tableOf t))) out) (turnedDown NotSound out))
+    cond (shaped t) (cond (sound t) (putFront (planeBytes format1 (planeOf (tableOf t))) out) (turnedDown NotSound out))
     (turnedDown (WrongTable (length t)) out)
 
 -- ---- statement 2: what the plane of a table gives

@@ -15,7 +15,7 @@ ghost use Rattle.codec.specs.Parts.{written};
 ghost use Rattle.bucket_words.specs.Words.{bucketWords};
 ghost use Rattle.model.specs.Model.{baseLimit};
 ghost use Rattle.concrete.specs.Layout.{mostBuckets1, mostBuckets2, header, bucketPlace};
-ghost use Rattle.plane.specs.Record.{bytesOf, readAll, bucketLength, entryLength, endLength, headerRecord, bucketRecord, entryRecord, endRecord};
+ghost use Rattle.plane.specs.Record.{format1, bytesOf, readAll, bucketLength, entryLength, endLength, headerRecord, bucketRecord, entryRecord, endRecord};
 ghost use Rattle.plane.specs.Plane.{planeBytes, bucketsAt, planeLength};
 ghost use Rattle.concrete.specs.Calls.{rows, solutions, tableOf, shaped, sound};
 ghost use Rattle.writing.specs.Write.{planeOf, inFront, putFront, writeCall};
@@ -35,8 +35,8 @@ pub(crate) fn put_words(out: &mut [u8], at: usize, words: &[u64])
 
 // Writes the record of the bucket whose numbers are b at the offset at.
 pub(crate) fn put_bucket(out: &mut [u8], at: usize, b: &[u64])
-    requires { ⌜ (length (now b) ≡ bucketWords rows solutions) × (seenFrom rows solutions (now b) .bound < 256) × (at + bucketLength solutions ≤ length (now out)) ⌝ }
-    ensures { λ _. ⌜ now (out .exit) ≡ written at (bucketRecord (seenFrom rows solutions (now (b .entry)))) (now (out .entry)) ⌝ }
+    requires { ⌜ (length (now b) ≡ bucketWords rows solutions) × (seenFrom rows solutions (now b) .bound < 256) × (at + bucketLength format1 ≤ length (now out)) ⌝ }
+    ensures { λ _. ⌜ now (out .exit) ≡ written at (bucketRecord format1 (seenFrom rows solutions (now (b .entry)))) (now (out .entry)) ⌝ }
 {
     out[at] = Record::BUCKET;
     out[at + 1] = b[Bucket::BOUND_AT] as u8;
@@ -55,9 +55,9 @@ pub(crate) fn put_entry(out: &mut [u8], at: usize, word: u64, plan: u64)
 
 // Writes the records of m buckets, whose numbers stand one after the other in b, from the offset at on.
 pub(crate) fn put_buckets(out: &mut [u8], at: usize, b: &[u64], m: usize)
-    requires { ⌜ (m * bucketWords rows solutions ≤ length (now b)) × (at + m * bucketLength solutions ≤ length (now out)) ⌝ }
+    requires { ⌜ (m * bucketWords rows solutions ≤ length (now b)) × (at + m * bucketLength format1 ≤ length (now out)) ⌝ }
     requires low { ⌜ ((i : ℕ) → i < m → seenFrom rows solutions (drop (i * bucketWords rows solutions) (now b)) .bound < 256) ⌝ }
-    ensures { λ _. ⌜ now (out .exit) ≡ written at (bytesOf bucketRecord (readAll (bucketWords rows solutions) (seenFrom rows solutions) m (now (b .entry)))) (now (out .entry)) ⌝ }
+    ensures { λ _. ⌜ now (out .exit) ≡ written at (bytesOf (bucketRecord format1) (readAll (bucketWords rows solutions) (seenFrom rows solutions) m (now (b .entry)))) (now (out .entry)) ⌝ }
 {
     let mut i = 0;
     while i < m {
@@ -98,7 +98,7 @@ pub(crate) fn put_end(out: &mut [u8], at: usize)
 // Writes the header.
 pub(crate) fn put_header(out: &mut [u8], buckets1: u64, buckets2: u64, entries: u64)
     requires { ⌜ (buckets1 < 256) × (buckets2 < 256) × (entries < 256) ⌝ }
-    ensures { λ _. ⌜ now (out .exit) ≡ written 0 (headerRecord buckets1 buckets2 entries) (now (out .entry)) ⌝ }
+    ensures { λ _. ⌜ now (out .exit) ≡ written 0 (headerRecord format1 buckets1 buckets2 entries) (now (out .entry)) ⌝ }
 {
     let head = [
         Record::HEADER,
@@ -112,10 +112,10 @@ pub(crate) fn put_header(out: &mut [u8], buckets1: u64, buckets2: u64, entries: 
 
 // Writes the records after the header, of these numbers of buckets and base entries of the table t.
 pub(crate) fn put_records(out: &mut [u8], t: &[u64], buckets: usize, entries: usize)
-    requires { ⌜ (bucketPlace rows solutions buckets + entries * 2 ≤ length (now t)) × (planeLength solutions buckets entries ≤ length (now out)) ⌝ }
+    requires { ⌜ (bucketPlace rows solutions buckets + entries * 2 ≤ length (now t)) × (planeLength format1 buckets entries ≤ length (now out)) ⌝ }
     requires low { ⌜ ((i : ℕ) → i < buckets → seenFrom rows solutions (drop (i * bucketWords rows solutions) (drop header (now t))) .bound < 256) ⌝ }
     requires plans { ⌜ ((i : ℕ) → i < entries → pairFrom (drop (i * 2) (drop (bucketPlace rows solutions buckets) (now t))) .plan < 256) ⌝ }
-    ensures { λ _. ⌜ now (out .exit) ≡ written bucketsAt (recordsOf rows solutions buckets entries (now (t .entry))) (now (out .entry)) ⌝ }
+    ensures { λ _. ⌜ now (out .exit) ≡ written bucketsAt (recordsOf rows format1 buckets entries (now (t .entry))) (now (out .entry)) ⌝ }
 {
     let pairs_at = Table::HEADER + buckets * Bucket::WORDS;
     let entries_at = Record::BUCKETS_AT + buckets * Record::BUCKET_LEN;
@@ -126,8 +126,8 @@ pub(crate) fn put_records(out: &mut [u8], t: &[u64], buckets: usize, entries: us
 
 // Writes the plane of the sound table t in front of the output, which has room for it.
 pub(crate) fn write_plane(t: &[u64], out: &mut [u8])
-    requires { ⌜ (shaped (now t) ≡ true) × (sound (now t) ≡ true) × (length (planeBytes (planeOf (tableOf (now t)))) ≤ length (now out)) ⌝ }
-    ensures { λ _. ⌜ now (out .exit) ≡ inFront (planeBytes (planeOf (tableOf (now (t .entry))))) (now (out .entry)) .output ⌝ }
+    requires { ⌜ (shaped (now t) ≡ true) × (sound (now t) ≡ true) × (length (planeBytes format1 (planeOf (tableOf (now t)))) ≤ length (now out)) ⌝ }
+    ensures { λ _. ⌜ now (out .exit) ≡ inFront (planeBytes format1 (planeOf (tableOf (now (t .entry))))) (now (out .entry)) .output ⌝ }
 {
     let buckets1 = t[Table::BUCKETS_1_AT];
     let buckets2 = t[Table::BUCKETS_2_AT];
@@ -139,7 +139,7 @@ pub(crate) fn write_plane(t: &[u64], out: &mut [u8])
 // The length of a plane.
 pub(crate) fn plane_len(buckets: usize, entries: usize) -> usize
     requires { ⌜ (buckets ≤ mostBuckets1 + mostBuckets2) × (entries ≤ baseLimit) ⌝ }
-    ensures { λ r. ⌜ r ≡ planeLength solutions buckets entries ⌝ }
+    ensures { λ r. ⌜ r ≡ planeLength format1 buckets entries ⌝ }
 {
     Record::BUCKETS_AT
         + buckets * Record::BUCKET_LEN
@@ -150,7 +150,7 @@ pub(crate) fn plane_len(buckets: usize, entries: usize) -> usize
 // Writes the plane of the sound table t, if the output has room for it: cause 9.
 pub(crate) fn write_sound(t: &[u64], out: &mut [u8]) -> Answer
     requires { ⌜ (shaped (now t) ≡ true) × (sound (now t) ≡ true) ⌝ }
-    ensures { λ r. ⌜ (r ≡ putFront (planeBytes (planeOf (tableOf (now (t .entry))))) (now (out .entry)) .answer) × (now (out .exit) ≡ putFront (planeBytes (planeOf (tableOf (now (t .entry))))) (now (out .entry)) .output) ⌝ }
+    ensures { λ r. ⌜ (r ≡ putFront (planeBytes format1 (planeOf (tableOf (now (t .entry))))) (now (out .entry)) .answer) × (now (out .exit) ≡ putFront (planeBytes format1 (planeOf (tableOf (now (t .entry))))) (now (out .entry)) .output) ⌝ }
 {
     let buckets = (t[Table::BUCKETS_1_AT] + t[Table::BUCKETS_2_AT]) as usize;
     let needed = plane_len(buckets, t[Table::BASE_COUNT_AT] as usize);

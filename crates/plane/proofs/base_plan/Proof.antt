@@ -6,14 +6,14 @@ use native.Mathlib.Omega.{arith}
 use borrow.Author.Needs.{needs}
 use lib.ListN.{length, drop, length-take, length-drop}
 use Rattle.lists.specs.Entries.{Entry, find}
-use Rattle.plane.specs.Record.{readAll, entryFrom}
+use Rattle.plane.specs.Record.{readAll, entryLength, entryFrom}
 use Rattle.plane.specs.Lookup.{orStranger}
 use Rattle.plane.proofs.Read.{entry-part, find-here, find-next}
 use Rattle.plane.proofs.base_plan.Statement.{statement}
 use Rattle.plane.proofs.base_plan.Tie as tie
 
 abbrev Inv-loop : tie.InvT-loop
-Inv-loop p k v at₀ left₀ at left = (at + left * 10 ≤ length p) × (find v (readAll 10 entryFrom k p) ≡ find v (readAll 10 entryFrom left (drop at p)))
+Inv-loop p k v at₀ left₀ at left = (at + left * entryLength ≤ length p) × (find v (readAll entryLength entryFrom k p) ≡ find v (readAll entryLength entryFrom left (drop at p)))
 
 abbrev μ-loop : tie.MeasureT-loop
 μ-loop p k v at₀ left₀ at left = left

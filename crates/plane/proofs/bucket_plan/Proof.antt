@@ -9,19 +9,20 @@ use lib.ListN.{length, drop}
 use Rattle.gf2.specs.Vectors.{product}
 use Rattle.gf2.proofs.Bit.{dot-lt}
 use Rattle.gf2.proofs.Loops.{product-down, product-end, product-part}
-use Rattle.plane.specs.Record.{wordBytes, wordFrom, bucketFrom}
+use Rattle.concrete.specs.Calls.{solutions}
+use Rattle.plane.specs.Record.{format1, wordBytes, wordFrom, bucketFrom}
 use Rattle.plane.proofs.Read.{length-readAll}
 use Rattle.plane.proofs.bucket_plan.Statement.{statement}
 use Rattle.plane.proofs.bucket_plan.Tie as tie
 
 abbrev sols : List ℕ → List ℕ
-sols p = bucketFrom 8 p .sols
+sols p = bucketFrom format1 p .sols
 
-eight : (p : List ℕ) → length (sols p) ≡ 8
-eight p = length-readAll wordBytes wordFrom 8 (drop 2 p)
+length-sols : (p : List ℕ) → length (sols p) ≡ solutions
+length-sols p = length-readAll wordBytes wordFrom solutions (drop 2 p)
 
 abbrev Inv-loop : tie.InvT-loop
-Inv-loop p v plan₀ i₀ plan i = (i ≤ 8) × (plan ≡ product (drop i (sols p)) v)
+Inv-loop p v plan₀ i₀ plan i = (i ≤ solutions) × (plan ≡ product (drop i (sols p)) v)
 
 abbrev μ-loop : tie.MeasureT-loop
 μ-loop p v plan₀ i₀ plan i = i
@@ -29,7 +30,7 @@ abbrev μ-loop : tie.MeasureT-loop
 loop-holds : tie.Need-loop-holds Inv-loop μ-loop
 loop-holds c =
     let p = c .before .args .p .now in
-    (search needs, sym (product-end (sols p) (c .before .args .v) 8 (omega (arith, eight p))))
+    (search needs, sym (product-end (sols p) (c .before .args .v) solutions (omega (arith, length-sols p))))
 
 sub-i : tie.Need-sub-i Inv-loop μ-loop
 sub-i c = search needs
@@ -44,7 +45,7 @@ small : (c : tie.After-dot Inv-loop μ-loop) → (c .before .before .before .loo
 small c =
     let b = c .before .before .before in
     let a = b .before .before .args in (
-      rw (b .loop .inv .1) (product-part (sols (a .p .now)) (a .v) (b .loop .i) 63 (omega arith) (omega (arith, eight (a .p .now)))),
+      rw (b .loop .inv .1) (product-part (sols (a .p .now)) (a .v) (b .loop .i) 63 (omega arith) (omega (arith, length-sols (a .p .now)))),
       rw (c .dot .ensures) (dot-lt _ _),
     )
 
@@ -61,7 +62,7 @@ loop-again : tie.Need-loop-again Inv-loop μ-loop
 loop-again c =
     let b = c .before .before .before in
     let a = b .before .before .args in
-    (omega arith, cc (product-down (sols (a .p .now)) (a .v) (b .loop .i) (omega arith) (omega (arith, eight (a .p .now)))))
+    (omega arith, cc (product-down (sols (a .p .now)) (a .v) (b .loop .i) (omega arith) (omega (arith, length-sols (a .p .now)))))
 
 returns : tie.Need-returns Inv-loop μ-loop
 returns c =

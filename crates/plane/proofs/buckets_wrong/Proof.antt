@@ -6,6 +6,7 @@ use native.Mathlib.Omega.{arith}
 use borrow.Author.Needs.{needs}
 use lib.ListN.{length, drop}
 use Rattle.lists.proofs.Parts.{rest}
+use Rattle.plane.specs.Record.{format1}
 use Rattle.plane.specs.Plane.{bucketsWrong}
 use Rattle.plane.proofs.Scan.{refused, passed, both, whole-next, buckets-step, buckets-here}
 use Rattle.plane.proofs.buckets_wrong.Statement.{statement}
@@ -13,7 +14,7 @@ use Rattle.plane.proofs.buckets_wrong.Tie as tie
 
 abbrev Inv-loop : tie.InvT-loop
 Inv-loop plane first m at₀ left₀ at left =
-    (at ≤ length plane) × (bucketsWrong 8 m first (drop first plane) ≡ bucketsWrong 8 left at (drop at plane))
+    (at ≤ length plane) × (bucketsWrong format1 m first (drop first plane) ≡ bucketsWrong format1 left at (drop at plane))
 
 abbrev μ-loop : tie.MeasureT-loop
 μ-loop plane first m at₀ left₀ at left = left
@@ -38,7 +39,7 @@ returns c =
     let b = c .before .before .before .before in
     let p = b .before .before .args .plane .now in
     let off = rw (rest (b .loop .at) p) at (refused (c .before .bucket-fits .result) (c .before .bucket-fits .ensures) (c .if1 .taken)) in
-    sym (b .loop .inv .1 ∙ buckets-here 8 (b .loop .left) (b .loop .at) (drop (b .loop .at) p) (c .before .before .before .loop-test .taken) off)
+    sym (b .loop .inv .1 ∙ buckets-here format1 (b .loop .left) (b .loop .at) (drop (b .loop .at) p) (c .before .before .before .loop-test .taken) off)
 
 add-at : tie.Need-add-at Inv-loop μ-loop
 add-at c = search needs
@@ -55,7 +56,7 @@ loop-again c =
     let p = b .before .before .args .plane .now in
     let fit = rw (rest (b .loop .at) p) at (passed (c .before .bucket-fits .result) (c .before .bucket-fits .ensures) (c .if1 .left)) in (
       whole-next 2 65 (b .loop .at) p (both _ _ fit .0),
-      b .loop .inv .1 ∙ buckets-step 8 (b .loop .left) (b .loop .at) p (c .before .before .before .loop-test .taken) fit,
+      b .loop .inv .1 ∙ buckets-step format1 (b .loop .left) (b .loop .at) p (c .before .before .before .loop-test .taken) fit,
     )
 
 returns-2 : tie.Need-returns-2 Inv-loop μ-loop

@@ -3,8 +3,10 @@
 use mathlib.Core.Path.{_≡_, sym}
 use mathlib.Core.Bool.{true}
 use borrow.Author.Needs.{needs}
-use lib.ListN.{drop}
+use native.Mathlib.Omega.{arith}
+use lib.ListN.{length, drop}
 use Rattle.lists.proofs.Parts.{rest}
+use Rattle.plane.specs.Record.{endLength}
 use Rattle.plane.specs.Plane.{endFits}
 use Rattle.plane.proofs.Scan.{refused, passed, end-cut, end-more, end-right}
 use Rattle.plane.proofs.end_wrong.Statement.{statement}
@@ -34,10 +36,14 @@ fits c = rw rest at (passed (c .before .end-fits .result) (c .before .end-fits .
 add-t9 : tie.Need-add-t9
 add-t9 c = search needs
 
+-- more than the end
+more : (c : tie.Then2) → length (drop (c .before .before .before .before .before .args .at) (c .before .before .before .before .before .args .plane .now)) ≡ endLength → ⊥
+more c e = let t = rw rest at (c .if2 .taken) in omega arith
+
 returns-2 : tie.Need-returns-2
 returns-2 c =
     let a = c .before .before .before .before .before .args in
-    sym (end-more (a .at) (drop (a .at) (a .plane .now)) (fits (c .before)) (rw rest at (c .if2 .taken)))
+    sym (end-more (a .at) (drop (a .at) (a .plane .now)) (fits (c .before)) (λ e. more c e))
 
 returns-3 : tie.Need-returns-3
 returns-3 c =

@@ -9,6 +9,7 @@ use lib.Dec.{leb}
 use lib.ListN.{length, getD}
 use Rattle.model.specs.Model.{baseLimit}
 use Rattle.concrete.specs.Layout.{inRange}
+use Rattle.plane.specs.Record.{headerKind, headerBody}
 use Rattle.plane.proofs.Scan.{refused, passed, whole-length}
 use Rattle.plane.proofs.header_fits.Statement.{statement}
 use Rattle.plane.proofs.header_fits.Tie as tie
@@ -20,8 +21,8 @@ returns : tie.Need-returns
 returns c = rw (refused _ (c .before .whole .ensures) (c .if1 .taken))
 
 -- the header is not cut
-there : (c : tie.Else1) → 4 < length (c .before .before .before .args .p .now)
-there c = whole-length 1 4 (c .before .before .before .args .p .now) (passed (c .before .whole .result) (c .before .whole .ensures) (c .if1 .left))
+there : (c : tie.Else1) → headerBody < length (c .before .before .before .args .p .now)
+there c = whole-length headerKind headerBody (c .before .before .before .args .p .now) (passed (c .before .whole .result) (c .before .whole .ensures) (c .if1 .left))
 
 shared-slice-read-if2 : tie.Need-shared-slice-read-if2
 shared-slice-read-if2 c = omega (arith, there (c .before))

@@ -10,7 +10,7 @@ use Rattle.gf2.specs.Vectors.{product}
 use Rattle.hash.specs.Mix.{mixOf}
 use Rattle.identifier.specs.Place.{bucketAt}
 use Rattle.plane.specs.declared.Held.the-variants.{Plan}
-use Rattle.plane.specs.Record.{PlaneBucket}
+use Rattle.plane.specs.Record.{format1, bucketLength, PlaneBucket}
 use Rattle.plane.proofs.Read.{bucket-part, level-held, level-passed}
 use Rattle.plane.proofs.level_plan.Statement.{statement}
 use Rattle.plane.proofs.level_plan.Tie as tie
@@ -59,21 +59,21 @@ returns : tie.Need-returns
 returns c =
     let b = c .before .before .before .before .before .before in
     let a = b .before .before .before .args in
-    let at = b .bucket .result * 66 in
-    let same = bucket-part 8 at (a .p .now) in
+    let at = b .bucket .result * bucketLength format1 in
+    let same = bucket-part format1 at (a .p .now) in
     let bound = c .before .before .wide2 .ensures ∙ ap (λ (x : PlaneBucket). x .bound) same in
     let h = rw (c .before .before .before .before .threshold .ensures, bound) at (c .before .if1 .taken) in
     let plan = c .bucket-plan .ensures ∙ ap (λ (x : PlaneBucket). product (x .sols) (a .v)) same in
-    sym (level-held 8 (a .m) (a .v) at (a .p .now) (b .before .before .before .pre .0) (ap (λ (i : ℕ). i * 66) (found b)) h ∙ ap Plan (sym plan))
+    sym (level-held format1 (a .m) (a .v) at (a .p .now) (b .before .before .before .pre .0) (ap (λ (i : ℕ). i * bucketLength format1) (found b)) h ∙ ap Plan (sym plan))
 
 returns-2 : tie.Need-returns-2
 returns-2 c =
     let b = c .before .before .before .before .before in
     let a = b .before .before .before .args in
-    let at = b .bucket .result * 66 in
-    let bound = c .before .wide2 .ensures ∙ ap (λ (x : PlaneBucket). x .bound) (bucket-part 8 at (a .p .now)) in
+    let at = b .bucket .result * bucketLength format1 in
+    let bound = c .before .wide2 .ensures ∙ ap (λ (x : PlaneBucket). x .bound) (bucket-part format1 at (a .p .now)) in
     let h = rw (c .before .before .before .threshold .ensures, bound) at (c .if1 .left) in
-    sym (level-passed 8 (a .m) (a .v) at (a .p .now) (b .before .before .before .pre .0) (ap (λ (i : ℕ). i * 66) (found b)) h)
+    sym (level-passed format1 (a .m) (a .v) at (a .p .now) (b .before .before .before .pre .0) (ap (λ (i : ℕ). i * bucketLength format1) (found b)) h)
 
 pub level-plan-spec : {M : Type 1} → statement M
 level-plan-spec =

@@ -5,14 +5,15 @@ use native.Mathlib.Omega.{arith}
 use borrow.Author.Needs.{needs}
 use lib.ListN.{length-drop}
 use Rattle.lists.proofs.Parts.{rest}
+use Rattle.plane.specs.Record.{format1}
 use Rattle.plane.specs.Plane.{planeFrom}
 use Rattle.plane.specs.Lookup.{levelPlan, planFrom}
 use Rattle.plane.proofs.Scan.{Known, known}
 use Rattle.plane.proofs.plan_in.Statement.{statement}
 use Rattle.plane.proofs.plan_in.Tie as tie
 
-facts : (c : tie.Start) → Known 8 (c .args .plane .now)
-facts c = known 8 (c .args .plane .now) (c .pre)
+facts : (c : tie.Start) → Known format1 (c .args .plane .now)
+facts c = known format1 (c .args .plane .now) (c .pre)
 
 sub-level-plan : tie.Need-sub-level-plan
 sub-level-plan c = omega (arith, facts (c .before))
@@ -42,7 +43,7 @@ second-plan-requires : tie.Need-second-plan-requires
 second-plan-requires c κs = search needs
 
 level1 : (c : tie.After-level-plan) → c .level-plan .result
-    ≡ levelPlan (planeFrom 8 (c .before .before .before .before .args .plane .now) .level1) (c .before .before .before .before .args .w)
+    ≡ levelPlan (planeFrom format1 (c .before .before .before .before .args .plane .now) .level1) (c .before .before .before .before .args .w)
 unfolding planeFrom
 level1 c = rw rest at (c .level-plan .ensures)
 

@@ -6,7 +6,8 @@ use native.Mathlib.Omega.{arith}
 use borrow.Author.Needs.{needs}
 use lib.ListN.{drop, length-drop}
 use Rattle.plane.specs.declared.Wrong.the-variants.{Nowhere}
-use Rattle.plane.specs.Plane.{bucketsWrong, entriesWrong}
+use Rattle.plane.specs.Record.{format1}
+use Rattle.plane.specs.Plane.{bucketsAt, entriesAt, bucketsWrong, entriesWrong}
 use Rattle.plane.proofs.Scan.{buckets-room, entries-room}
 use Rattle.plane.proofs.records_wrong.Statement.{statement}
 use Rattle.plane.proofs.records_wrong.Tie as tie
@@ -33,13 +34,13 @@ enum-told : tie.Need-enum-told
 enum-told c = search needs
 
 right-buckets : (c : tie.After-enum-told)
-    → bucketsWrong 8 (c .before .before .before .before .args .buckets) 5 (drop 5 (c .before .before .before .before .args .plane .now)) ≡ Nowhere
+    → bucketsWrong format1 (c .before .before .before .before .args .buckets) bucketsAt (drop bucketsAt (c .before .before .before .before .args .plane .now)) ≡ Nowhere
 right-buckets c = sym (c .before .before .buckets-wrong .ensures) ∙ c .enum-told .given .1
 
 entries-wrong-requires : tie.Need-entries-wrong-requires
 entries-wrong-requires c κs =
     let a = c .before .before .before .before .args in
-    omega (arith, buckets-room 8 (a .buckets) 5 (drop 5 (a .plane .now)) (right-buckets c), length-drop 5 (a .plane .now))
+    omega (arith, buckets-room format1 (a .buckets) bucketsAt (drop bucketsAt (a .plane .now)) (right-buckets c), length-drop bucketsAt (a .plane .now))
 
 enum-known-e : tie.Need-enum-known-e
 enum-known-e c = search needs
@@ -48,8 +49,8 @@ enum-told-2 : tie.Need-enum-told-2
 enum-told-2 c = search needs
 
 right-entries : (c : tie.After-enum-told2)
-    → entriesWrong 0 (c .before .before .before .before .before .before .before .args .entries) (5 + c .before .before .before .before .before .before .before .args .buckets * 66)
-    (drop (5 + c .before .before .before .before .before .before .before .args .buckets * 66) (c .before .before .before .before .before .before .before .args .plane .now)) ≡ Nowhere
+    → entriesWrong 0 (c .before .before .before .before .before .before .before .args .entries) (entriesAt format1 (c .before .before .before .before .before .before .before .args .buckets))
+    (drop (entriesAt format1 (c .before .before .before .before .before .before .before .args .buckets)) (c .before .before .before .before .before .before .before .args .plane .now)) ≡ Nowhere
 right-entries c = sym (c .before .before .entries-wrong .ensures) ∙ c .enum-told2 .given .1
 
 end-wrong-requires : tie.Need-end-wrong-requires
@@ -57,10 +58,10 @@ end-wrong-requires c κs =
     let a = c .before .before .before .before .before .before .before .args in
     omega (
       arith,
-      entries-room 0 (a .entries) (5 + a .buckets * 66) (drop (5 + a .buckets * 66) (a .plane .now)) (right-entries c),
-      length-drop (5 + a .buckets * 66) (a .plane .now),
-      buckets-room 8 (a .buckets) 5 (drop 5 (a .plane .now)) (right-buckets (c .before .before .before)),
-      length-drop 5 (a .plane .now),
+      entries-room 0 (a .entries) (entriesAt format1 (a .buckets)) (drop (entriesAt format1 (a .buckets)) (a .plane .now)) (right-entries c),
+      length-drop (entriesAt format1 (a .buckets)) (a .plane .now),
+      buckets-room format1 (a .buckets) bucketsAt (drop bucketsAt (a .plane .now)) (right-buckets (c .before .before .before)),
+      length-drop bucketsAt (a .plane .now),
     )
 
 returns : tie.Need-returns

@@ -6,14 +6,15 @@ use native.Mathlib.Omega.{arith}
 use borrow.Author.Needs.{needs}
 use lib.ListN.{getD, length-drop}
 use Rattle.lists.proofs.Parts.{rest}
-use Rattle.plane.specs.Plane.{planeFrom}
+use Rattle.plane.specs.Record.{format1, bucketLength}
+use Rattle.plane.specs.Plane.{bucketCount, entriesAt, planeFrom}
 use Rattle.plane.specs.Lookup.{levelPlan, secondPlan}
 use Rattle.plane.proofs.Scan.{Known, known}
 use Rattle.plane.proofs.second_plan.Statement.{statement}
 use Rattle.plane.proofs.second_plan.Tie as tie
 
-facts : (c : tie.Start) → Known 8 (c .args .plane .now)
-facts c = known 8 (c .args .plane .now) (c .pre)
+facts : (c : tie.Start) → Known format1 (c .args .plane .now)
+facts c = known format1 (c .args .plane .now) (c .pre)
 
 shared-slice-read-size : tie.Need-shared-slice-read-size
 shared-slice-read-size c = omega (arith, facts (c .before .before))
@@ -79,7 +80,7 @@ base-plan-requires : tie.Need-base-plan-requires
 base-plan-requires c κs = rw (rest, length-drop) (omega (arith, facts (c .before .before .before .before .before .before .before .before .before .before .before .before .before)))
 
 level2 : (c : tie.After-level-plan) → c .level-plan .result
-    ≡ levelPlan (planeFrom 8 (c .before .before .before .before .before .before .args .plane .now) .level2) (c .before .before .before .before .before .before .args .v)
+    ≡ levelPlan (planeFrom format1 (c .before .before .before .before .before .before .args .plane .now) .level2) (c .before .before .before .before .before .before .args .v)
 unfolding planeFrom
 level2 c = rw (c .before .before .before .size .ensures, rest) at (c .level-plan .ensures)
 
@@ -94,7 +95,7 @@ returns-2 c =
     let p = e .before .before .before .before .before .before .before .before .args .plane .now in
     let s1 = e .before .before .before .before .before .size .result in
     let s2 = c .before .before .before .before .size2 .result in
-    let at : 5 + s1 * 66 + s2 * 66 ≡ 5 + (getD p 2 0 + getD p 3 0) * 66 = omega arith in
+    let at : entriesAt format1 s1 + s2 * bucketLength format1 ≡ entriesAt format1 (bucketCount p) = omega arith in
     let base = rw (rest, at, c .before .size3 .ensures) at (c .base-plan .ensures) in
     rw (sym (level2 (e .before .before)) ∙ e .enum-told .given .1) base
 

@@ -2,6 +2,7 @@
 -- Assumes nothing.
 use mathlib.Core.Path.{_∙_}
 use borrow.Author.Needs.{needs}
+use Rattle.plane.specs.Record.{format1}
 use Rattle.plane.proofs.Read.{word-at}
 use Rattle.plane.proofs.solution.Statement.{statement}
 use Rattle.plane.proofs.solution.Tie as tie
@@ -18,7 +19,7 @@ get-u64-requires c κs = search needs
 returns : tie.Need-returns
 returns c =
     let b = c .before .before in
-    c .get-u64 .ensures ∙ word-at 8 (b .args .i) (b .args .p .now) (b .pre)
+    c .get-u64 .ensures ∙ word-at format1 (b .args .i) (b .args .p .now) (b .pre)
 
 pub solution-spec : {M : Type 1} → statement M
 solution-spec = tie.close (tie.spec mul-get-u64 add-get-u64 get-u64-requires returns)

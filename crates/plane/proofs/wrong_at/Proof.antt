@@ -1,9 +1,10 @@
 -- `plane::wrong_at` meets its contract.
 -- Assumes nothing.
-use mathlib.Core.Path.{_≡_}
+use mathlib.Core.Path.{_≡_, refl}
 use mathlib.Core.Bool.{true}
 use native.Mathlib.Omega.{arith}
 use borrow.Author.Needs.{needs}
+use Rattle.plane.specs.Record.{format1}
 use Rattle.plane.specs.Plane.{headerFits, wrongAt}
 use Rattle.plane.proofs.Scan.{refused, passed, Header, header}
 use Rattle.plane.proofs.wrong_at.Statement.{statement}
@@ -14,13 +15,13 @@ header-fits-requires c κs = search needs
 
 returns : tie.Need-returns
 unfolding wrongAt
-returns c = rw (refused _ (c .before .header-fits .ensures) (c .if1 .taken))
+returns c = rw (refused _ (c .before .header-fits .ensures) (c .if1 .taken)) refl
 
-fits : (c : tie.Else1) → headerFits (c .before .before .before .args .plane .now) ≡ true
+fits : (c : tie.Else1) → headerFits format1 (c .before .before .before .args .plane .now) ≡ true
 fits c = passed (c .before .header-fits .result) (c .before .header-fits .ensures) (c .if1 .left)
 
 known : (c : tie.Else1) → Header (c .before .before .before .args .plane .now)
-known c = header _ (fits c)
+known c = header format1 _ (fits c)
 
 shared-slice-read-size : tie.Need-shared-slice-read-size
 shared-slice-read-size c = omega (arith, known (c .before))

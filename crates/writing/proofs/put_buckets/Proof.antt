@@ -7,14 +7,16 @@ use borrow.Author.Needs.{needs}
 use lib.ListN.{length, length-take, length-drop}
 use Rattle.codec.specs.Parts.{written}
 use Rattle.codec.proofs.Part.{length-written}
-use Rattle.plane.specs.Record.{bytesOf, readAll, bucketRecord}
+use Rattle.bucket_words.specs.Words.{bucketWords}
+use Rattle.concrete.specs.Calls.{rows, solutions}
+use Rattle.plane.specs.Record.{format1, bytesOf, readAll, bucketLength, bucketRecord}
 use Rattle.writing.specs.Steps.{seenFrom}
 use Rattle.writing.proofs.Put.{read-none, read-next, bucket-here, buckets-sized}
 use Rattle.writing.proofs.put_buckets.Statement.{statement}
 use Rattle.writing.proofs.put_buckets.Tie as tie
 
 abbrev Inv-loop : tie.InvT-loop
-Inv-loop out₀ at b m i₀ out i = (i ≤ m) × (out ≡ written at (bytesOf bucketRecord (readAll 74 (seenFrom 64 8) i b)) out₀)
+Inv-loop out₀ at b m i₀ out i = (i ≤ m) × (out ≡ written at (bytesOf (bucketRecord format1) (readAll (bucketWords rows solutions) (seenFrom rows solutions) i b)) out₀)
 
 abbrev μ-loop : tie.MeasureT-loop
 μ-loop out₀ at b m i₀ out i = m - i
@@ -22,7 +24,7 @@ abbrev μ-loop : tie.MeasureT-loop
 loop-holds : tie.Need-loop-holds Inv-loop μ-loop
 loop-holds c =
     let a = c .before .before .args in
-    (search needs, read-none bucketRecord 66 74 (seenFrom 64 8) (a .at) (a .b .now) (a .out .now))
+    (search needs, read-none (bucketRecord format1) (bucketLength format1) (bucketWords rows solutions) (seenFrom rows solutions) (a .at) (a .b .now) (a .out .now))
 
 mul-from : tie.Need-mul-from Inv-loop μ-loop
 mul-from c = search needs
@@ -54,7 +56,7 @@ put-bucket-requires c κs =
     let a = b .before .before .before in
     let l = ap length (b .loop .inv .1) ∙ length-written (a .args .at) _ (a .args .out .now) in (
       simp (length-take, length-drop) (omega arith),
-      rw (bucket-here 64 8 (b .loop .i * 74) (a .args .b .now)) (a .pre .1 (b .loop .i) (omega arith)),
+      rw (bucket-here rows solutions (b .loop .i * bucketWords rows solutions) (a .args .b .now)) (a .pre .1 (b .loop .i) (omega arith)),
       omega (arith, l),
     )
 
@@ -68,8 +70,8 @@ loop-again : tie.Need-loop-again Inv-loop μ-loop
 loop-again c =
     let b = c .before .before .before .before .before .before in
     let a = b .before .before .before .args in
-    let more = rw (b .loop .inv .1, bucket-here 64 8 (b .loop .i * 74) (a .b .now)) at (c .before .before .put-bucket .ensures) in
-    (search needs, more ∙ read-next bucketRecord 66 74 (seenFrom 64 8) (b .loop .i) (a .at) (a .b .now) (a .out .now) (buckets-sized 64 8 (b .loop .i) (a .b .now) (omega arith)))
+    let more = rw (b .loop .inv .1, bucket-here rows solutions (b .loop .i * bucketWords rows solutions) (a .b .now)) at (c .before .before .put-bucket .ensures) in
+    (search needs, more ∙ read-next (bucketRecord format1) (bucketLength format1) (bucketWords rows solutions) (seenFrom rows solutions) (b .loop .i) (a .at) (a .b .now) (a .out .now) (buckets-sized rows format1 (b .loop .i) (a .b .now) (omega arith)))
 
 same-length : tie.Need-same-length Inv-loop μ-loop
 same-length c = ap length (c .before .loop .inv .1) ∙ length-written _ _ _

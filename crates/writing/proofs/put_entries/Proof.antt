@@ -8,7 +8,7 @@ use lib.ListN.{length}
 use lib.Seq.{getD-drop}
 use Rattle.codec.specs.Parts.{written}
 use Rattle.codec.proofs.Part.{length-written}
-use Rattle.plane.specs.Record.{bytesOf, readAll, entryRecord}
+use Rattle.plane.specs.Record.{bytesOf, readAll, entryLength, entryRecord}
 use Rattle.writing.specs.Steps.{pairFrom}
 use Rattle.writing.proofs.Put.{read-none, entries-next}
 use Rattle.writing.proofs.put_entries.Statement.{statement}
@@ -23,7 +23,7 @@ abbrev μ-loop : tie.MeasureT-loop
 loop-holds : tie.Need-loop-holds Inv-loop μ-loop
 loop-holds c =
     let a = c .before .before .args in
-    (search needs, read-none entryRecord 10 2 pairFrom (a .at) (a .pairs .now) (a .out .now))
+    (search needs, read-none entryRecord entryLength 2 pairFrom (a .at) (a .pairs .now) (a .out .now))
 
 mul-put-entry : tie.Need-mul-put-entry Inv-loop μ-loop
 mul-put-entry c = search needs

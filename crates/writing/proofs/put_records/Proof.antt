@@ -6,6 +6,10 @@ use native.Mathlib.Omega.{arith}
 use borrow.Author.Needs.{needs}
 use lib.ListN.{length, length-drop}
 use Rattle.codec.proofs.Part.{length-written}
+use Rattle.concrete.specs.Layout.{header, bucketPlace}
+use Rattle.concrete.specs.Calls.{rows, solutions}
+use Rattle.plane.specs.Record.{format1}
+use Rattle.plane.specs.Plane.{bucketsAt}
 use Rattle.lists.proofs.Parts.{rest}
 use Rattle.writing.proofs.Put.{records-put}
 use Rattle.writing.proofs.put_records.Statement.{statement}
@@ -35,7 +39,7 @@ part-put-buckets-end c = search needs
 put-buckets-requires : tie.Need-put-buckets-requires
 put-buckets-requires c κs =
     let b = c .before .before .before .before in
-    rw (rest 4 (b .args .t .now)) ((rw length-drop (omega arith), omega arith), b .pre .1 .0)
+    rw (rest header (b .args .t .now)) ((rw length-drop (omega arith), omega arith), b .pre .1 .0)
 
 mul-put-entries : tie.Need-mul-put-entries
 mul-put-entries c = search needs
@@ -52,8 +56,8 @@ part-put-entries-end c = search needs
 put-entries-requires : tie.Need-put-entries-requires
 put-entries-requires c κs =
     let b = c .before .before .before .before .before .before .before .before .before in
-    let l = ap length (c .before .before .before .before .put-buckets .ensures) ∙ length-written 5 _ (b .args .out .now) in
-    rw (rest (4 + b .args .buckets * 74) (b .args .t .now)) ((rw length-drop (omega arith), omega (arith, l)), b .pre .1 .1)
+    let l = ap length (c .before .before .before .before .put-buckets .ensures) ∙ length-written bucketsAt _ (b .args .out .now) in
+    rw (rest (bucketPlace rows solutions (b .args .buckets)) (b .args .t .now)) ((rw length-drop (omega arith), omega (arith, l)), b .pre .1 .1)
 
 mul-put-end : tie.Need-mul-put-end
 mul-put-end c = search needs
@@ -73,9 +77,9 @@ returns c =
     let f = e .before .before .before .before .before in
     let b = f .before .before .before .before .before in
     let a = b .args in
-    let e1 = rw (rest 4 (a .t .now)) at (f .put-buckets .ensures) in
-    let e2 = rw (rest (4 + a .buckets * 74) (a .t .now)) at (e .put-entries .ensures) in
-    records-put 64 8 (a .buckets) (a .entries) (a .t .now) (a .out .now) _ _ _ (b .pre .0 .0) e1 e2 (c .before .before .put-end .ensures)
+    let e1 = rw (rest header (a .t .now)) at (f .put-buckets .ensures) in
+    let e2 = rw (rest (bucketPlace rows solutions (a .buckets)) (a .t .now)) at (e .put-entries .ensures) in
+    records-put rows format1 (a .buckets) (a .entries) (a .t .now) (a .out .now) _ _ _ (b .pre .0 .0) e1 e2 (c .before .before .put-end .ensures)
 
 pub put-records-spec : {M : Type 1} → statement M
 put-records-spec =

@@ -10,13 +10,13 @@ use lib.Seq.{take-all}
 use Rattle.codec.specs.Bytes.{toBytes}
 use Rattle.codec.specs.Parts.{written}
 use Rattle.codec.proofs.Part.{length-written, written-none}
-use Rattle.plane.specs.Record.{bytesOf}
+use Rattle.plane.specs.Record.{bytesOf, wordBytes}
 use Rattle.writing.proofs.Put.{words-next}
 use Rattle.writing.proofs.put_words.Statement.{statement}
 use Rattle.writing.proofs.put_words.Tie as tie
 
 abbrev Inv-loop : tie.InvT-loop
-Inv-loop out₀ at words i₀ out i = (i ≤ length words) × (out ≡ written at (bytesOf (toBytes 8) (take i words)) out₀)
+Inv-loop out₀ at words i₀ out i = (i ≤ length words) × (out ≡ written at (bytesOf (toBytes wordBytes) (take i words)) out₀)
 
 abbrev μ-loop : tie.MeasureT-loop
 μ-loop out₀ at words i₀ out i = length words - i
@@ -60,7 +60,7 @@ returns : tie.Need-returns Inv-loop μ-loop
 returns c =
     let b = c .before in
     let a = b .before .before .before .args in
-    b .loop .inv .1 ∙ ap (λ (l : List ℕ). written (a .at) (bytesOf (toBytes 8) l) (a .out .now)) (take-all (b .loop .i) (a .words .now) (omega arith))
+    b .loop .inv .1 ∙ ap (λ (l : List ℕ). written (a .at) (bytesOf (toBytes wordBytes) l) (a .out .now)) (take-all (b .loop .i) (a .words .now) (omega arith))
 
 pub put-words-spec : {M : Type 1} → statement M
 put-words-spec =

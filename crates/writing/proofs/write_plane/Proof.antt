@@ -5,6 +5,8 @@ use native.Mathlib.Omega.{arith}
 use borrow.Author.Needs.{needs}
 use lib.ListN.{length}
 use Rattle.codec.proofs.Part.{length-written}
+use Rattle.concrete.specs.Calls.{rows}
+use Rattle.plane.specs.Record.{format1}
 use Rattle.writing.proofs.Accepted.{Known, known}
 use Rattle.writing.proofs.Through.{bounds-low, plans-low, front-put}
 use Rattle.writing.proofs.write_plane.Statement.{statement}
@@ -35,7 +37,7 @@ put-records-requires c κs =
     let t = g .before .args .t .now in
     let l = ap length (c .before .before .before .put-header .ensures) ∙ length-written 0 _ (g .before .args .out .now) in (
       (omega arith, omega (arith, l, g .before .pre .2)),
-      (λ i k. omega (arith, bounds-low 64 8 t (f .fits) i k), λ i k. plans-low 64 8 t (f .fits) i k),
+      (λ i k. omega (arith, bounds-low rows format1 t (f .fits) i k), λ i k. plans-low rows format1 t (f .fits) i k),
     )
 
 same-length : tie.Need-same-length
@@ -45,7 +47,7 @@ returns : tie.Need-returns
 returns c =
     let a = c .before .before .before .before .before .before .before .before .before .before .before .before .before in
     let e = rw (c .before .before .before .before .before .before .put-header .ensures) at (c .before .before .put-records .ensures) in
-    front-put 64 8 (a .args .t .now) (a .args .out .now) (c .before .before .put-records .last .0) (a .pre .2) e
+    front-put rows format1 (a .args .t .now) (a .args .out .now) (c .before .before .put-records .last .0) (a .pre .2) e
 
 pub write-plane-spec : {M : Type 1} → statement M
 write-plane-spec =

@@ -5,6 +5,7 @@ use native.Mathlib.Omega.{arith}
 use borrow.Author.Needs.{needs}
 use lib.ListN.{length}
 use Rattle.concrete.specs.Calls.{tableOf}
+use Rattle.plane.specs.Record.{format1}
 use Rattle.plane.specs.Plane.{planeBytes}
 use Rattle.writing.specs.Write.{planeOf}
 use Rattle.writing.proofs.Accepted.{Known, known}
@@ -31,13 +32,13 @@ plane-len-requires : tie.Need-plane-len-requires
 plane-len-requires c κs = omega (arith, facts (c .before .before .before .before))
 
 -- the number that was computed is the length of the plane
-needed : (c : tie.After-plane-len) → c .plane-len .result ≡ length (planeBytes (planeOf (tableOf (c .before .before .before .before .before .before .args .t .now))))
+needed : (c : tie.After-plane-len) → c .plane-len .result ≡ length (planeBytes format1 (planeOf (tableOf (c .before .before .before .before .before .before .args .t .now))))
 needed c = c .plane-len .ensures ∙ sym (facts (c .before .before .before .before .before) .long)
 
 returns : tie.Need-returns
 returns c =
     let a = c .before .before .before .before .before .before .before .args in
-    put-short (planeBytes (planeOf (tableOf (a .t .now)))) (a .out .now) (c .before .plane-len .result) (needed (c .before)) (c .if1 .taken)
+    put-short (planeBytes format1 (planeOf (tableOf (a .t .now)))) (a .out .now) (c .before .plane-len .result) (needed (c .before)) (omega (arith, c .before .plane-len .ensures))
 
 write-plane-requires : tie.Need-write-plane-requires
 write-plane-requires c κs =
@@ -51,7 +52,7 @@ returns-2 : tie.Need-returns-2
 returns-2 c =
     let a = c .before .before .before .before .before .before .before .before .before .before .before .args in
     let l = c .before .before .before .before .before in
-    put-fits (planeBytes (planeOf (tableOf (a .t .now)))) (a .out .now) (l .plane-len .result) (needed l) (c .before .before .write-plane .last .1 .0) (omega arith) (c .before .before .write-plane .ensures)
+    put-fits (planeBytes format1 (planeOf (tableOf (a .t .now)))) (a .out .now) (l .plane-len .result) (needed l) (c .before .before .write-plane .last .1 .0) (omega arith) (c .before .before .write-plane .ensures)
 
 pub write-sound-spec : {M : Type 1} → statement M
 write-sound-spec =
