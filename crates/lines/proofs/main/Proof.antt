@@ -37,6 +37,12 @@ write-output-requires c κs = search needs
 enum-told : tie.Need-enum-told
 enum-told c = search needs
 
+slice-aggregate-write-all : tie.Need-slice-aggregate-write-all
+slice-aggregate-write-all c = search needs
+
+write-all-requires : tie.Need-write-all-requires
+write-all-requires c κs = search needs
+
 returns : tie.Need-returns
 returns c = search needs
 
@@ -55,5 +61,7 @@ main-spec =
     slice-aggregate-write-output
     write-output-requires
     enum-told
+    slice-aggregate-write-all
+    write-all-requires
     returns
     returns-2)
