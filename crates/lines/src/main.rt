@@ -35,11 +35,11 @@ fn read_input(buffer: &mut [u8]) -> Input
     Input::Bytes(n)
 }
 
-// Zeros for the longest output: 24 bytes for each byte of the input.
-fn output_buffer() -> [u8; 1572864]
-    ensures { λ r. ⌜ 1572864 ≡ length r ⌝ }
+// Zeros for the longest output.
+fn output_buffer() -> [u8; session::MOST_OUTPUT]
+    ensures { λ r. do ⌜ (← ⟦session::MOST_OUTPUT⟧ .entry) ≡ length r ⌝ }
 {
-    [0; 1572864]
+    [0; session::MOST_OUTPUT]
 }
 
 // Writes what is printed for the input.
