@@ -35,6 +35,13 @@ fn read_input(buffer: &mut [u8]) -> Input
     Input::Bytes(n)
 }
 
+// Zeros for the bytes of the input that count.
+fn input_buffer() -> [u8; session::INPUT_LIMIT]
+    ensures { λ r. do ⌜ (← ⟦session::INPUT_LIMIT⟧ .entry) ≡ length r ⌝ }
+{
+    [0; session::INPUT_LIMIT]
+}
+
 // Zeros for the longest output.
 fn output_buffer() -> [u8; session::MOST_OUTPUT]
     ensures { λ r. do ⌜ (← ⟦session::MOST_OUTPUT⟧ .entry) ≡ length r ⌝ }
@@ -55,7 +62,7 @@ fn write_output(input: &[u8]) {
 }
 
 fn main() {
-    let mut buffer = io::large_buffer();
+    let mut buffer = input_buffer();
     let read = read_input(&mut buffer);
     match read {
         Input::Bytes(n) => write_output(&buffer[..n]),

@@ -165,13 +165,13 @@ pub(crate) fn run_lines(t: &mut [u64], s: &[u8], out: &mut [u8]) -> usize
     let mut held: usize = 0;
     let mut at: usize = 0;
     let mut start: usize = 0;
-    let mut end = text::place(s, 10, 0);
+    let mut end = text::place(s, b'\n', 0);
     while end < s.len() {
         let next = turn(t, held, &s[start..end], out, at);
         held = next.held;
         at = next.printed;
         start = end + 1;
-        end = text::place(s, 10, start);
+        end = text::place(s, b'\n', start);
     }
     if start < s.len() {
         return text::put_bad(out, at);
