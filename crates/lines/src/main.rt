@@ -1,6 +1,8 @@
 // The line program: it reads the first 64 KiB of standard input and writes what session's `run` prints for them to standard output, and
-// nothing else. A read that fails ends it before anything is written; a write that fails ends it after a first part of the output.
+// nothing else. A read that fails ends it before anything is written; a write that fails ends it after a first part of the output. Either
+// writes a line to standard error, which is empty where both went well.
 // stdin and stdout are document 01's session; `runs/` at the root has the edges. Cites session. Nothing cites it.
+use libc::STDERR_FILENO;
 use libc::STDIN_FILENO;
 use libc::STDOUT_FILENO;
 ghost use mathlib.Core.Path.{_≡_};
@@ -33,25 +35,42 @@ fn read_input(buffer: &mut [u8]) -> Input
     Input::Bytes(n)
 }
 
-// Zeros for the longest output: 24 bytes for each byte of the input.
-fn output_buffer() -> [u8; 1572864]
-    ensures { λ r. ⌜ 1572864 ≡ length r ⌝ }
+// Zeros for the bytes of the input that count.
+fn input_buffer() -> [u8; session::INPUT_LIMIT]
+    ensures { λ r. do ⌜ (← ⟦session::INPUT_LIMIT⟧ .entry) ≡ length r ⌝ }
 {
-    [0; 1572864]
+    [0; session::INPUT_LIMIT]
+}
+
+// Zeros for the longest output.
+fn output_buffer() -> [u8; session::MOST_OUTPUT]
+    ensures { λ r. do ⌜ (← ⟦session::MOST_OUTPUT⟧ .entry) ≡ length r ⌝ }
+{
+    [0; session::MOST_OUTPUT]
 }
 
 // Writes what is printed for the input.
 fn write_output(input: &[u8]) {
     let mut out = output_buffer();
     let n = session::run(input, &mut out);
-    io::write_all(STDOUT_FILENO, &out[..n]);
+    if !io::write_all(STDOUT_FILENO, &out[..n]) {
+        io::write_all(
+            STDERR_FILENO,
+            b"limgoshi: standard output could not be written\n",
+        );
+    }
 }
 
 fn main() {
-    let mut buffer = io::large_buffer();
+    let mut buffer = input_buffer();
     let read = read_input(&mut buffer);
     match read {
         Input::Bytes(n) => write_output(&buffer[..n]),
-        Input::Failed => {}
+        Input::Failed => {
+            io::write_all(
+                STDERR_FILENO,
+                b"limgoshi: standard input could not be read\n",
+            );
+        }
     }
 }

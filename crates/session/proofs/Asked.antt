@@ -13,8 +13,8 @@ use Rattle.concrete.specs.History.{flatState}
 use Rattle.concrete.proofs.Statements.{stands-sound, sound-stands}
 use Rattle.table.specs.Ready.{Ready, admitted}
 use Rattle.table.proofs.Calls.{call-word, call-refused, admits}
-use Rattle.text.specs.declared.Kind.{Kind}
-use Rattle.text.specs.declared.Kind.the-variants.{Add, Set, Del, Get}
+use Rattle.text.specs.declared.Verb.{Verb}
+use Rattle.text.specs.declared.Verb.the-variants.{Add, Set, Del, Get}
 use Rattle.text.specs.Parsed.{callOf}
 
 -- neither cause 4 nor cause 5 is met
@@ -22,24 +22,24 @@ admits-all : (t : List ℕ) → Ready t → (x : Read) → x ≡ admitted t x
 admits-all t h (Refused a) = refl
 admits-all t h (Word w) = sym (admits t w (h .shape) (stands-sound t (flatState t) (sound-stands t (h .shape) (h .sound)) .1))
 
-subject-of : (k : Kind) (i : List ℕ) (p : ℕ) → i ≡ subject (callOf k i p)
+subject-of : (v : Verb) (i : List ℕ) (p : ℕ) → i ≡ subject (callOf v i p)
 subject-of Add i p = refl
 subject-of Set i p = refl
 subject-of Del i p = refl
 subject-of Get i p = refl
 
-nameless : (k : Kind) (i : List ℕ) (p : ℕ) → askOf [] (callOf k i p) ≡ callOf k [] p
+nameless : (v : Verb) (i : List ℕ) (p : ℕ) → askOf [] (callOf v i p) ≡ callOf v [] p
 nameless Add i p = refl
 nameless Set i p = refl
 nameless Del i p = refl
 nameless Get i p = refl
 
-module _ (t : List ℕ) (h : Ready t) (k : Kind) (i : List ℕ) (p : ℕ) (x : Read) (e : x ≡ readOf i) where
-  read : x ≡ admitted t (readOf (subject (callOf k i p)))
-  read = e ∙ ap readOf (subject-of k i p) ∙ admits-all t h (readOf (subject (callOf k i p)))
+module _ (t : List ℕ) (h : Ready t) (v : Verb) (i : List ℕ) (p : ℕ) (x : Read) (e : x ≡ readOf i) where
+  read : x ≡ admitted t (readOf (subject (callOf v i p)))
+  read = e ∙ ap readOf (subject-of v i p) ∙ admits-all t h (readOf (subject (callOf v i p)))
 
-  pub asked-word : (w : ℕ) → x ≡ Word w → call t (callOf k i p) ≡ served t w (callOf k [] p)
-  asked-word w q = call-word t (callOf k i p) x read w q ∙ ap (served t w) (nameless k i p)
+  pub asked-word : (w : ℕ) → x ≡ Word w → call t (callOf v i p) ≡ served t w (callOf v [] p)
+  asked-word w q = call-word t (callOf v i p) x read w q ∙ ap (served t w) (nameless v i p)
 
-  pub asked-refused : (a : Answer) → x ≡ Refused a → call t (callOf k i p) ≡ turnedDown a t
-  asked-refused = call-refused t (callOf k i p) x read
+  pub asked-refused : (a : Answer) → x ≡ Refused a → call t (callOf v i p) ≡ turnedDown a t
+  asked-refused = call-refused t (callOf v i p) x read

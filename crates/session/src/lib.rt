@@ -9,8 +9,8 @@ use answer::Answer;
 use identifier::Identifier;
 use identifier::Read;
 use layout::Table;
-use text::Kind;
 use text::Parsed;
+use text::Verb;
 ghost use mathlib.Core.Path.{_≡_};
 ghost use Prim.Native.Nat.{_*_, _^_, _≤_, _<_};
 ghost use mathlib.Core.List.{[]};
@@ -21,30 +21,39 @@ ghost use Rattle.table.specs.Ready.{Ready};
 ghost use Rattle.text.specs.Line.{lf, parted, opening, ask};
 ghost use Rattle.text.specs.Parsed.{callOf, meant, Within};
 ghost use Rattle.text.specs.Printed.{mostPrinted};
-ghost use Rattle.session.specs.Run.{inputLimit, obey, turn, outputFrom, tables, output};
+ghost use Rattle.session.specs.Run.{inputLimit, counted, obey, turn, outputFrom, tables, output};
 ghost use Rattle.session.specs.Buffer.{heldIn, Holds, Did, Printed};
 
+// The first bytes of an input that count.
+pub const INPUT_LIMIT: usize = 65536;
+
+// The bytes of a line with its LF, at most.
+pub(crate) const LINE_LIMIT: usize = 64;
+
+// The longest output: the longest line that is printed for each byte of an input.
+pub const MOST_OUTPUT: usize = text::MOST_PRINTED * INPUT_LIMIT;
+
 // A call put to a sound table by its word.
-pub(crate) fn serve(t: &mut [u64], w: u64, kind: Kind, plan: u64) -> Answer
+pub(crate) fn serve(t: &mut [u64], w: u64, verb: Verb, plan: u64) -> Answer
     requires { ⌜ Ready (now t) ⌝ }
-    ensures { λ r. ⌜ (r ≡ served (now (t .entry)) w (callOf kind [] plan) .answer) × (now (t .exit) ≡ served (now (t .entry)) w (callOf kind [] plan) .table) ⌝ }
+    ensures { λ r. ⌜ (r ≡ served (now (t .entry)) w (callOf verb [] plan) .answer) × (now (t .exit) ≡ served (now (t .entry)) w (callOf verb [] plan) .table) ⌝ }
 {
-    match kind {
-        Kind::Add => adding::add_word(t, w, plan),
-        Kind::Set => table::change_word(t, w, plan),
-        Kind::Del => table::withdraw_word(t, w),
-        Kind::Get => table::query_word(t, w),
+    match verb {
+        Verb::Add => adding::add_word(t, w, plan),
+        Verb::Set => table::change_word(t, w, plan),
+        Verb::Del => table::withdraw_word(t, w),
+        Verb::Get => table::query_word(t, w),
     }
 }
 
 // A call put to a sound table.
-pub(crate) fn ask(t: &mut [u64], id: &[u8], kind: Kind, plan: u64) -> Answer
+pub(crate) fn ask(t: &mut [u64], id: &[u8], verb: Verb, plan: u64) -> Answer
     requires { ⌜ Ready (now t) ⌝ }
-    ensures { λ r. ⌜ (r ≡ call (now (t .entry)) (callOf kind (now (id .entry)) plan) .answer) × (now (t .exit) ≡ call (now (t .entry)) (callOf kind (now (id .entry)) plan) .table) ⌝ }
+    ensures { λ r. ⌜ (r ≡ call (now (t .entry)) (callOf verb (now (id .entry)) plan) .answer) × (now (t .exit) ≡ call (now (t .entry)) (callOf verb (now (id .entry)) plan) .table) ⌝ }
 {
     let read = Identifier::read(id);
     match read {
-        Read::Word(w) => serve(t, w, kind, plan),
+        Read::Word(w) => serve(t, w, verb, plan),
         Read::Refused(a) => a,
     }
 }
@@ -86,13 +95,13 @@ pub(crate) fn ask_line(
     t: &mut [u64],
     held: usize,
     id: &[u8],
-    kind: Kind,
+    verb: Verb,
     plan: u64,
     out: &mut [u8],
     at: usize,
 ) -> Progress
     requires { ⌜ Holds held (now t) × (at < 2 ^ 31) ⌝ }
-    ensures { λ r. ⌜ Did (obey tables (heldIn held (now (t .entry))) (ask (callOf kind (now (id .entry)) plan))) at (now (out .entry)) r (now (t .exit)) (now (out .exit)) ⌝ }
+    ensures { λ r. ⌜ Did (obey tables (heldIn held (now (t .entry))) (ask (callOf verb (now (id .entry)) plan))) at (now (out .entry)) r (now (t .exit)) (now (out .exit)) ⌝ }
 {
     if held == 0 {
         return Progress {
@@ -100,7 +109,7 @@ pub(crate) fn ask_line(
             printed: text::put_bad(out, at),
         };
     }
-    let a = ask(&mut t[..held], id, kind, plan);
+    let a = ask(&mut t[..held], id, verb, plan);
     Progress {
         held,
         printed: text::put_answer(out, at, a),
@@ -122,11 +131,11 @@ pub(crate) fn obey(
     match p {
         Parsed::Open(b1, b2) => open_line(t, held, b1, b2, out, at),
         Parsed::Ask {
-            kind,
+            verb,
             start,
             end,
             plan,
-        } => ask_line(t, held, &s[start..end], kind, plan, out, at),
+        } => ask_line(t, held, &s[start..end], verb, plan, out, at),
         Parsed::Bad => Progress {
             held,
             printed: text::put_bad(out, at),
@@ -139,7 +148,7 @@ pub(crate) fn turn(t: &mut [u64], held: usize, s: &[u8], out: &mut [u8], at: usi
     requires { do ⌜ (length (now t) ≡ (← ⟦Table::LONGEST⟧)) × Holds held (now t) × (at < 2 ^ 31) ⌝ }
     ensures { λ r. ⌜ Did (turn tables (heldIn held (now (t .entry))) (now (s .entry))) at (now (out .entry)) r (now (t .exit)) (now (out .exit)) ⌝ }
 {
-    if s.len() < 64 {
+    if s.len() < LINE_LIMIT {
         return obey(t, held, s, text::parse(s), out, at);
     }
     Progress {
@@ -156,13 +165,13 @@ pub(crate) fn run_lines(t: &mut [u64], s: &[u8], out: &mut [u8]) -> usize
     let mut held: usize = 0;
     let mut at: usize = 0;
     let mut start: usize = 0;
-    let mut end = text::place(s, 10, 0);
+    let mut end = text::place(s, b'\n', 0);
     while end < s.len() {
         let next = turn(t, held, &s[start..end], out, at);
         held = next.held;
         at = next.printed;
         start = end + 1;
-        end = text::place(s, 10, start);
+        end = text::place(s, b'\n', start);
     }
     if start < s.len() {
         return text::put_bad(out, at);
@@ -170,14 +179,14 @@ pub(crate) fn run_lines(t: &mut [u64], s: &[u8], out: &mut [u8]) -> usize
     at
 }
 
-// The line program: what it prints for an input goes to out, as much as fits. The number of bytes printed, at most 24 for each byte that
-// is read.
+// The line program: what it prints for an input goes to out, as much as fits. The number of bytes printed, at most MOST_PRINTED for each
+// byte that counts.
 pub fn run(input: &[u8], out: &mut [u8]) -> usize
-    ensures { λ r. ⌜ Printed (output (now (input .entry))) (mostPrinted * inputLimit) (now (out .entry)) r (now (out .exit)) ⌝ }
+    ensures { λ r. ⌜ Printed (output (now (input .entry))) (mostPrinted * length (counted (now (input .entry)))) (now (out .entry)) r (now (out .exit)) ⌝ }
 {
     let mut t = [0u64; Table::LONGEST];
-    if input.len() <= 65536 {
+    if input.len() <= INPUT_LIMIT {
         return run_lines(&mut t, input, out);
     }
-    run_lines(&mut t, &input[..65536], out)
+    run_lines(&mut t, &input[..INPUT_LIMIT], out)
 }

@@ -10,8 +10,8 @@ use Rattle.codec.specs.Bytes.{eqList}
 use Rattle.codec.proofs.Part.{part-rest}
 use Rattle.text.specs.declared.Number.{Number}
 use Rattle.text.specs.declared.Number.the-variants.{Of, Wrong}
-use Rattle.text.specs.declared.Kind.{Kind}
-use Rattle.text.specs.declared.Kind.the-variants.{Add, Set, Del, Get}
+use Rattle.text.specs.declared.Verb.{Verb}
+use Rattle.text.specs.declared.Verb.the-variants.{Add, Set, Del, Get}
 use Rattle.text.specs.declared.Parsed.{Parsed}
 use Rattle.text.specs.declared.Parsed.the-variants.{Ask, Bad}
 use Rattle.text.specs.Decimal.{numberTo}
@@ -31,10 +31,10 @@ open-stands s (Of b1) (Of b2) h k = (refl, (h, k))
 open-stands s (Of b1) Wrong h k = (refl, tt)
 open-stands s Wrong y h k = (refl, tt)
 
-ask-stands : (s : List ℕ) (k : Kind) (start end : ℕ) → start ≤ end → end ≤ length s → (x : Number) → AtMost mostPlan x
-    → Stands s (askForm k start end x) (planned (callOf k (between start end s)) x)
-ask-stands s k start end h l (Of p) m = (refl, (h, l, m))
-ask-stands s k start end h l Wrong m = (refl, tt)
+ask-stands : (s : List ℕ) (v : Verb) (start end : ℕ) → start ≤ end → end ≤ length s → (x : Number) → AtMost mostPlan x
+    → Stands s (askForm v start end x) (planned (callOf v (between start end s)) x)
+ask-stands s v start end h l (Of p) m = (refl, (h, l, m))
+ask-stands s v start end h l Wrong m = (refl, tt)
 
 -- ---- two fields
 

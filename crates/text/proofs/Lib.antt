@@ -2,3 +2,4 @@ pub mod Decimal
 pub mod Parted
 pub mod Forms
 pub mod Printed
+pub mod Exact

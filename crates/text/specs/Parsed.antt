@@ -4,8 +4,8 @@ use Prim.Native.Nat.{ℕ, _-_, _≤_}
 use mathlib.Core.List.{List}
 use Rattle.codec.specs.Parts.{partAt}
 use Rattle.model.specs.Model.{Call, add, change, withdraw, query}
-use Rattle.text.specs.declared.Kind.{Kind}
-use Rattle.text.specs.declared.Kind.the-variants.{Add, Set, Del, Get}
+use Rattle.text.specs.declared.Verb.{Verb}
+use Rattle.text.specs.declared.Verb.the-variants.{Add, Set, Del, Get}
 use Rattle.text.specs.declared.Number.{Number}
 use Rattle.text.specs.declared.Number.the-variants.{Of, Wrong}
 use Rattle.text.specs.declared.Parsed.{Parsed}
@@ -16,8 +16,8 @@ use Rattle.text.specs.Line.{Command, opening, ask, bad, mostBuckets, mos
 abbrev pub between : ℕ → ℕ → List ℕ → List ℕ
 between start end s = partAt (end - start) start s
 
--- the call of a kind
-abbrev pub callOf : Kind → List ℕ → ℕ → Call (List ℕ)
+-- the call that a verb asks for
+abbrev pub callOf : Verb → List ℕ → ℕ → Call (List ℕ)
 callOf Add i p = add i p
 callOf Set i p = change i p
 callOf Del i p = withdraw i
@@ -26,7 +26,7 @@ callOf Get i p = query i
 -- what the line s asks for by its parsed form
 abbrev pub meant : List ℕ → Parsed → Command
 meant s (Open b1 b2) = opening b1 b2
-meant s (Ask k start end plan) = ask (callOf k (between start end s) plan)
+meant s (Ask v start end plan) = ask (callOf v (between start end s) plan)
 meant s Bad = bad
 
 -- a number is at most limit
@@ -37,7 +37,7 @@ AtMost limit Wrong = Unit {0}
 -- the identifier lies in the n bytes of a line, and the numbers are at most their limits
 abbrev pub Within : ℕ → Parsed → Type 0
 Within n (Open b1 b2) = (b1 ≤ mostBuckets) × (b2 ≤ mostBuckets)
-Within n (Ask k start end plan) = (start ≤ end) × (end ≤ n) × (plan ≤ mostPlan)
+Within n (Ask v start end plan) = (start ≤ end) × (end ≤ n) × (plan ≤ mostPlan)
 Within n Bad = Unit {0}
 
 -- `open` with what its two fields say
@@ -47,6 +47,6 @@ openForm (Of b1) Wrong = Bad
 openForm Wrong n = Bad
 
 -- `add` or `set` with what its last field says
-abbrev pub askForm : Kind → ℕ → ℕ → Number → Parsed
-askForm k start end (Of p) = Ask k start end p
-askForm k start end Wrong = Bad
+abbrev pub askForm : Verb → ℕ → ℕ → Number → Parsed
+askForm v start end (Of p) = Ask v start end p
+askForm v start end Wrong = Bad

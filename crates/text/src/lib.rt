@@ -1,9 +1,9 @@
 // The line program's text: decimal numbers, the fields of a line, answers printed.
 // Definitions: specs/Decimal.antt, specs/Line.antt (what a line asks for), specs/Printed.antt (what is printed for one line);
 // specs/Parsed.antt has the forms that the code gives a line.
-// Laws: proofs/Decimal.antt (a number that is read is at most its limit), proofs/Parted.antt (the parts between single bytes),
-// proofs/Printed.antt (the longest line that is printed).
-// Cites codec, answer and model (the calls that a line asks for). session and probe cite it.
+// Laws: proofs/Exact.antt (a field is read as a number exactly if it is its decimal, not above the limit), proofs/Parted.antt (the parts
+// between single bytes), proofs/Printed.antt (the longest line that is printed).
+// Cites lists, codec, answer and model (the calls that a line asks for). session and probe cite it.
 use answer::Answer;
 ghost use mathlib.Core.Path.{_≡_};
 ghost use Prim.Native.Nat.{_+_, _^_, _≤_, _<_};
@@ -11,7 +11,7 @@ ghost use mathlib.Core.List.{_∷_, [], _++_};
 ghost use lib.ListN.{length, take, drop};
 ghost use Rattle.codec.specs.Parts.{written};
 ghost use Rattle.text.specs.Decimal.{grown, numberTo, digitOf, decimal};
-ghost use Rattle.text.specs.Line.{lf, placeOf, ofTwo, ofThree, commandOf};
+ghost use Rattle.text.specs.Line.{lf, mostBuckets, placeOf, ofTwo, ofThree, commandOf};
 ghost use Rattle.text.specs.Parsed.{between, meant, Within, openForm, askForm};
 ghost use Rattle.text.specs.Printed.{badLine, printed};
 
@@ -22,8 +22,8 @@ pub enum Number {
     Wrong,
 }
 
-// Which call a line asks for.
-pub enum Kind {
+// Which call a line asks for: its first word.
+pub enum Verb {
     Add,
     Set,
     Del,
@@ -34,7 +34,7 @@ pub enum Kind {
 pub enum Parsed {
     Open(u64, u64),
     Ask {
-        kind: Kind,
+        verb: Verb,
         start: usize,
         end: usize,
         plan: u64,
@@ -42,23 +42,42 @@ pub enum Parsed {
     Bad,
 }
 
+impl Number {
+    // The digits of a 64-bit number, at most.
+    pub(crate) const MOST_DIGITS: usize = 20;
+
+    // The index of the last of them.
+    pub(crate) const LAST_DIGIT: usize = Self::MOST_DIGITS - 1;
+}
+
+impl Parsed {
+    // The largest B1 and B2.
+    pub(crate) const MOST_BUCKETS: u64 = 999;
+
+    // The largest PLAN.
+    pub(crate) const MOST_PLAN: u64 = 255;
+}
+
+// The longest line that is printed: `ok `, the digits of a number and LF.
+pub const MOST_PRINTED: usize = 3 + Number::MOST_DIGITS + 1;
+
 // One digit more.
 pub(crate) fn push_digit(n: u64, b: u8) -> u64
-    requires { ⌜ (n ≤ 999) × (48 ≤ b) ⌝ }
+    requires { ⌜ (n ≤ mostBuckets) × (digitOf 0 ≤ b) ⌝ }
     ensures { λ r. ⌜ r ≡ grown n b ⌝ }
 {
-    10 * n + (b - 48) as u64
+    10 * n + (b - b'0') as u64
 }
 
 // The number that the field says, to limit.
 pub(crate) fn read_number(s: &[u8], limit: u64) -> Number
-    requires { ⌜ limit ≤ 999 ⌝ }
+    requires { ⌜ limit ≤ mostBuckets ⌝ }
     ensures { λ r. ⌜ r ≡ numberTo limit (now (s .entry)) ⌝ }
 {
     if s.len() == 0 {
         return Number::Wrong;
     }
-    if s[0] == 48 {
+    if s[0] == b'0' {
         if s.len() == 1 {
             return Number::Of(0);
         }
@@ -68,10 +87,10 @@ pub(crate) fn read_number(s: &[u8], limit: u64) -> Number
     let mut i: usize = 0;
     while i < s.len() {
         let b = s[i];
-        if b < 48 {
+        if b < b'0' {
             return Number::Wrong;
         }
-        if 57 < b {
+        if b'9' < b {
             return Number::Wrong;
         }
         n = push_digit(n, b);
@@ -96,9 +115,9 @@ pub(crate) fn put_decimal(out: &mut [u8], at: usize, x: u64) -> usize
     requires { ⌜ at < 2 ^ 32 ⌝ }
     ensures { λ r. ⌜ (r ≡ at + length (decimal x)) × (now (out .exit) ≡ written at (decimal x) (now (out .entry))) ⌝ }
 {
-    let mut digits = [0u8; 20];
+    let mut digits = [0u8; Number::MOST_DIGITS];
     let mut left = x;
-    let mut i: usize = 19;
+    let mut i: usize = Number::LAST_DIGIT;
     while 10 <= left {
         digits[i] = digit(left % 10);
         left = left / 10;
@@ -106,7 +125,7 @@ pub(crate) fn put_decimal(out: &mut [u8], at: usize, x: u64) -> usize
     }
     digits[i] = digit(left);
     codec::put_bytes(out, at, &digits[i..]);
-    at + (20 - i)
+    at + (Number::MOST_DIGITS - i)
 }
 
 // The index of the first b from index a on, or the length if there is none.
@@ -138,12 +157,12 @@ pub(crate) fn open_form(x: Number, y: Number) -> Parsed
 }
 
 // `add` or `set` with what its last field says.
-pub(crate) fn ask_form(kind: Kind, start: usize, end: usize, x: Number) -> Parsed
-    ensures { λ r. ⌜ r ≡ askForm kind start end x ⌝ }
+pub(crate) fn ask_form(verb: Verb, start: usize, end: usize, x: Number) -> Parsed
+    ensures { λ r. ⌜ r ≡ askForm verb start end x ⌝ }
 {
     match x {
         Number::Of(plan) => Parsed::Ask {
-            kind,
+            verb,
             start,
             end,
             plan,
@@ -162,7 +181,7 @@ pub(crate) fn two_fields(s: &[u8], a: usize) -> Parsed
     let word = &s[..a];
     if codec::same(word, b"del") {
         return Parsed::Ask {
-            kind: Kind::Del,
+            verb: Verb::Del,
             start,
             end,
             plan: 0,
@@ -170,7 +189,7 @@ pub(crate) fn two_fields(s: &[u8], a: usize) -> Parsed
     }
     if codec::same(word, b"get") {
         return Parsed::Ask {
-            kind: Kind::Get,
+            verb: Verb::Get,
             start,
             end,
             plan: 0,
@@ -189,13 +208,16 @@ pub(crate) fn three_fields(s: &[u8], a: usize, b: usize) -> Parsed
     let word = &s[..a];
     let last = &s[next..];
     if codec::same(word, b"open") {
-        return open_form(read_number(&s[start..b], 999), read_number(last, 999));
+        return open_form(
+            read_number(&s[start..b], Parsed::MOST_BUCKETS),
+            read_number(last, Parsed::MOST_BUCKETS),
+        );
     }
     if codec::same(word, b"add") {
-        return ask_form(Kind::Add, start, b, read_number(last, 255));
+        return ask_form(Verb::Add, start, b, read_number(last, Parsed::MOST_PLAN));
     }
     if codec::same(word, b"set") {
-        return ask_form(Kind::Set, start, b, read_number(last, 255));
+        return ask_form(Verb::Set, start, b, read_number(last, Parsed::MOST_PLAN));
     }
     Parsed::Bad
 }
@@ -204,15 +226,15 @@ pub(crate) fn three_fields(s: &[u8], a: usize, b: usize) -> Parsed
 pub fn parse(s: &[u8]) -> Parsed
     ensures { λ r. ⌜ (meant (now (s .entry)) r ≡ commandOf (now (s .entry))) × Within (length (now (s .entry))) r ⌝ }
 {
-    let a = place(s, 32, 0);
+    let a = place(s, b' ', 0);
     if s.len() <= a {
         return Parsed::Bad;
     }
-    let b = place(s, 32, a + 1);
+    let b = place(s, b' ', a + 1);
     if s.len() <= b {
         return two_fields(s, a);
     }
-    if place(s, 32, b + 1) < s.len() {
+    if place(s, b' ', b + 1) < s.len() {
         return Parsed::Bad;
     }
     three_fields(s, a, b)

@@ -2,6 +2,7 @@
 -- Assumes nothing.
 use mathlib.Core.Path.{sym}
 use lib.Seq.{length-take-le}
+use Rattle.session.proofs.Running.{run-most}
 use borrow.Author.Needs.{needs}
 use Rattle.lines.proofs.write_output.Statement.{statement}
 use Rattle.lines.proofs.write_output.Tie as tie
@@ -16,16 +17,28 @@ run-requires : tie.Need-run-requires
 run-requires c κs = search needs
 
 array-share-prefix-out : tie.Need-array-share-prefix-out
-array-share-prefix-out c = search needs
+array-share-prefix-out c = let m = run-most _ _ (c .before .run .ensures .fits) in search needs
 
 slice-aggregate-write-all : tie.Need-slice-aggregate-write-all
-slice-aggregate-write-all c = let r = c .before .before .run in sym (length-take-le (r .result) (r .last .1 .0) (search needs))
+slice-aggregate-write-all c =
+    let r = c .before .before .run in
+    let m = run-most _ _ (r .ensures .fits) in
+    sym (length-take-le (r .result) (r .last .1 .0) (search needs))
 
 write-all-requires : tie.Need-write-all-requires
 write-all-requires c κs = search needs
 
+slice-aggregate-write-all-2 : tie.Need-slice-aggregate-write-all-2
+slice-aggregate-write-all-2 c = search needs
+
+write-all-requires-2 : tie.Need-write-all-requires-2
+write-all-requires-2 c κs = search needs
+
 returns : tie.Need-returns
 returns c = search needs
+
+returns-2 : tie.Need-returns-2
+returns-2 c = search needs
 
 pub write-output-spec : {M : Type 1} → statement M
 write-output-spec =
@@ -37,4 +50,7 @@ write-output-spec =
     array-share-prefix-out
     slice-aggregate-write-all
     write-all-requires
-    returns)
+    slice-aggregate-write-all-2
+    write-all-requires-2
+    returns
+    returns-2)

@@ -15,7 +15,7 @@ enum-told c = search needs
 returns : tie.Need-returns
 returns c =
     let args = c .before .before .before .args in
-    sym (ap (askForm (args .kind) (args .start) (args .end)) (c .before .x .given .1))
+    sym (ap (askForm (args .verb) (args .start) (args .end)) (c .before .x .given .1))
 
 returns-2 : tie.Need-returns-2
 returns-2 c = search needs
