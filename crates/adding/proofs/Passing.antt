@@ -203,9 +203,9 @@ module _ (n r : ℕ) (S : ℕ → ℕ) (t : List ℕ) (h : FlatKept n r t) (es :
     }
 
 -- the draft starts as the table
-pub from-draft : (n r : ℕ) (S : ℕ → ℕ) (es : List Entry) (t d₀ d : List ℕ) (done b : Bool) → d₀ ≡ t → done ≡ b
-    → Drafted n r (allToSecond n r S (tableFrom n r d₀) es) done d → Drafted n r (allToSecond n r S (tableFrom n r t) es) b d
-from-draft n r S es t d₀ d done b q y c = subst₂ (λ (l : List ℕ) (x : Bool). Drafted n r (allToSecond n r S (tableFrom n r l) es) x d) q y c
+pub from-draft : (n r : ℕ) (S : ℕ → ℕ) (es : List Entry) (t d₀ d : List ℕ) (done b : Bool) → Drafted n r (allToSecond n r S (tableFrom n r d₀) es) done d → done ≡ b
+    → d₀ ≡ t → Drafted n r (allToSecond n r S (tableFrom n r t) es) b d
+from-draft n r S es t d₀ d done b c y q = subst₂ (λ (l : List ℕ) (x : Bool). Drafted n r (allToSecond n r S (tableFrom n r l) es) x d) q y c
 
 pub not-drafted : (n r : ℕ) (t : List ℕ) (U : Table) (d : List ℕ) → Drafted n r U false d → Passed n r t U false t
 not-drafted n r t U d c = record { says = c .says; kept = c .kept; table = refl }

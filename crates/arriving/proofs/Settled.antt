@@ -1,20 +1,21 @@
 -- What the code finds in a settled bucket is what an arrival leaves. At every number n of rows and r of solution words, and for every mix S.
 -- Assumes nothing.
-use Prim.Native.Nat.{ℕ, zero, suc, _+_, _^_, _≤_, _<_}
+use Prim.Native.Nat.{ℕ, zero, suc, _+_, _-_, _^_, _≤_, _<_}
 use native.Mathlib.Nat.{not-suc-le-zero}
 use native.Mathlib.Omega.{arith}
 use mathlib.Core.Path.{_≡_, refl, sym, ap, ap₂, _∙_, subst, subst⁻¹}
-use mathlib.Core.Bool.{Bool, true, false, _&&_, true≢false}
-use mathlib.Core.List.{List, []}
+use mathlib.Core.Bool.{Bool, true, false, cond, _&&_, true≢false}
+use mathlib.Core.List.{List, [], _++_}
 use lib.Dec.{ltb}
-use lib.ListN.{length, getD, drop}
+use lib.ListN.{length, getD, take, drop}
+use borrow.Rule.Slice.PartMut.{midOf, putMid, post-is, put-same}
 use borrow.Author.Tests.{le-leb, lt-leb, lt-ltb, le-ltb, ltb-true}
 use Rattle.lists.specs.Entries.{Entry, insertAll}
 use Rattle.lists.proofs.Tests.{cond-true, cond-false, and-one, and-two, and-both, and-false}
 use Rattle.bucket.specs.declared.Bucket.{Bucket}
 use Rattle.bucket.specs.declared.Tried.{Tried}
 use Rattle.bucket.specs.Bucket.{add}
-use Rattle.bucket_words.specs.Words.{bucketFrom}
+use Rattle.bucket_words.specs.Words.{bucketWords, wordsOf, bucketFrom}
 use Rattle.settle.specs.declared.Settled.{Settled}
 use Rattle.settle.specs.Settle.{SoundBucket, Settlement, settle}
 use Rattle.settle.specs.Outgoing.{outgoing, settledOf}
@@ -22,7 +23,8 @@ use Rattle.settle.proofs.Sound.{settle-sound, settle-few}
 use Rattle.model.specs.Model.{baseLimit}
 use Rattle.concrete.specs.Table.{Table, thr, index, put, bucketOf, arriveAt}
 use Rattle.concrete.specs.Layout.{numbersOf, bucketPlace, tableFrom}
-use Rattle.arriving.specs.Arrival.{entriesOf, settledAt, storedAt, goesIn, withSecond, withBase, toSecond, Straight, Passed, Kept, FlatKept}
+use Rattle.concrete.proofs.Numbers.{from-part}
+use Rattle.arriving.specs.Arrival.{entriesOf, settledAt, storedAt, goesIn, addedIn, withSecond, withBase, toSecond, Straight, Passed, Kept, FlatKept}
 use Rattle.arriving.proofs.Tables.{count0, second-here, second-sound, second-stored, second-kept, numbers-table, numbers-kept}
 use Rattle.arriving.proofs.Arrival.{entries-back, insert-all-length, to-second-kept}
 
@@ -33,36 +35,59 @@ module _ (n : ℕ) (thr : ℕ → ℕ) (e : Entry) (b : Bucket) where
   settle-straight zero h d = absurd (not-suc-le-zero h)
   settle-straight (suc t) h d = cond-true _ _ (lt-ltb (thr (e .word)) (suc t) h) ∙ cond-true _ _ d
 
-module _ (n r : ℕ) (thr : ℕ → ℕ) (at : ℕ) (e : Entry) (t : List ℕ) where
-  goes-as : (b : Bucket) {c : Bool} → b ≡ bucketFrom n r (drop at t) → (ltb (thr (e .word)) (b .bound) && add n (e .word) (e .plan) b .done) ≡ c → goesIn n r thr at e t ≡ c
+module _ (n r : ℕ) (thr : ℕ → ℕ) (e : Entry) (xs : List ℕ) where
+  -- what the bucket step does on the stretch xs, where it says done and leaves ys
+  abbrev pub Step : Bool → List ℕ → Type 0
+  Step done ys = (done ≡ goesIn n r thr e xs) × (ys ≡ cond done (addedIn n r e xs) xs)
+
+  goes-as : (b : Bucket) {c : Bool} → b ≡ bucketFrom n r xs → (ltb (thr (e .word)) (b .bound) && add n (e .word) (e .plan) b .done) ≡ c → goesIn n r thr e xs ≡ c
   goes-as b {c} q g = subst (λ (b : Bucket). (ltb (thr (e .word)) (b .bound) && add n (e .word) (e .plan) b .done) ≡ c) q g
 
-  -- so it settles there, and no word leaves
-  goes-settled : goesIn n r thr at e t ≡ true → settledAt n r thr at e t ≡ record { bucket = add n (e .word) (e .plan) (bucketFrom n r (drop at t)) .bucket; out = [] }
+  -- the bucket b is read, x is the threshold, a the add, ys the stretch once its bucket is stored
+  pub step-in : (b : Bucket) (x : ℕ) (a : Tried) (ys : List ℕ) → b ≡ bucketFrom n r xs → x ≡ thr (e .word) → x < b .bound → a ≡ add n (e .word) (e .plan) b → a .done ≡ true
+      → ys ≡ wordsOf (a .bucket) → Step true ys
+  step-in b x a ys q y h p d w = (
+    sym (goes-as b q (and-both (lt-ltb (thr (e .word)) (b .bound) (subst (λ (k : ℕ). k < b .bound) y h)) (ap (λ (z : Tried). z .done) (sym p) ∙ d))),
+    w ∙ ap (λ (z : Tried). wordsOf (z .bucket)) p ∙ ap (λ (c : Bucket). wordsOf (add n (e .word) (e .plan) c .bucket)) q,
+  )
+
+  -- it does not go in: the threshold is not below the bound, or it depends
+  pub step-past : (b : Bucket) (x : ℕ) → b ≡ bucketFrom n r xs → x ≡ thr (e .word) → b .bound ≤ x → Step false xs
+  step-past b x q y h = (sym (goes-as b q (ap (λ (c : Bool). c && add n (e .word) (e .plan) b .done) (le-ltb (thr (e .word)) (b .bound) (subst (λ (k : ℕ). b .bound ≤ k) y h)))), refl)
+
+  pub step-depends : (b : Bucket) (a : Tried) → b ≡ bucketFrom n r xs → a ≡ add n (e .word) (e .plan) b → a .done ≡ false → Step false xs
+  step-depends b a q p d = (sym (goes-as b q (ap (λ (c : Bool). ltb (thr (e .word)) (b .bound) && c) (ap (λ (z : Tried). z .done) (sym p) ∙ d) ∙ and-false (ltb (thr (e .word)) (b .bound)))), refl)
+
+module _ (n r : ℕ) (thr : ℕ → ℕ) (at : ℕ) (e : Entry) (t : List ℕ) where
+  -- where it goes in it settles there, and no word leaves
+  goes-settled : goesIn n r thr e (drop at t) ≡ true → settledAt n r thr at e t ≡ record { bucket = add n (e .word) (e .plan) (bucketFrom n r (drop at t)) .bucket; out = [] }
   goes-settled g =
       let b : Bucket = bucketFrom n r (drop at t) in
       settle-straight n thr e b (b .bound) (ltb-true (thr (e .word)) (b .bound) (and-one (ltb (thr (e .word)) (b .bound)) _ g)) (and-two (ltb (thr (e .word)) (b .bound)) _ g)
 
-  -- the bucket b is read, x is the threshold, a the add, u the table once its bucket is stored
-  pub straight-in : (b : Bucket) (x : ℕ) (a : Tried) (u : List ℕ) → b ≡ bucketFrom n r (drop at t) → x ≡ thr (e .word) → x < b .bound → a ≡ add n (e .word) (e .plan) b → a .done ≡ true
-      → u ≡ storedAt n r at (a .bucket) t → Straight n r thr at e t true u
-  straight-in b x a u q y h p d w =
-      let g : goesIn n r thr at e t ≡ true = goes-as b q (and-both (lt-ltb (thr (e .word)) (b .bound) (subst (λ (k : ℕ). k < b .bound) y h)) (ap (λ (z : Tried). z .done) (sym p) ∙ d)) in
-      let s : a .bucket ≡ settledAt n r thr at e t .bucket =
-      ap (λ (z : Tried). z .bucket) p ∙ ap (λ (c : Bucket). add n (e .word) (e .plan) c .bucket) q ∙ sym (ap (λ (z : Settlement). z .bucket) (goes-settled g)) in
-      record { says = sym g; table = w ∙ ap (λ (c : Bucket). storedAt n r at c t) s }
+  -- ---- the bucket step on the stretch that is lent
 
-  -- it does not go in: the threshold is not below the bound, or it depends
-  pub straight-past : (b : Bucket) (x : ℕ) → b ≡ bucketFrom n r (drop at t) → x ≡ thr (e .word) → b .bound ≤ x → Straight n r thr at e t false t
-  straight-past b x q y h =
-      record { says = sym (goes-as b q (ap (λ (c : Bool). c && add n (e .word) (e .plan) b .done) (le-ltb (thr (e .word)) (b .bound) (subst (λ (k : ℕ). b .bound ≤ k) y h)))); table = refl }
+  abbrev k : ℕ
+  k = at + bucketWords n r - at
 
-  pub straight-depends : (b : Bucket) (a : Tried) → b ≡ bucketFrom n r (drop at t) → a ≡ add n (e .word) (e .plan) b → a .done ≡ false → Straight n r thr at e t false t
-  straight-depends b a q p d =
-      record {
-        says = sym (goes-as b q (ap (λ (c : Bool). ltb (thr (e .word)) (b .bound) && c) (ap (λ (z : Tried). z .done) (sym p) ∙ d) ∙ and-false (ltb (thr (e .word)) (b .bound))));
-        table = refl;
-      }
+  abbrev part : List ℕ
+  part = midOf at k t
+
+  part-bucket : bucketFrom n r part ≡ bucketFrom n r (drop at t)
+  part-bucket = let q : k ≡ bucketWords n r = omega arith in ap (λ (j : ℕ). bucketFrom n r (take j (drop at t))) q ∙ from-part n r (drop at t)
+
+  -- it is put back where it was lent
+  put-back : (done : Bool) (ys : List ℕ) → done ≡ goesIn n r thr e (drop at t) → ys ≡ cond done (addedIn n r e part) part → putMid at k t ys ≡ cond done (storedAt n r at (settledAt n r thr at e t .bucket) t) t
+  put-back true ys g w =
+      ap₂ (λ (zs us : List ℕ). take at t ++ (zs ++ us))
+      (w ∙ ap (λ (b : Bucket). wordsOf (add n (e .word) (e .plan) b .bucket)) part-bucket ∙ sym (ap (λ (z : Settlement). wordsOf (z .bucket)) (goes-settled (sym g))))
+      (post-is at (at + bucketWords n r) t (omega arith))
+  put-back false ys g w = ap (putMid at k t) w ∙ put-same at k t
+
+  pub straight-at : (done : Bool) (ys : List ℕ) → Step n r thr e part done ys → Straight n r thr at e t done (putMid at k t ys)
+  straight-at done ys h =
+      let g : done ≡ goesIn n r thr e (drop at t) = h .0 ∙ ap (λ (b : Bucket). ltb (thr (e .word)) (b .bound) && add n (e .word) (e .plan) b .done) part-bucket in
+      record { says = g; table = put-back done ys g (h .1) }
 
   pub straight-as : {done b : Bool} {u : List ℕ} → done ≡ b → Straight n r thr at e t done u → Straight n r thr at e t b u
   straight-as {u = u} y g = subst (λ (x : Bool). Straight n r thr at e t x u) y g

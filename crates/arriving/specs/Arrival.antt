@@ -35,13 +35,17 @@ module _ (n r : ℕ) where
   abbrev pub storedAt : ℕ → Bucket → List ℕ → List ℕ
   storedAt at b t = take at t ++ (wordsOf b ++ drop (at + bucketWords n r) t)
 
-  -- e goes straight into the bucket at a place: its threshold is below the bound, and it does not depend there
-  abbrev pub goesIn : (ℕ → ℕ) → ℕ → Entry → List ℕ → Bool
-  goesIn thr at e t = let b : Bucket = bucketFrom n r (drop at t) in ltb (thr (e .word)) (b .bound) && add n (e .word) (e .plan) b .done
+  -- e goes straight into the bucket of a stretch xs: its threshold is below the bound, and it does not depend there
+  abbrev pub goesIn : (ℕ → ℕ) → Entry → List ℕ → Bool
+  goesIn thr e xs = let b : Bucket = bucketFrom n r xs in ltb (thr (e .word)) (b .bound) && add n (e .word) (e .plan) b .done
+
+  -- the stretch then: e is added to its bucket
+  abbrev pub addedIn : Entry → List ℕ → List ℕ
+  addedIn e xs = wordsOf (add n (e .word) (e .plan) (bucketFrom n r xs) .bucket)
 
   -- e went into the bucket at a place, if it goes straight in; else the numbers t stay as they were
   pub record Straight (thr : ℕ → ℕ) (at : ℕ) (e : Entry) (t : List ℕ) (done : Bool) (after : List ℕ) : Type 0 where
-    pub says : done ≡ goesIn thr at e t
+    pub says : done ≡ goesIn thr e (drop at t)
     pub table : after ≡ cond done (storedAt at (settledAt thr at e t .bucket) t) t
 
 -- the table with these buckets at level 2

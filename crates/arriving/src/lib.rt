@@ -10,6 +10,7 @@ use layout::Table;
 use settle::Outgoing;
 use settle::Settled;
 ghost use mathlib.Core.Path.{_≡_};
+ghost use mathlib.Core.Bool.{cond};
 ghost use Prim.Native.Nat.{_+_, _≤_};
 ghost use lib.ListN.{length, getD, drop};
 ghost use Rattle.lists.specs.Entries.{insertAll};
@@ -21,7 +22,7 @@ ghost use Rattle.model.specs.Model.{baseLimit};
 ghost use Rattle.concrete.specs.Layout.{pairsFrom, basePairs, numbersOf};
 ghost use Rattle.concrete.specs.Calls.{rows, solutions, tableOf};
 ghost use Rattle.base.specs.Base.{Pairs};
-ghost use Rattle.arriving.specs.Arrival.{entriesOf, settledAt, storedAt, withBase, toSecond, Straight, Passed, FlatKept};
+ghost use Rattle.arriving.specs.Arrival.{entriesOf, settledAt, storedAt, goesIn, addedIn, withBase, toSecond, Straight, Passed, FlatKept};
 
 // v with its plan settles in the bucket at a place. Nothing is written.
 pub fn settled_at(t: &[u64], at: usize, v: u64, plan: u64) -> Settled
@@ -40,22 +41,32 @@ pub fn store_at(t: &mut [u64], at: usize, b: Bucket)
     bucket_words::store(&mut t[at..end], b);
 }
 
-// The word v goes straight into the bucket at a place, where its threshold is below the bound and it does not depend. False if not: then
+// The bucket step of an add, on the stretch of one bucket: v goes in, where its threshold is below the bound and it does not depend.
+// False if not: then nothing is written.
+pub(crate) fn add_in(part: &mut [u64], v: u64, plan: u64) -> bool
+    requires { do ⌜ length (now part) ≡ (← ⟦Bucket::WORDS⟧) ⌝ }
+    ensures { λ r. ⌜ (r ≡ goesIn rows solutions thresholdOf (record { word = v; plan = plan }) (now (part .entry))) × (now (part .exit) ≡ cond r (addedIn rows solutions (record { word = v; plan = plan }) (now (part .entry))) (now (part .entry))) ⌝ }
+{
+    let b = bucket_words::load(part);
+    if identifier::threshold(v) < b.bound {
+        let tried = b.add(v, plan);
+        if tried.done {
+            let next = tried.bucket;
+            bucket_words::store(part, next);
+            return true;
+        }
+    }
+    false
+}
+
+// The word v goes straight into the bucket at a place, whose stretch alone is lent to the bucket step. False if it does not go in: then
 // nothing is written.
 pub fn put_straight(t: &mut [u64], at: usize, v: u64, plan: u64) -> bool
     requires { do ⌜ at + (← ⟦Bucket::WORDS⟧) ≤ length (now t) ⌝ }
     ensures { λ r. ⌜ Straight rows solutions thresholdOf at (record { word = v; plan = plan }) (now (t .entry)) r (now (t .exit)) ⌝ }
 {
-    let b = layout::bucket_at(t, at);
-    if identifier::threshold(v) < b.bound {
-        let tried = b.add(v, plan);
-        if tried.done {
-            let next = tried.bucket;
-            store_at(t, at, next);
-            return true;
-        }
-    }
-    false
+    let end = at + Bucket::WORDS;
+    add_in(&mut t[at..end], v, plan)
 }
 
 // The words into the base list, one after the other.

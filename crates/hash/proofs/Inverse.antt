@@ -7,7 +7,7 @@ use lib.Bits.{bitXor, xor-shr, xor-lt, xor-zero-r}
 use lib.Dec.{lit≤}
 use lib.Pow.{pow-pos, pow-mono, shr-lt, shr-le}
 use Rattle.gf2.proofs.Bit.{xor-out, xor-4}
-use Rattle.hash.specs.Mix.{addMod, mulMod, xorShift, unXorShift, mixOf, unmixOf}
+use Rattle.hash.specs.Mix.{addMod, mulMod, xorShift, summand, factor₁, factor₂, mixOf, unXorShift, unSummand, unFactor₁, unFactor₂, unmixOf}
 use Rattle.hash.proofs.Product.{mod-mul-mod}
 
 -- ---- XOR with a shift
@@ -85,22 +85,22 @@ shift-undone w s k l = record { undo = λ x h. un-shift s k x (lt-of-lt-of-le h 
 un-shift-undone : (w s k : ℕ) → w ≤ span s k → Undoes w (xorShift s) (unXorShift s k)
 un-shift-undone w s k l = record { undo = λ x h. shift-un s k x (lt-of-lt-of-le h (pow-mono l)); keeps = un-shift-lt w s k }
 
--- each fourth number is the quotient of the computed product of a factor and its inverse by 2^64
+-- the number after a factor and its inverse is the quotient of their computed product by 2^64
 pub mix-undone : Undoes 64 unmixOf mixOf
 unfolding mixOf unmixOf
 mix-undone =
-    then (add-undone 64 0x9e3779b97f4a7c15 0x61c8864680b583eb refl)
+    then (add-undone 64 summand unSummand refl)
     (then (shift-undone 64 30 2 (lit≤ tt))
-    (then (mul-undone 64 0xbf58476d1ce4e5b9 0x96de1b173f119089 0x70c3bca78f27f46c refl)
-    (then (shift-undone 64 27 2 (lit≤ tt)) (then (mul-undone 64 0x94d049bb133111eb 0x319642b2d24d8ec3 0x1cd336eda85f1453 refl) (shift-undone 64 31 2 (lit≤ tt))))))
+    (then (mul-undone 64 factor₁ unFactor₁ 0x70c3bca78f27f46c refl)
+    (then (shift-undone 64 27 2 (lit≤ tt)) (then (mul-undone 64 factor₂ unFactor₂ 0x1cd336eda85f1453 refl) (shift-undone 64 31 2 (lit≤ tt))))))
 
 pub unmix-undone : Undoes 64 mixOf unmixOf
 unfolding mixOf unmixOf
 unmix-undone =
     then (un-shift-undone 64 31 2 (lit≤ tt))
-    (then (mul-undone 64 0x319642b2d24d8ec3 0x94d049bb133111eb 0x1cd336eda85f1453 refl)
+    (then (mul-undone 64 unFactor₂ factor₂ 0x1cd336eda85f1453 refl)
     (then (un-shift-undone 64 27 2 (lit≤ tt))
-    (then (mul-undone 64 0x96de1b173f119089 0xbf58476d1ce4e5b9 0x70c3bca78f27f46c refl) (then (un-shift-undone 64 30 2 (lit≤ tt)) (add-undone 64 0x61c8864680b583eb 0x9e3779b97f4a7c15 refl)))))
+    (then (mul-undone 64 unFactor₁ factor₁ 0x70c3bca78f27f46c refl) (then (un-shift-undone 64 30 2 (lit≤ tt)) (add-undone 64 unSummand summand refl)))))
 
 -- S and its inverse give numbers below 2^64, of whatever number
 pub mix-lt : (n : ℕ) → mixOf n < 2 ^ 64

@@ -13,67 +13,67 @@ ghost use Rattle.writing.specs.Write.{writeCall};
 pub extern "C" fn limgoshi_open(t: &mut [u64], b1: u64, b2: u64, value: &mut u64) -> u64
     ensures { λ r. ⌜ (r ≡ numberOf (openCall b1 b2 (now (t .entry)) .answer)) × (now (value .exit) ≡ valueOf (openCall b1 b2 (now (t .entry)) .answer)) × (now (t .exit) ≡ openCall b1 b2 (now (t .entry)) .table) ⌝ }
 {
-    let a = table::open(t, b1, b2);
-    *value = answer::value(a);
-    answer::number(a)
+    let opened = table::open(t, b1, b2);
+    *value = answer::value(opened);
+    answer::number(opened)
 }
 
 // Adds an identifier with its plan.
 #[no_mangle]
 pub extern "C" fn limgoshi_add(t: &mut [u64], id: &[u8], plan: u8, value: &mut u64) -> u64
-    ensures { λ r. ⌜ (r ≡ numberOf (call (now (t .entry)) (add (now (id .entry)) plan) .answer)) × (now (value .exit) ≡ valueOf (call (now (t .entry)) (add (now (id .entry)) plan) .answer)) × (now (t .exit) ≡ call (now (t .entry)) (add (now (id .entry)) plan) .table) ⌝ }
+    ensures { λ r. ⌜ (r ≡ numberOf (call (now (t .entry)) (add (now (id .entry)) plan) .answer)) × (now (value .exit) ≡ valueOf (call (now (t .entry)) (add (now (id .entry)) plan) .answer)) × (now (t .exit) ≡ call (now (t .entry)) (add (now (id .entry)) plan) .table) × (now (id .exit) ≡ now (id .entry)) ⌝ }
 {
-    let a = adding::add(t, id, plan);
-    *value = answer::value(a);
-    answer::number(a)
+    let added = adding::add(t, id, plan);
+    *value = answer::value(added);
+    answer::number(added)
 }
 
 // The plan of a live identifier.
 #[no_mangle]
 pub extern "C" fn limgoshi_query(t: &[u64], id: &[u8], value: &mut u64) -> u64
-    ensures { λ r. ⌜ (r ≡ numberOf (call (now (t .entry)) (query (now (id .entry))) .answer)) × (now (value .exit) ≡ valueOf (call (now (t .entry)) (query (now (id .entry))) .answer)) ⌝ }
+    ensures { λ r. ⌜ (r ≡ numberOf (call (now (t .entry)) (query (now (id .entry))) .answer)) × (now (value .exit) ≡ valueOf (call (now (t .entry)) (query (now (id .entry))) .answer)) × (now (t .exit) ≡ call (now (t .entry)) (query (now (id .entry))) .table) × (now (id .exit) ≡ now (id .entry)) ⌝ }
 {
-    let a = table::query(t, id);
-    *value = answer::value(a);
-    answer::number(a)
+    let found = table::query(t, id);
+    *value = answer::value(found);
+    answer::number(found)
 }
 
 // Changes the plan of a live identifier.
 #[no_mangle]
 pub extern "C" fn limgoshi_change(t: &mut [u64], id: &[u8], plan: u8, value: &mut u64) -> u64
-    ensures { λ r. ⌜ (r ≡ numberOf (call (now (t .entry)) (change (now (id .entry)) plan) .answer)) × (now (value .exit) ≡ valueOf (call (now (t .entry)) (change (now (id .entry)) plan) .answer)) × (now (t .exit) ≡ call (now (t .entry)) (change (now (id .entry)) plan) .table) ⌝ }
+    ensures { λ r. ⌜ (r ≡ numberOf (call (now (t .entry)) (change (now (id .entry)) plan) .answer)) × (now (value .exit) ≡ valueOf (call (now (t .entry)) (change (now (id .entry)) plan) .answer)) × (now (t .exit) ≡ call (now (t .entry)) (change (now (id .entry)) plan) .table) × (now (id .exit) ≡ now (id .entry)) ⌝ }
 {
-    let a = table::change(t, id, plan);
-    *value = answer::value(a);
-    answer::number(a)
+    let changed = table::change(t, id, plan);
+    *value = answer::value(changed);
+    answer::number(changed)
 }
 
 // Withdraws a live identifier.
 #[no_mangle]
 pub extern "C" fn limgoshi_withdraw(t: &mut [u64], id: &[u8], value: &mut u64) -> u64
-    ensures { λ r. ⌜ (r ≡ numberOf (call (now (t .entry)) (withdraw (now (id .entry))) .answer)) × (now (value .exit) ≡ valueOf (call (now (t .entry)) (withdraw (now (id .entry))) .answer)) × (now (t .exit) ≡ call (now (t .entry)) (withdraw (now (id .entry))) .table) ⌝ }
+    ensures { λ r. ⌜ (r ≡ numberOf (call (now (t .entry)) (withdraw (now (id .entry))) .answer)) × (now (value .exit) ≡ valueOf (call (now (t .entry)) (withdraw (now (id .entry))) .answer)) × (now (t .exit) ≡ call (now (t .entry)) (withdraw (now (id .entry))) .table) × (now (id .exit) ≡ now (id .entry)) ⌝ }
 {
-    let a = table::withdraw(t, id);
-    *value = answer::value(a);
-    answer::number(a)
+    let withdrawn = table::withdraw(t, id);
+    *value = answer::value(withdrawn);
+    answer::number(withdrawn)
 }
 
 // Writes the plane of a table to the front of the output.
 #[no_mangle]
 pub extern "C" fn limgoshi_write_plane(t: &[u64], out: &mut [u8], value: &mut u64) -> u64
-    ensures { λ r. ⌜ (r ≡ numberOf (writeCall (now (t .entry)) (now (out .entry)) .answer)) × (now (value .exit) ≡ valueOf (writeCall (now (t .entry)) (now (out .entry)) .answer)) × (now (out .exit) ≡ writeCall (now (t .entry)) (now (out .entry)) .output) ⌝ }
+    ensures { λ r. ⌜ (r ≡ numberOf (writeCall (now (t .entry)) (now (out .entry)) .answer)) × (now (value .exit) ≡ valueOf (writeCall (now (t .entry)) (now (out .entry)) .answer)) × (now (out .exit) ≡ writeCall (now (t .entry)) (now (out .entry)) .output) × (now (t .exit) ≡ now (t .entry)) ⌝ }
 {
-    let a = writing::write(t, out);
-    *value = answer::value(a);
-    answer::number(a)
+    let written = writing::write(t, out);
+    *value = answer::value(written);
+    answer::number(written)
 }
 
 // The plan that a plane gives an identifier.
 #[no_mangle]
 pub extern "C" fn limgoshi_plane_lookup(id: &[u8], plane: &[u8], value: &mut u64) -> u64
-    ensures { λ r. ⌜ (r ≡ numberOf (lookupCall (now (id .entry)) (now (plane .entry)))) × (now (value .exit) ≡ valueOf (lookupCall (now (id .entry)) (now (plane .entry)))) ⌝ }
+    ensures { λ r. ⌜ (r ≡ numberOf (lookupCall (now (id .entry)) (now (plane .entry)))) × (now (value .exit) ≡ valueOf (lookupCall (now (id .entry)) (now (plane .entry)))) × (now (id .exit) ≡ now (id .entry)) × (now (plane .exit) ≡ now (plane .entry)) ⌝ }
 {
-    let a = plane::lookup(id, plane);
-    *value = answer::value(a);
-    answer::number(a)
+    let looked_up = plane::lookup(id, plane);
+    *value = answer::value(looked_up);
+    answer::number(looked_up)
 }

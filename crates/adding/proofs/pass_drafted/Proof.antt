@@ -16,16 +16,30 @@ use Rattle.adding.proofs.pass_drafted.Tie as tie
 put-requires : tie.Need-put-requires
 put-requires c κs = search needs
 
-carry-requires : tie.Need-carry-requires
-carry-requires c κs = let s = c .before .before .before .before .before .before .before .before in (subst⁻¹ (FlatKept 64 8) (c .before .before .before .put .ensures) (s .pre .0), s .pre .1 .1)
-
 abbrev moved : tie.Start → List Entry
 moved s = seconds mixOf (s .args .out)
 
--- the words go on, as the draft shows
+carry-requires : tie.Need-carry-requires
+carry-requires c κs =
+    let s = c .before .before .before .before .before .before .before .before in
+    let kept = s .pre .0 in
+    let copied = subst⁻¹ (FlatKept 64 8) (c .before .before .before .put .ensures) kept in
+    (search needs, s .pre .1 .1)
+
+-- not done: the table is as it was
+returns-2 : tie.Need-returns-2
+returns-2 c =
+    let d = c .before .before .before in
+    let q = d .before .before .before .before .put .ensures in
+    not-drafted 64 8 _ _ _ (from-draft 64 8 mixOf (moved (d .before .before .before .before .before .before .before .before .before)) _ _ _ _ _ (d .carry .ensures) (c .if1 .left) (search needs))
+
+-- done: the words go on, as the draft shows
 on : (c : tie.Then1) → let s = c .before .before .before .before .before .before .before .before .before .before .before .before in
     Drafted 64 8 (allToSecond 64 8 mixOf (tableOf (s .args .t .now)) (moved s)) true (c .before .before .before .carry .last .0)
-on c = from-draft 64 8 mixOf (moved (c .before .before .before .before .before .before .before .before .before .before .before .before)) _ _ _ _ _ (c .before .before .before .before .before .before .before .put .ensures) (c .if1 .taken) (c .before .before .before .carry .ensures)
+on c =
+    let d = c .before .before .before in
+    let q = d .before .before .before .before .put .ensures in
+    from-draft 64 8 mixOf (moved (d .before .before .before .before .before .before .before .before .before)) _ _ _ _ _ (d .carry .ensures) (c .if1 .taken) (search needs)
 
 take-buckets-requires : tie.Need-take-buckets-requires
 take-buckets-requires c κs = let s = c .before .before .before .before .before .before .before .before .before .before .before .before .before .before in (draft-alike 64 8 mixOf _ (s .pre .0) (moved s) _ (on (c .before .before)), s .pre .1 .1)
@@ -53,9 +67,6 @@ same-length-3 c = search needs
 
 same-length-4 : tie.Need-same-length-4
 same-length-4 c = search needs
-
-returns-2 : tie.Need-returns-2
-returns-2 c = not-drafted 64 8 _ _ _ (from-draft 64 8 mixOf (moved (c .before .before .before .before .before .before .before .before .before .before .before .before)) _ _ _ _ _ (c .before .before .before .before .before .before .before .put .ensures) (c .if1 .left) (c .before .before .before .carry .ensures))
 
 pub pass-drafted-spec : {M : Type 1} → statement M
 pass-drafted-spec =

@@ -16,10 +16,6 @@ Inv-loop k plan own bucket₀ out₀ bucket out = Settling 64 8 65 thresholdOf (
 abbrev μ-loop : tie.MeasureT-loop
 μ-loop k plan own bucket₀ out₀ bucket out = bucket .bound
 
--- in a turn of the loop
-below : (c : tie.Then1 Inv-loop μ-loop) → thresholdOf (c .before .before .before .before .before .args .k) < c .before .before .loop .bucket .bound
-below c = let e = c .before .before .before .before .threshold .ensures in omega arith
-
 threshold-requires : tie.Need-threshold-requires Inv-loop μ-loop
 threshold-requires c κs = search needs
 
@@ -35,7 +31,14 @@ add-requires c κs = search needs
 returns : tie.Need-returns Inv-loop μ-loop
 returns c =
     let a = c .before .before in
-    ends-added _ _ _ _ _ (a .before .before .before .loop .inv) (below (a .before)) (a .add .ensures) (c .before .if2 .taken)
+    let l = a .before .before .before .loop in
+    let e = a .before .before .before .before .before .threshold .ensures in
+    let h : thresholdOf (a .before .before .before .before .before .before .args .k) < l .bucket .bound = omega arith in
+    ends-added _ _ _ _ _ (l .inv) h (a .add .ensures) (c .before .if2 .taken)
+
+-- in a turn of the loop
+below : (c : tie.Then1 Inv-loop μ-loop) → thresholdOf (c .before .before .before .before .before .args .k) < c .before .before .loop .bucket .bound
+below c = let e = c .before .before .before .before .threshold .ensures in omega arith
 
 sub-t : tie.Need-sub-t Inv-loop μ-loop
 sub-t c = search needs

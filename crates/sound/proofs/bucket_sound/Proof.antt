@@ -1,6 +1,8 @@
 -- `sound::bucket_sound` meets its contract.
 -- Assumes nothing.
 use mathlib.Core.Path.{sym, ap, _∙_}
+use Prim.Native.Nat.{_≤_, _<_}
+use native.Mathlib.Omega.{arith}
 use borrow.Author.Tests.{le-leb, lt-leb}
 use borrow.Author.Needs.{needs}
 use Rattle.bucket.specs.declared.Bucket.{Bucket}
@@ -19,7 +21,8 @@ returns c =
     let b = c .before .before in
     let a = b .before .before .args in
     let x = b .bucket-at .result in
-    sym (bucket-over rows (rowOf (a .t .now) (a .second) (a .m) (a .i) x) x (lt-leb _ _ (c .if1 .taken)))
+    let over : 8 < x .bound = omega (arith, c .if1 .taken) in
+    sym (bucket-over rows (rowOf (a .t .now) (a .second) (a .m) (a .i) x) x (lt-leb _ _ over))
     ∙ ap (λ (y : Bucket). bucketTest rows (rowOf (a .t .now) (a .second) (a .m) (a .i) y) y) (b .bucket-at .ensures)
 
 rows-of-requires : tie.Need-rows-of-requires
@@ -35,8 +38,9 @@ returns-2 c =
     let b = i .before .before in
     let a = b .before .before .args in
     let x = b .bucket-at .result in
+    let under : x .bound ≤ 8 = omega (arith, i .if1 .left) in
     c .rows-held .ensures
-    ∙ sym (bucket-rows rows (rowOf (a .t .now) (a .second) (a .m) (a .i) x) x (le-leb _ _ (i .if1 .left)) (r .rows-of .result) (r .rows-of .ensures) (c .before .before .if2 .taken))
+    ∙ sym (bucket-rows rows (rowOf (a .t .now) (a .second) (a .m) (a .i) x) x (le-leb _ _ under) (r .rows-of .result) (r .rows-of .ensures) (c .before .before .if2 .taken))
     ∙ ap (λ (y : Bucket). bucketTest rows (rowOf (a .t .now) (a .second) (a .m) (a .i) y) y) (b .bucket-at .ensures)
 
 returns-3 : tie.Need-returns-3
@@ -46,7 +50,8 @@ returns-3 c =
     let b = i .before .before in
     let a = b .before .before .args in
     let x = b .bucket-at .result in
-    sym (bucket-broken rows (rowOf (a .t .now) (a .second) (a .m) (a .i) x) x (le-leb _ _ (i .if1 .left)) (r .rows-of .result) (r .rows-of .ensures) (c .if2 .left))
+    let under : x .bound ≤ 8 = omega (arith, i .if1 .left) in
+    sym (bucket-broken rows (rowOf (a .t .now) (a .second) (a .m) (a .i) x) x (le-leb _ _ under) (r .rows-of .result) (r .rows-of .ensures) (c .if2 .left))
     ∙ ap (λ (y : Bucket). bucketTest rows (rowOf (a .t .now) (a .second) (a .m) (a .i) y) y) (b .bucket-at .ensures)
 
 pub bucket-sound-spec : {M : Type 1} → statement M

@@ -1,7 +1,7 @@
 -- `bucket::Bucket::row_of` meets its contract: each return by the tests that led there.
 -- Assumes nothing.
 use mathlib.Core.Path.{_≡_, _∙_}
-use Prim.Native.Nat.{_≤_}
+use Prim.Native.Nat.{_/_, _%_, _^_, _≤_}
 use lib.Count.{trailingZeros}
 use lib.ListN.{length}
 use borrow.Author.Needs.{needs}
@@ -28,7 +28,8 @@ returns : tie.Need-returns
 unfolding live rowOf
 returns c =
     let b = c .before .before .before .before in
-    rw (← b .before .product .ensures, ← b .lowest .ensures, eq-eqb _ _ (c .before .if2 .taken ∙ c .before .before .power .ensures), eq-eqb _ _ (c .if3 .taken))
+    let occupied : b .before .before .before .args .self .mark / 2 ^ b .lowest .result % 2 ≡ 1 = c .if3 .taken in
+    rw (← b .before .product .ensures, ← b .lowest .ensures, eq-eqb _ _ (c .before .if2 .taken ∙ c .before .before .power .ensures), eq-eqb _ _ occupied)
 
 returns-2 : tie.Need-returns-2
 unfolding live rowOf

@@ -2,7 +2,7 @@
 -- Assumes nothing.
 use borrow.Author.Needs.{needs}
 use mathlib.Core.Path.{_≡_, sym, ap, _∙_}
-use Prim.Native.Nat.{_≤_, _-_}
+use Prim.Native.Nat.{_≤_, _<_, _-_}
 use native.Mathlib.Numerals.{add-one}
 use native.Mathlib.Omega.{arith}
 use lib.ListN.{length, drop, getD, drop-of-length-le}
@@ -25,15 +25,19 @@ returns c = simp (lt-leb _ _ (c .if1 .taken))
 
 returns-2 : tie.Need-returns-2 Inv-loop μ-loop
 unfolding readOf
-returns-2 c = simp (le-leb _ _ (c .before .if1 .left), lt-leb _ _ (c .if2 .taken))
+returns-2 c =
+    let long : 20 < length (c .before .before .before .args .s .now) = omega arith in
+    simp (le-leb _ _ (c .before .if1 .left), lt-leb _ _ long)
 
 table-requires : tie.Need-table-requires Inv-loop μ-loop
 table-requires c κs = search needs
 
 loop-holds : tie.Need-loop-holds Inv-loop μ-loop
 loop-holds c =
-    let tested = c .before in
-    (search needs, scan-read (tested .before .before .before .args .s .now) (rw (le-leb _ _ (tested .before .if1 .left), le-leb _ _ (tested .if2 .left))))
+    let s = c .before .before .before .before .args .s .now in
+    let one : 1 ≤ length s = omega arith in
+    let few : length s ≤ 20 = omega arith in
+    (search needs, scan-read s (rw (le-leb _ _ one, le-leb _ _ few)))
 
 shared-slice-read-b : tie.Need-shared-slice-read-b Inv-loop μ-loop
 shared-slice-read-b c = search needs

@@ -1,0 +1,68 @@
+-- `arriving::add_in` meets its contract.
+-- Assumes nothing.
+use Rattle.lists.specs.Entries.{Entry}
+use Rattle.settle.specs.Settle.{thresholdOf}
+use Rattle.arriving.proofs.Settled.{step-in, step-past, step-depends}
+use borrow.Author.Needs.{needs}
+use Rattle.arriving.proofs.add_in.Statement.{statement}
+use Rattle.arriving.proofs.add_in.Tie as tie
+
+abbrev word : tie.Start → Entry
+word s = record { word = s .args .v; plan = s .args .plan }
+
+load-requires : tie.Need-load-requires
+load-requires c κs = search needs
+
+threshold-requires : tie.Need-threshold-requires
+threshold-requires c κs = search needs
+
+add-requires : tie.Need-add-requires
+add-requires c κs = search needs
+
+store-requires : tie.Need-store-requires
+store-requires c κs = search needs
+
+same-length : tie.Need-same-length
+same-length c = search needs
+
+returns : tie.Need-returns
+returns c =
+    let a = c .before .before .before .before .before .before in
+    let r = a .before .before .before .before in
+    let s = r .before .before .before in
+    step-in 64 8 thresholdOf (word s) (s .args .part .now) (r .load .result) _ (a .add .result) _
+    (r .load .ensures) (a .before .before .before .threshold .ensures) (a .before .if1 .taken) (a .add .ensures) (c .before .before .before .before .before .if2 .taken) (c .before .before .store .ensures)
+
+same-length-2 : tie.Need-same-length-2
+same-length-2 c = search needs
+
+returns-2 : tie.Need-returns-2
+returns-2 c =
+    let a = c .before in
+    let r = a .before .before .before .before in
+    let s = r .before .before .before in
+    step-depends 64 8 thresholdOf (word s) (s .args .part .now) (r .load .result) (a .add .result) (r .load .ensures) (a .add .ensures) (c .if2 .left)
+
+same-length-3 : tie.Need-same-length-3
+same-length-3 c = search needs
+
+returns-3 : tie.Need-returns-3
+returns-3 c =
+    let r = c .before .before .before in
+    let s = r .before .before .before in
+    step-past 64 8 thresholdOf (word s) (s .args .part .now) (r .load .result) _ (r .load .ensures) (c .before .before .threshold .ensures) (c .if1 .left)
+
+pub add-in-spec : {M : Type 1} → statement M
+add-in-spec =
+    tie.close
+    (tie.spec
+    load-requires
+    threshold-requires
+    add-requires
+    store-requires
+    same-length
+    returns
+    same-length-2
+    returns-2
+    same-length-3
+    returns-3)
