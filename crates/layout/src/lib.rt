@@ -41,8 +41,8 @@ impl Table {
 
     pub const BASE_NUMBERS: usize = 2 * (Self::BASE_ENTRIES as usize);
 
-    // A plan is at most this.
-    pub const MOST_PLAN: u64 = (1 << Bucket::SOLUTIONS) - 1;
+    // A plan is at most this: it is a byte, whatever number of solution words a bucket has.
+    pub const MOST_PLAN: u64 = 255;
 
     // The longest table.
     pub const LONGEST: usize = Self::HEADER
