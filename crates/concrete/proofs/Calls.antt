@@ -27,7 +27,7 @@ use Rattle.model.specs.Model.{baseLimit, State, Call, add, change, withdraw, qu
 use Rattle.model.specs.Request.{subject, askOf, serveRead, serve}
 use Rattle.concrete.specs.Table as T
 use Rattle.concrete.specs.Table.{Table}
-use Rattle.concrete.specs.Layout.{mostBuckets1, inRange, numbersOf, unusedIn, lengthOf}
+use Rattle.concrete.specs.Layout.{leading, buckets1At, buckets2At, mostBuckets1, inRange, numbersOf, unusedIn, lengthOf}
 use Rattle.concrete.specs.Content.{entriesOf}
 use Rattle.concrete.specs.Sound.{SoundLevel, SoundTable}
 use Rattle.concrete.specs.Test.{shapeTest}
@@ -74,17 +74,17 @@ match-test : (b : Bool) {o p : Outcome} {m q : M.Outcome} → (b ≡ true → Ma
 match-test true f g = f refl
 match-test false f g = g refl
 
-shape-range : (t : List ℕ) → shaped t ≡ true → inRange (getD t 0 0) (getD t 1 0) ≡ true
+shape-range : (t : List ℕ) → shaped t ≡ true → inRange (getD t buckets1At 0) (getD t buckets2At 0) ≡ true
 unfolding shapeTest
-shape-range t h = and-one (inRange (getD t 0 0) (getD t 1 0)) _ (and-two (leb 4 (length t)) _ h)
+shape-range t h = and-one (inRange (getD t buckets1At 0) (getD t buckets2At 0)) _ (and-two (leb leading (length t)) _ h)
 
-shape-size : (t : List ℕ) → shaped t ≡ true → length t ≡ lengthOf rows solutions (getD t 0 0) (getD t 1 0)
+shape-size : (t : List ℕ) → shaped t ≡ true → length t ≡ lengthOf rows solutions (getD t buckets1At 0) (getD t buckets2At 0)
 unfolding shapeTest
-shape-size t h = eqb-true _ _ (and-two (inRange (getD t 0 0) (getD t 1 0)) _ (and-two (leb 4 (length t)) _ h))
+shape-size t h = eqb-true _ _ (and-two (inRange (getD t buckets1At 0) (getD t buckets2At 0)) _ (and-two (leb leading (length t)) _ h))
 
-size-shape : (t : List ℕ) → inRange (getD t 0 0) (getD t 1 0) ≡ true → length t ≡ lengthOf rows solutions (getD t 0 0) (getD t 1 0) → shaped t ≡ true
+size-shape : (t : List ℕ) → inRange (getD t buckets1At 0) (getD t buckets2At 0) ≡ true → length t ≡ lengthOf rows solutions (getD t buckets1At 0) (getD t buckets2At 0) → shaped t ≡ true
 unfolding shapeTest
-size-shape t h e = and-both (le-leb 4 (length t) (omega (arith, e))) (and-both h (eq-eqb _ _ e))
+size-shape t h e = and-both (le-leb leading (length t) (omega (arith, e))) (and-both h (eq-eqb _ _ e))
 
 -- a table that stands for a state with bucket numbers in range, as numbers
 pub numbers-stand : (T : Table) (s : State) → Stands rows solutions mixOf T s → inRange (s .buckets1) (s .buckets2) ≡ true → FlatStands (numbersOf T) s
@@ -216,5 +216,5 @@ sound-laid t k h = record {
 -- the test says true exactly of sound tables
 pub sound-exactly : (t : List ℕ) → shaped t ≡ true → ((i : ℕ) → getD t i 0 < 2 ^ rows) → (sound t ≡ true) ↔ FlatSound t
 sound-exactly t k b =
-    let g = range-some (getD t 0 0) (getD t 1 0) (shape-range t k) in
+    let g = range-some (getD t buckets1At 0) (getD t buckets2At 0) (shape-range t k) in
     (test-sound rows solutions mixOf unmixOf t (shape-size t k) b (g .0) (g .1), sound-test rows solutions mixOf unmixOf t)

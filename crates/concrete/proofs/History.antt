@@ -34,7 +34,7 @@ use Rattle.model.proofs.Requests.{serve-each, serve-never}
 use Rattle.model.proofs.Statements as Model
 use Rattle.concrete.specs.Table as T
 use Rattle.concrete.specs.Table.{Table}
-use Rattle.concrete.specs.Layout.{inRange, numbersOf, tableFrom, lengthOf}
+use Rattle.concrete.specs.Layout.{liveCountAt, inRange, numbersOf, tableFrom, lengthOf}
 use Rattle.concrete.specs.Content.{entriesOf}
 use Rattle.concrete.specs.Calls.{rows, solutions, tableOf, planIn, shaped, sound, FlatSound, Outcome, turnedDown, openCall, joined, replaced, queried, served, callRead, call}
 use Rattle.concrete.specs.History.{Put, tables, states, Opened, acceptedCalls, flatState, Same}
@@ -151,11 +151,11 @@ module _ (t : List ℕ) (o : Opened t) (ps : List Put) where
   same-calls : map (λ p. byWord (p .call)) (acceptedOf states s₀ ps) ≡ acceptedCalls t ps
   same-calls = ap (map (λ p. byWord (p .call))) (sym (accepted-after tables states FlatStands refines t s₀ (opened-stands t o) ps))
 
-  pub count-after-all : getD t₁ 3 0 + withdrawalsIn (acceptedCalls t ps) ≡ addsIn (acceptedCalls t ps)
+  pub count-after-all : getD t₁ liveCountAt 0 + withdrawalsIn (acceptedCalls t ps) ≡ addsIn (acceptedCalls t ps)
   unfolding tableFrom
   count-after-all =
-      let c : getD t₁ 3 0 ≡ length (s₁ .live) = after-stands .stands .counted in
-      subst (λ (cs : List (Call ℕ)). getD t₁ 3 0 + withdrawalsIn cs ≡ addsIn cs) same-calls
+      let c : getD t₁ liveCountAt 0 ≡ length (s₁ .live) = after-stands .stands .counted in
+      subst (λ (cs : List (Call ℕ)). getD t₁ liveCountAt 0 + withdrawalsIn cs ≡ addsIn cs) same-calls
       (let h = count-after firstLevel secondLevel states (λ p. byWord (p .call)) (λ s p. serve-each s (p .call)) s₀ ps in omega arith)
 
   pub plan-after : (v : ℕ) → v < 2 ^ rows → planIn t₁ v ≡ told v (acceptedCalls t ps)
@@ -184,7 +184,7 @@ module _ (t : List ℕ) (k : shaped t ≡ true) (h : FlatSound t) where
   pub sound-entries : List·Permᴰ (entriesOf rows unmixOf (tableOf t)) (s .live)
   sound-entries = stands-entries t s st
 
-  pub sound-count : getD t 3 0 ≡ length (s .live)
+  pub sound-count : getD t liveCountAt 0 ≡ length (s .live)
   unfolding tableFrom
   sound-count = st .stands .counted
 

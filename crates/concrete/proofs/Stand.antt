@@ -28,9 +28,9 @@ use Rattle.model.proofs.Levels.{passed-words}
 use Rattle.model.proofs.Arrivals.{joined, joined-perm, arrive, arrives}
 use Rattle.model.proofs.Valid.{Valid, valid-opened, valid-live, valid-settled}
 use Rattle.model.proofs.AddSteps.{first, first-settled, second-settled}
-use Rattle.concrete.specs.Table.{Table, Placed, bounds, index, second, onSecond, bucketOf, put, holds, planIn, openTable, touch, changedIn, withdrawnFrom, arriveAt, arriveAll, addedTo}
+use Rattle.concrete.specs.Table.{Table, withCount, Placed, bounds, index, second, onSecond, bucketOf, put, holds, planIn, openTable, touch, changedIn, withdrawnFrom, arriveAt, arriveAll, addedTo}
 use Rattle.concrete.proofs.Level.{Fits, Small, firstLevel, secondLevel, within, pass, LevelHolds, level-perm, Arrived, arrive-law, ArrivedAll, arrive-all}
-use Rattle.concrete.proofs.Touch.{Edit, withdraw-edit, change-edit, holds-test, level-find, level-past, level-touch, touch-bounds}
+use Rattle.concrete.proofs.Touch.{Edit, withdraw-edit, change-edit, holds-test, level-find, level-past, level-touch, touch-bounds, touch-keeps}
 
 module _ (S : ℕ → ℕ) where
   -- the entries that the first level does not hold
@@ -187,7 +187,7 @@ module _ (n r : ℕ) (S : ℕ → ℕ) (keeps : (x : ℕ) → x < 2 ^ n → S x 
       -- ---- change and withdraw
 
       module _ (f : ℕ → Bucket → Bucket) (g : ℕ → List Entry → List Entry) (edit : Edit n r S f g) (q : ℕ) (live : find w (s .live) ≡ some q)
-          (valid : Valid (firstLevel S) (secondLevel S) (withLive s (g w (s .live)))) (small : Small n r (g w (s .live))) (c : ℕ) (count : c ≡ length (g w (s .live))) where
+          (valid : Valid (firstLevel S) (secondLevel S) (withLive s (g w (s .live)))) (small : Small n r (g w (s .live))) where
         abbrev s′ : State
         s′ = withLive s (g w (s .live))
 
@@ -199,9 +199,9 @@ module _ (n r : ℕ) (S : ℕ → ℕ) (keeps : (x : ℕ) → x < 2 ^ n → S x 
             ap (map (onSecond S)) (edit .inside (λ v. not (within S (s .buckets1) (s .bounds1) v)) w (s .live) (pass1 w t))
             ∙ edit .twice w (passes S s) l (λ e m. small-passes s (st .valid) (st .small) e m .0)
 
-        touch-stands : Stands n r S (touch n r S T w f g c) s′
-        touch-stands =
-            by-test (λ (U : Table). Stands n r S U s′) (holds n r S (T .level1) w)
+        touch-stands : (c : ℕ) → c ≡ length (g w (s .live)) → Stands n r S (withCount (touch n r S T w f g) c) s′
+        touch-stands c count =
+            by-test (λ (U : Table). Stands n r S (withCount U c) s′) (holds n r S (T .level1) w)
             (λ t. record {
               valid = valid;
               pos1 = st .pos1;
@@ -214,7 +214,7 @@ module _ (n r : ℕ) (S : ℕ → ℕ) (keeps : (x : ℕ) → x < 2 ^ n → S x 
               based = st .based ∙ sym (ap (λ (es : List Entry). sort (pass S (s .buckets2) (s .bounds2) (map (onSecond S) es))) (passes-out t));
               counted = count;
             })
-            (λ t. by-test (λ (U : Table). Stands n r S U s′) (holds n r S (T .level2) w′)
+            (λ t. by-test (λ (U : Table). Stands n r S (withCount U c) s′) (holds n r S (T .level2) w′)
             (λ u. record {
               valid = valid;
               pos1 = st .pos1;
@@ -244,22 +244,26 @@ module _ (n r : ℕ) (S : ℕ → ℕ) (keeps : (x : ℕ) → x < 2 ^ n → S x 
               counted = count;
             }))
 
+        -- the live count stays
+        touch-stays : T .count ≡ length (g w (s .live)) → Stands n r S (touch n r S T w f g) s′
+        touch-stays e = touch-stands _ (touch-keeps n r S T w f g ∙ e)
+
       pub withdraw-stands : (q : ℕ) → find w (s .live) ≡ some q → Stands n r S (withdrawnFrom n r S T w) (withLive s (remove w (s .live)))
       withdraw-stands q f =
           touch-stands _ _ (withdraw-edit n r S inj) q f
           (valid-live (firstLevel S) (secondLevel S) s (st .valid) (remove w (s .live)) (remove-ascending w (s .live) (st .valid .ascending)) (map-sub (λ (e : Entry). e .word) (remove-sub w (s .live))))
-          (λ x m. st .small x (mem-perm (remove-perm w q (s .live) f) x (List·Memᴰ·tail m))) (T .count - 1)
+          (λ x m. st .small x (mem-perm (remove-perm w q (s .live) f) x (List·Memᴰ·tail m))) _
           (let h = remove-length w q (s .live) f in let k = st .counted in omega arith)
 
       pub change-stands : (p q : ℕ) → p < 2 ^ r → find w (s .live) ≡ some q → Stands n r S (changedIn n r S T w p) (withLive s (update (record { word = w; plan = p }) (s .live)))
       change-stands p q h f =
           let d : Entry = record { word = w; plan = p } in
-          touch-stands _ _ (change-edit n r S inj p h) q f
+          touch-stays _ _ (change-edit n r S inj p h) q f
           (valid-live (firstLevel S) (secondLevel S) s (st .valid) (update d (s .live)) (update-ascending d (s .live) (st .valid .ascending))
           (subst⁻¹ (λ (ws : List ℕ). Sublistᴰ ws (words (s .live))) (update-words d (s .live)) (Sublistᴰ·refl (words (s .live)))))
           (small-perm n r (Permᴰ·symm (update-perm d q (s .live) f))
           (small-cons n r d (remove w (s .live)) (l, h) (λ x m. st .small x (mem-perm (remove-perm w q (s .live) f) x (List·Memᴰ·tail m)))))
-          (T .count) (st .counted ∙ sym (update-length d (s .live)))
+          (st .counted ∙ sym (update-length d (s .live)))
 
     -- ---- add
 

@@ -24,8 +24,8 @@ use Rattle.model.specs.Request.{subject}
 use Rattle.model.specs.Machine.{accepted, after, answers, Alike, Refines}
 use Rattle.model.specs.History.{addsIn, withdrawalsIn, told}
 use Rattle.model.proofs.Statements as Model
-use Rattle.concrete.specs.Table.{Table, bounds, nth, addedTo}
-use Rattle.concrete.specs.Layout.{numbersOf, bucketPlace}
+use Rattle.concrete.specs.Table.{Table, withFirst, withSecond, bounds, nth, addedTo}
+use Rattle.concrete.specs.Layout.{buckets1At, buckets2At, baseCountAt, liveCountAt, numbersOf, bucketPlace}
 use Rattle.concrete.specs.Content.{entriesOf}
 use Rattle.concrete.specs.AtOnce.{addedAtOnce}
 use Rattle.concrete.specs.Sound.{SoundTable}
@@ -49,36 +49,36 @@ pub table-numbers : (t : List ℕ) → shaped t ≡ true → FlatSound t → num
 table-numbers t k h = Numbers.forth rows solutions t (Calls.sound-laid t k h)
 
 -- the header: buckets of level 1, of level 2, base count, live count
-pub header-read : (t : List ℕ) → (length (tableOf t .level1) ≡ getD t 0 0) × (length (tableOf t .level2) ≡ getD t 1 0) × (length (tableOf t .base) ≡ getD t 2 0) × (tableOf t .count ≡ getD t 3 0)
+pub header-read : (t : List ℕ) → (length (tableOf t .level1) ≡ getD t buckets1At 0) × (length (tableOf t .level2) ≡ getD t buckets2At 0) × (length (tableOf t .base) ≡ getD t baseCountAt 0) × (tableOf t .count ≡ getD t liveCountAt 0)
 header-read = Numbers.header-read rows solutions
 
 -- "74 per bucket, level 1 first": bucket i is read from its own stretch
-pub read-first : (t : List ℕ) (i : ℕ) → i < getD t 0 0
+pub read-first : (t : List ℕ) (i : ℕ) → i < getD t buckets1At 0
     → nth rows solutions (tableOf t .level1) i ≡ bucketFrom rows solutions (take (bucketWords rows solutions) (drop (bucketPlace rows solutions i) t))
 read-first t i l = Numbers.read-first rows solutions t i l ∙ sym (Numbers.from-part rows solutions (drop (bucketPlace rows solutions i) t))
 
-pub read-second : (t : List ℕ) (i : ℕ) → i < getD t 1 0
-    → nth rows solutions (tableOf t .level2) i ≡ bucketFrom rows solutions (take (bucketWords rows solutions) (drop (bucketPlace rows solutions (getD t 0 0 + i)) t))
-read-second t i l = Numbers.read-second rows solutions t i l ∙ sym (Numbers.from-part rows solutions (drop (bucketPlace rows solutions (getD t 0 0 + i)) t))
+pub read-second : (t : List ℕ) (i : ℕ) → i < getD t buckets2At 0
+    → nth rows solutions (tableOf t .level2) i ≡ bucketFrom rows solutions (take (bucketWords rows solutions) (drop (bucketPlace rows solutions (getD t buckets1At 0 + i)) t))
+read-second t i l = Numbers.read-second rows solutions t i l ∙ sym (Numbers.from-part rows solutions (drop (bucketPlace rows solutions (getD t buckets1At 0 + i)) t))
 
 -- base pair i
-pub read-base : (t : List ℕ) (i : ℕ) (d : Entry) → i < getD t 2 0
+pub read-base : (t : List ℕ) (i : ℕ) (d : Entry) → i < getD t baseCountAt 0
     → getD (tableOf t .base) i d
     ≡ record {
-      word = getD (drop (bucketPlace rows solutions (getD t 0 0 + getD t 1 0)) t) (2 * i) 0;
-      plan = getD (drop (bucketPlace rows solutions (getD t 0 0 + getD t 1 0)) t) (2 * i + 1) 0;
+      word = getD (drop (bucketPlace rows solutions (getD t buckets1At 0 + getD t buckets2At 0)) t) (2 * i) 0;
+      plan = getD (drop (bucketPlace rows solutions (getD t buckets1At 0 + getD t buckets2At 0)) t) (2 * i + 1) 0;
     }
 read-base = Numbers.read-base rows solutions
 
 module _ (T : Table) (h : ShapedTable rows solutions T) where
   -- "lends only the touched bucket's stretch of the table": one bucket replaced is its stretch replaced
   pub write-first : (i : ℕ) (b : Bucket) → i < length (T .level1)
-      → numbersOf (record { level1 = set (T .level1) i b; level2 = T .level2; base = T .base; count = T .count })
+      → numbersOf (withFirst T (set (T .level1) i b))
       ≡ take (bucketPlace rows solutions i) (numbersOf T) ++ (wordsOf b ++ drop (bucketPlace rows solutions i + bucketWords rows solutions) (numbersOf T))
   write-first = Numbers.write-first rows solutions T h
 
   pub write-second : (i : ℕ) (b : Bucket) → i < length (T .level2)
-      → numbersOf (record { level1 = T .level1; level2 = set (T .level2) i b; base = T .base; count = T .count })
+      → numbersOf (withSecond T (set (T .level2) i b))
       ≡ take (bucketPlace rows solutions (length (T .level1) + i)) (numbersOf T)
       ++ (wordsOf b ++ drop (bucketPlace rows solutions (length (T .level1) + i) + bucketWords rows solutions) (numbersOf T))
   write-second = Numbers.write-second rows solutions T h
@@ -159,7 +159,7 @@ module _ (t : List ℕ) (k : shaped t ≡ true) (h : FlatSound t) where
   live-plans = History.sound-look t k h
 
   -- "live count = occupied rows + base count"
-  pub live-count : getD t 3 0 ≡ length (flatState t .live)
+  pub live-count : getD t liveCountAt 0 ≡ length (flatState t .live)
   live-count = History.sound-count t k h
 
   -- "query the plan", and 7 where the word is not live
@@ -224,7 +224,7 @@ module _ (t : List ℕ) (o : Opened t) (ps : List Put) where
   stored-bounds = let h = History.after-stands t o ps in (h .stands .bounds1, h .stands .bounds2)
 
   -- "The live count equals accepted adds less accepted withdrawals since opening"
-  pub count : getD (after tables t ps) 3 0 + withdrawalsIn (acceptedCalls t ps) ≡ addsIn (acceptedCalls t ps)
+  pub count : getD (after tables t ps) liveCountAt 0 + withdrawalsIn (acceptedCalls t ps) ≡ addsIn (acceptedCalls t ps)
   count = History.count-after-all t o ps
 
   -- statement 2, the table's half: a word is live if, of its accepted adds and withdrawals, the last is an add; its plan is that of its last

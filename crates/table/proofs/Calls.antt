@@ -18,10 +18,12 @@ use Rattle.identifier.specs.declared.Read.{Read}
 use Rattle.identifier.specs.declared.Read.the-variants.{Word, Refused}
 use Rattle.model.specs.Model.{Call, add, change, withdraw, query}
 use Rattle.model.specs.Request.{subject, askOf}
-use Rattle.concrete.specs.Table.{Table, touch}
-use Rattle.concrete.specs.Layout.{numbersOf, tableFrom}
+use Rattle.concrete.specs.Table.{Table, withCount}
+use Rattle.concrete.specs.Layout.{liveCountAt, numbersOf, tableFrom}
 use Rattle.concrete.specs.Calls.{rows, solutions, tableOf, planIn, shaped, sound, Outcome, turnedDown, queried, replaced, served, callRead, call}
 use Rattle.concrete.specs.History.{flatState}
+use Rattle.concrete.proofs.Numbers.{write-count}
+use Rattle.concrete.proofs.Touch.{touch-keeps}
 use Rattle.concrete.proofs.Calls.{stands-look, sound-stands-flat, sound-exactly}
 use Rattle.base.specs.declared.Found.{Found}
 use Rattle.base.specs.declared.Found.the-variants.{Plan, Nothing}
@@ -30,7 +32,6 @@ use Rattle.table.specs.declared.Edit.{Edit}
 use Rattle.table.specs.declared.Edit.the-variants.{Change, Withdraw}
 use Rattle.table.specs.Ready.{Ready, admitted}
 use Rattle.table.specs.Edit.{onBucket, onBase, touched, leaving, asked}
-use Rattle.table.proofs.Touched.{touch-count}
 
 -- ---- a word that is live, or not
 
@@ -44,11 +45,13 @@ found-none none e = refl
 
 -- the table after an edit, with the live count
 abbrev edited : Edit → ℕ → Table → Table
-edited d w T = touch rows solutions mixOf T w (onBucket d) (onBase d) (T .count - leaving d)
+edited d w T = withCount (touched d w T) (T .count - leaving d)
 
 edit-served : (t : List ℕ) (w : ℕ) (i : List ℕ) (d : Edit) → served t w (asked d i) ≡ replaced t (edited d w (tableOf t)) (planIn t w)
 unfolding served
-edit-served t w i (Change q) = ap (λ (c : ℕ). replaced t (touch rows solutions mixOf (tableOf t) w (onBucket (Change q)) (onBase (Change q)) c) (planIn t w)) (sym (sub-zero (tableOf t .count)))
+edit-served t w i (Change q) =
+    let d : Edit = Change q in
+    ap (λ (c : ℕ). replaced t (withCount (touched d w (tableOf t)) c) (planIn t w)) (touch-keeps rows solutions mixOf (tableOf t) w (onBucket d) (onBase d) ∙ sym (sub-zero (tableOf t .count)))
 edit-served t w i Withdraw = refl
 
 leaving-le : (d : Edit) → leaving d ≤ 1
@@ -65,16 +68,16 @@ module _ (t : List ℕ) (w : ℕ) (i : List ℕ) (f : Found) (e : f ≡ foundOf 
     query-live = ap (queried t) live
 
     pub edit-live : (d : Edit) (ys : List ℕ) → ys ≡ numbersOf (touched d w (tableOf t))
-        → served t w (asked d i) ≡ record { answer = Accepted p; table = set ys 3 (getD t 3 0 - leaving d) }
+        → served t w (asked d i) ≡ record { answer = Accepted p; table = set ys liveCountAt (getD t liveCountAt 0 - leaving d) }
     unfolding tableFrom
     edit-live d ys y =
         edit-served t w i d ∙ ap (replaced t (edited d w (tableOf t))) live
         ∙ ap {B = Outcome} (λ l. record { answer = Accepted p; table = l })
-        (touch-count rows solutions mixOf (tableOf t) w (onBucket d) (onBase d) (tableOf t .count - leaving d)
-        ∙ ap (λ (l : List ℕ). set l 3 (tableOf t .count - leaving d)) (sym y))
+        (write-count rows solutions (touched d w (tableOf t)) (tableOf t .count - leaving d)
+        ∙ ap (λ (l : List ℕ). set l liveCountAt (tableOf t .count - leaving d)) (sym y))
 
     -- the live count is not 0
-    pub counted : Ready t → w < 2 ^ rows → (d : Edit) → leaving d ≤ getD t 3 0
+    pub counted : Ready t → w < 2 ^ rows → (d : Edit) → leaving d ≤ getD t liveCountAt 0
     unfolding tableFrom
     counted h b d =
         let st = sound-stands-flat t (h .shape) (h .sound) in

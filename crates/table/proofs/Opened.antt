@@ -16,7 +16,7 @@ use Rattle.bucket.specs.Bucket.{emptyBucket}
 use Rattle.bucket.specs.Words.{bucketWords, wordsOf, Shaped}
 use Rattle.bucket.proofs.Words.{length-words, empty-shaped}
 use Rattle.concrete.specs.Table.{openTable}
-use Rattle.concrete.specs.Layout.{header, baseNumbers, levelNumbers, basePairs, numbersOf, bucketPlace, inRange, lengthOf}
+use Rattle.concrete.specs.Layout.{buckets1At, buckets2At, baseCountAt, liveCountAt, header, baseNumbers, levelNumbers, basePairs, numbersOf, bucketPlace, inRange, lengthOf}
 use Rattle.concrete.specs.Calls.{rows, solutions, turnedDown, openCall}
 use Rattle.concrete.proofs.Numbers.{length-level}
 
@@ -25,7 +25,7 @@ level-append [] cs = refl
 level-append (b ∷ bs) cs = ap (λ (l : List ℕ). wordsOf b ++ l) (level-append bs cs) ∙ sym (append-assoc (wordsOf b) (levelNumbers bs) (levelNumbers cs))
 
 -- the header is written
-pub header-set : (t : List ℕ) (b1 b2 : ℕ) → header ≤ length t → set (set (set (set t 0 b1) 1 b2) 2 0) 3 0 ≡ b1 ∷ b2 ∷ 0 ∷ 0 ∷ drop header t
+pub header-set : (t : List ℕ) (b1 b2 : ℕ) → header ≤ length t → set (set (set (set t buckets1At b1) buckets2At b2) baseCountAt 0) liveCountAt 0 ≡ b1 ∷ b2 ∷ 0 ∷ 0 ∷ drop header t
 header-set [] b1 b2 h = absurd (omega arith)
 header-set (a ∷ []) b1 b2 h = absurd (omega arith)
 header-set (a ∷ b ∷ []) b1 b2 h = absurd (omega arith)

@@ -24,7 +24,7 @@ onBase Withdraw v es = remove v es
 
 -- the table after it, but for the live count
 abbrev pub touched : Edit → ℕ → Table → Table
-touched e w T = touch rows solutions mixOf T w (onBucket e) (onBase e) (T .count)
+touched e w T = touch rows solutions mixOf T w (onBucket e) (onBase e)
 
 -- how many words are live no more after it
 abbrev pub leaving : Edit → ℕ

@@ -145,15 +145,19 @@ module _ (n r : ℕ) where
     pub fits : length (T .base) ≤ baseLimit
 
   module _ (S : ℕ → ℕ) (T : Table) (h : BoundedTable T) where
-    touched : (w : ℕ) (f : ℕ → Bucket → Bucket) (g : ℕ → List Entry → List Entry) (c : ℕ) → ((v : ℕ) (b : Bucket) → Bounded b → Bounded (f v b))
-        → ((v : ℕ) → length (g v (T .base)) ≤ length (T .base)) → BoundedTable (C.touch n r S T w f g c)
-    touched w f g c k l =
+    touched : (w : ℕ) (f : ℕ → Bucket → Bucket) (g : ℕ → List Entry → List Entry) → ((v : ℕ) (b : Bucket) → Bounded b → Bounded (f v b))
+        → ((v : ℕ) → length (g v (T .base)) ≤ length (T .base)) → BoundedTable (C.touch n r S T w f g)
+    touched w f g k l =
         by-test BoundedTable (C.holds n r S (T .level1) w) (λ _. record { level1 = put (T .level1) _ (h .level1) (k _ _ (one (T .level1) _ (h .level1))); level2 = h .level2; fits = h .fits })
         (λ _. by-test BoundedTable (C.holds n r S (T .level2) (C.second S w)) (λ _. record { level1 = h .level1; level2 = put (T .level2) _ (h .level2) (k _ _ (one (T .level2) _ (h .level2))); fits = h .fits })
         (λ _. record { level1 = h .level1; level2 = h .level2; fits = le-trans (l (C.second S w)) (h .fits) }))
 
     joined-levels : (e : Entry) → length (C.addedTo n r S T e .base) ≤ baseLimit → BoundedTable (C.addedTo n r S T e)
     joined-levels e l = record { level1 = arrived S (T .level1) e (h .level1); level2 = all-arrived S (T .level2) (map (C.onSecond S) (C.arriveAt n r S (T .level1) e .out)) (h .level2); fits = l }
+
+  -- the live count plays no part
+  recounted : (T : Table) → BoundedTable T → (c : ℕ) → BoundedTable (C.withCount T c)
+  recounted T h c = record { level1 = h .level1; level2 = h .level2; fits = h .fits }
 
   -- its numbers give it back
   read-back : (T : Table) → BoundedTable T → ShapedTable n r T
@@ -191,12 +195,12 @@ module _ (t : List ℕ) (h : BoundedNumbers t) where
       go none = by-test Kept (ltb baseLimit (length (T .base))) (λ _. h) (λ b. numbers T (joined-levels rows solutions mixOf (tableOf t) h (record { word = w; plan = p }) (ltb-false baseLimit _ b)))
   served-bounded w (change i p) =
       replaced-bounded (C.changedIn rows solutions mixOf (tableOf t) w p)
-      (touched rows solutions mixOf (tableOf t) h w (λ v b. B.change rows v p b .bucket) (λ v es. update (record { word = v; plan = p }) es) (tableOf t .count) (λ v b k. changed rows solutions b k v p)
+      (touched rows solutions mixOf (tableOf t) h w (λ v b. B.change rows v p b .bucket) (λ v es. update (record { word = v; plan = p }) es) (λ v b k. changed rows solutions b k v p)
       (λ v. let l = update-length (record { word = v; plan = p }) (tableOf t .base) in omega arith))
       (planIn t w)
   served-bounded w (withdraw i) =
       replaced-bounded (C.withdrawnFrom rows solutions mixOf (tableOf t) w)
-      (touched rows solutions mixOf (tableOf t) h w (λ v b. B.withdraw rows v b .bucket) remove (tableOf t .count - 1) (λ v b k. withdrawn rows solutions b k v) (λ v. remove-le v (tableOf t .base))) (planIn t w)
+      (recounted rows solutions _ (touched rows solutions mixOf (tableOf t) h w (λ v b. B.withdraw rows v b .bucket) remove (λ v b k. withdrawn rows solutions b k v) (λ v. remove-le v (tableOf t .base))) _) (planIn t w)
   served-bounded w (query i) = go (planIn t w)
     where
       go : (o : Option ℕ) → Kept (queried t o)
