@@ -1,6 +1,7 @@
 // What a call answers: accepted, or the cause for which it is turned down, with what is returned with each.
-// Definitions: specs/Numbers.antt, document 01's number and value of each case. Law: proofs/Determined.antt.
-// A later order adds its causes here and nowhere else.
+// Definitions: specs/Numbers.antt, document 01's number and value of each case; specs/Causes.antt, a list of causes and the first of them
+// that is met. Laws: proofs/Determined.antt, proofs/Causes.antt.
+// A later order's cause gets its case, number and value here; it is tested by the call that can meet it, and stated and proved there too.
 // Cites nothing of the project; every crate with a call cites it.
 ghost use mathlib.Core.Path.{_≡_};
 ghost use Rattle.answer.specs.Numbers.{numberOf, valueOf};

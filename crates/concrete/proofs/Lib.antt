@@ -7,5 +7,6 @@ pub mod Sound
 pub mod Test
 pub mod Calls
 pub mod History
+pub mod Causes
 pub mod AtOnce
 pub mod Statements

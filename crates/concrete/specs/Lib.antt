@@ -7,3 +7,4 @@ pub mod Sound
 pub mod Test
 pub mod Calls
 pub mod History
+pub mod Causes

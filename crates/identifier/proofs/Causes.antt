@@ -1,25 +1,26 @@
 -- Each outcome of reading bytes as an identifier is given if and only if it is the first that document 01's order of causes meets.
 -- Assumes nothing.
-use mathlib.Core.Path.{_≡_, sym, ap, _∙_, subst}
-use mathlib.Core.Logic.{_↔_}
+use mathlib.Core.Path.{_≡_, refl, sym, ap, _∙_, subst, subst⁻¹}
+use mathlib.Core.Logic.{_⊎_, inl, inr, _↔_}
 use mathlib.Core.Bool.{Bool, true, false, cond, true≢false}
 use mathlib.Core.List.{List, [], _∷_}
 use Prim.Native.Nat.{ℕ, zero, suc, _≤_, _<_, zero-le, suc-le-suc}
-use native.Mathlib.Nat.{le-refl, le-antisymm, lt-irrefl, lt-of-lt-of-le, not-suc-le-zero, le-of-suc-le-suc}
+use native.Mathlib.Nat.{le-refl, le-of-lt, le-antisymm, lt-irrefl, lt-of-lt-of-le, not-suc-le-zero, le-of-suc-le-suc}
 use native.Mathlib.Omega.{arith}
-use lib.Dec.{ltb}
+use lib.Dec.{ltb, leb}
 use lib.ListN.{length, getD}
-use borrow.Author.Tests.{lt-ltb, le-ltb, ltb-true, ltb-false}
+use borrow.Author.Tests.{lt-ltb, le-ltb, ltb-true, ltb-false, leb-true, leb-false, le-leb, lt-leb}
+use Rattle.answer.specs.Causes.{Cause}
+use Rattle.answer.proofs.Causes.{One, Given}
+use Rattle.answer.specs.declared.Answer.{Answer}
 use Rattle.answer.specs.declared.Answer.the-variants.{WrongLength, WrongByte}
 use Rattle.identifier.specs.Identifier.{sized, allowed, wordOf, firstRefused, readOf}
+use Rattle.identifier.specs.Causes.{wrongLength, AllowedTo, wrongByte}
+use Rattle.identifier.specs.declared.Read.{Read}
 use Rattle.identifier.specs.declared.Read.the-variants.{Word, Refused}
 use Rattle.identifier.proofs.Folding.{by-test}
 
 -- ---- the first byte that is not allowed
-
--- the bytes before index i are allowed
-abbrev pub AllowedTo : List ℕ → ℕ → Type 0
-AllowedTo s i = (j : ℕ) → j < i → allowed (getD s j 0) ≡ true
 
 -- i is the index of the first byte that is not allowed, or the length
 pub record First (s : List ℕ) (i : ℕ) : Type 0 where
@@ -103,3 +104,40 @@ module _ (s : List ℕ) where
         let q : firstRefused s ≡ length s = first-one s (firstRefused s) (length s) (first-refused s) all in
         accepted (p .0) (rw q (le-refl (length s))) ∙ ap Word (sym (p .2)),
   )
+
+-- ---- as the first causes of a call
+
+-- "of 0 or over 20 bytes"
+pub unsized-exactly : (n : ℕ) → (sized n ≡ false) ↔ ((n ≡ 0) ⊎ (20 < n))
+unsized-exactly n = (λ e. by-test (leb 1 n) (λ l. inr (leb-false n 20 (rw l at e))) (λ l. inl (let h = leb-false 1 n l in omega arith)), back)
+  where
+    back : (n ≡ 0) ⊎ (20 < n) → sized n ≡ false
+    back (inl z) = rw z
+    back (inr l) = let h : 1 ≤ n = omega arith in rw (le-leb 1 n h, lt-leb n 20 l)
+
+-- two first bytes not allowed are one
+pub one-byte : (s : List ℕ) → One (wrongByte s .met)
+one-byte s i j p q = first-one s i j (made p) (made q)
+  where
+    made : {i : ℕ} → wrongByte s .met i → First s i
+    made p = record { within = le-of-lt (p .0); before = p .2; here = λ l. p .1 }
+
+module _ (s : List ℕ) {A : Type 0} (answer : A → Answer) (f : Read → A) (refuses : (a : Answer) → answer (f (Refused a)) ≡ a) (cs : List Cause) (returns : ℕ → Type 0) where
+  -- a call that turns down what is no identifier meets causes 1 and 2 first, and those of the word after them
+  pub identifier-given : (readOf s ≡ Word (wordOf s) → Given cs returns (answer (f (Word (wordOf s))))) → Given (wrongLength s ∷ wrongByte s ∷ cs) returns (answer (f (readOf s)))
+  identifier-given g =
+      outcome s
+      (λ u. subst⁻¹ P (ap (λ (x : Read). answer (f x)) (unsized s u) ∙ refuses _) (inl (refl, (unsized-exactly (length s) .0 u, refl))))
+      (λ u l. subst⁻¹ P (ap (λ (x : Read). answer (f x)) (refused s u l) ∙ refuses _)
+      (let h = first-refused s in inr (right u, inl (refl, (l, h .here l, h .before)))))
+      (λ u l. subst⁻¹ P (ap (λ (x : Read). answer (f x)) (accepted s u l))
+      (inr (right u, inr (λ i p. all l i p, g (accepted s u l)))))
+    where
+      P : Answer → Type 0
+      P a = Given (wrongLength s ∷ wrongByte s ∷ cs) returns a
+
+      right : sized (length s) ≡ true → (v : ℕ) → wrongLength s .met v → ⊥
+      right u v p = true≢false (sym u ∙ unsized-exactly (length s) .1 (p .0))
+
+      all : length s ≤ firstRefused s → (i : ℕ) → wrongByte s .met i → ⊥
+      all l i p = true≢false (sym (first-refused s .before i (lt-of-lt-of-le (p .0) l)) ∙ p .1)

@@ -1,2 +1,3 @@
 pub mod Identifier
 pub mod Place
+pub mod Causes

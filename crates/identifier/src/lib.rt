@@ -1,5 +1,5 @@
 // Identifiers: which bytes are one, the word of an identifier, and the place of a word at each level.
-// Definitions: specs/Identifier.antt and specs/Place.antt, in document 01's words. Laws: proofs/Folding.antt (what
+// Definitions: specs/Identifier.antt, specs/Place.antt and specs/Causes.antt, in document 01's words. Laws: proofs/Folding.antt (what
 // folding changes), proofs/Causes.antt (each cause is given if and only if it is the first met), proofs/Words.antt (either
 // case of a letter gives the same word, the vector at level 2 determines the word).
 // Cites answer (the causes) and hash (the word). The calls of table and plane cite it.

@@ -136,6 +136,6 @@ pub order-of-adds : (L1 L2 : Level) (b1 b2 : ℕ) {ds es : List Entry} → List�
     × (after (wordModel L1 L2) (opened b1 b2) (map addOf ds) ≡ after (wordModel L1 L2) (opened b1 b2) (map addOf es))
 order-of-adds = Orders.order-free
 
--- order 9: a lift never overfills the base list. Every state is valid that calls reach (Calls.valid-after) or a lift leaves (Lift.valid-lifted)
+-- order 9: a lift never overfills the base list. The states that calls reach are valid (Calls.valid-after)
 pub lift-fits : (L1 L2 : Level) (s : State) → Valid.Valid L1 L2 s → length (base L1 L2 (lifted L1 L2 s)) ≤ 64
 lift-fits = Lift.lift-fits
