@@ -1,39 +1,36 @@
 -- Opening and each call give each number if and only if its cause is the first met.
 -- Assumes nothing.
 use Prim.Native.Nat.{ℕ, suc, _^_, _<_}
-use native.Mathlib.Omega.{arith}
 use mathlib.Core.Path.{_≡_, refl, sym, ap, _∙_, subst⁻¹}
-use mathlib.Core.Bool.{Bool, true, false, true≢false, _&&_}
+use mathlib.Core.Bool.{Bool, true, false, cond, true≢false, _&&_}
 use mathlib.Core.Logic.{_⊎_, inl, inr, ⊎-elim, _↔_}
 use mathlib.Core.Option.{Option, none, some}
 use mathlib.Core.List.{List, [], _∷_}
 use lib.Dec.{eqb, ltb, leb, lit<}
 use lib.ListN.{length, getD}
 use borrow.Author.Tests.{ltb-true, lt-ltb, leb-false, lt-leb, eqb-false, ne-eqb}
-use Rattle.lists.specs.Entries.{Entry, find, insert, update, remove}
+use Rattle.lists.specs.Entries.{Entry, find, update, remove}
 use Rattle.lists.proofs.Entries.{insert-length, none≢some}
 use Rattle.lists.proofs.Tests.{cases}
-use Rattle.hash.specs.Mix.{mixOf, unmixOf}
 use Rattle.answer.specs.declared.Answer.{Answer}
 use Rattle.answer.specs.declared.Answer.the-variants.{WrongTable, NotSound}
-use Rattle.answer.specs.Causes.{Cause, causeIf, InOrder, Exactly}
+use Rattle.answer.specs.Numbers.{numberOf, valueOf}
+use Rattle.answer.specs.Causes.{Cause, InOrder, Exactly}
 use Rattle.answer.proofs.Causes.{One, OneEach, one-value, one-if, Given, exactly, unless-met, if-met}
-use Rattle.identifier.specs.Identifier.{wordOf, readOf}
-use Rattle.identifier.specs.Causes.{wrongLength, wrongByte}
-use Rattle.identifier.specs.declared.Read.the-variants.{Word, Refused}
+use Rattle.identifier.specs.Identifier.{wordOf}
+use Rattle.identifier.specs.declared.Read.the-variants.{Word}
 use Rattle.identifier.proofs.Causes.{one-byte, identifier-given}
 use Rattle.identifier.proofs.Words.{word-lt}
 use Rattle.model.specs.Levels.{firstLevel, secondLevel}
 use Rattle.model.specs.Model as M
-use Rattle.model.specs.Model.{baseLimit, State, Call, add, change, withdraw, query, wouldLeave, base, stepAdd, stepLive, step}
+use Rattle.model.specs.Model.{baseLimit, Call, add, change, withdraw, query, wouldLeave, base, stepAdd, stepLive, step}
 use Rattle.model.specs.Request.{subject, askOf}
-use Rattle.concrete.specs.Table.{openTable}
-use Rattle.concrete.specs.Layout.{leading, buckets1At, buckets2At, inRange, lengthOf, numbersOf}
+use Rattle.concrete.specs.Layout.{leading, buckets1At, buckets2At, inRange, lengthOf}
 use Rattle.concrete.specs.Test.{shapeTest}
 use Rattle.concrete.specs.Calls.{rows, solutions, shaped, sound, FlatSound, Outcome, turnedDown, openCall, served, callRead, call}
 use Rattle.concrete.specs.History.{PlanFits, flatState}
-use Rattle.concrete.specs.Causes.{wrongRoom, wrongTable, notSound, LivePlan, wordLive, notLive, baseFull, openCauses, openReturns, wordCauses, callCauses, callReturns}
-use Rattle.concrete.proofs.Calls.{Match, served-match, sound-stands-flat, sound-exactly}
+use Rattle.concrete.specs.Causes.{wrongRoom, Misshapen, wrongTable, notSound, LivePlan, notLive, openCauses, openReturns, wordCauses, callCauses, callReturns}
+use Rattle.concrete.proofs.Calls.{served-match, sound-stands-flat, sound-exactly}
 
 -- ---- tests and what they say
 
@@ -42,8 +39,7 @@ and-fails true b p q = (λ e. inr (q .0 e), ⊎-elim (λ x. absurd (true≢false
 and-fails false b p q = (λ e. inl (p .0 refl), λ x. refl)
 
 -- the test of the shape fails exactly if cause 4 is met
-pub shape-exactly : (t : List ℕ)
-    → (shaped t ≡ false) ↔ ((length t < leading) ⊎ ((inRange (getD t buckets1At 0) (getD t buckets2At 0) ≡ false) ⊎ (length t ≡ lengthOf rows solutions (getD t buckets1At 0) (getD t buckets2At 0) → ⊥)))
+pub shape-exactly : (t : List ℕ) → (shaped t ≡ false) ↔ Misshapen t
 unfolding shapeTest
 shape-exactly t =
     and-fails (leb leading (length t)) _ (leb-false leading (length t), lt-leb leading (length t))
@@ -54,6 +50,15 @@ pub unsound-exactly : (t : List ℕ) → shaped t ≡ true → ((i : ℕ) → ge
 unsound-exactly t k b =
     let e = sound-exactly t k b in
     (λ f h. true≢false (sym (e .1 h) ∙ f), λ f. cases (sound t) (λ h. absurd (f (e .0 h))) (λ h. h))
+
+-- causes 4 and 5 of a call that makes these two tests: x is what it does with a sound table
+pub table-given : (t : List ℕ) → ((i : ℕ) → getD t i 0 < 2 ^ rows) → {A : Type 0} (answer : A → Answer) (x y z : A) → answer y ≡ NotSound → answer z ≡ WrongTable (length t)
+    → (cs : List Cause) (returns : ℕ → Type 0) → (shaped t ≡ true → FlatSound t → Given cs returns (answer x))
+    → Given (wrongTable t ∷ notSound t ∷ cs) returns (answer (cond (shaped t) (cond (sound t) x y) z))
+table-given t b answer x y z five four cs returns g =
+    unless-met answer 4 (Misshapen t) (length t) (notSound t ∷ cs) returns (shaped t) (cond (sound t) x y) z (shape-exactly t) (ap numberOf four, ap valueOf four)
+    (λ k. unless-met answer 5 (FlatSound t → ⊥) 0 cs returns (sound t) x y (unsound-exactly t k b) (ap numberOf five, ap valueOf five)
+    (λ h. g k (sound-exactly t k b .0 h)))
 
 -- ---- opening
 
@@ -127,9 +132,8 @@ module _ (t : List ℕ) where
 
     read-given : Given (wrongTable t ∷ notSound t ∷ wordCauses t c) (callReturns t c) (callRead t c (Word (wordOf (subject c))) .answer)
     read-given =
-        unless-met answerOf 4 _ (length t) (notSound t ∷ wordCauses t c) (callReturns t c) (shaped t) _ _ (shape-exactly t) (refl, refl)
-        (λ k. unless-met answerOf 5 _ 0 (wordCauses t c) (callReturns t c) (sound t) _ _ (unsound-exactly t k b) (refl, refl)
-        (λ h. served-given k (sound-exactly t k b .0 h)))
+        table-given t b answerOf (served t (wordOf (subject c)) c) (turnedDown NotSound t) (turnedDown (WrongTable (length t)) t) refl refl
+        (wordCauses t c) (callReturns t c) served-given
 
     pub call-exactly : Exactly (callCauses t c) (callReturns t c) (call t c .answer)
     unfolding call

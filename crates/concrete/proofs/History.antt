@@ -10,11 +10,11 @@ use mathlib.Core.List.{List, map, List·Permᴰ}
 use lib.Dec.{eqb, ltb}
 use lib.ListN.{length, getD}
 use Rattle.lists.specs.Entries.{Entry, words, find}
-use Rattle.lists.proofs.Tests.{by-test, cond-true, cond-false}
+use Rattle.lists.proofs.Tests.{by-test, cond-true}
 use Rattle.gf2.specs.Bound.{Largest}
 use Rattle.hash.specs.Mix.{mixOf, unmixOf}
 use Rattle.answer.specs.declared.Answer.{Answer}
-use Rattle.answer.specs.declared.Answer.the-variants.{Accepted, WrongTable, NotSound, Full}
+use Rattle.answer.specs.declared.Answer.the-variants.{Accepted, Full}
 use Rattle.answer.specs.Numbers.{numberOf}
 use Rattle.identifier.specs.Identifier.{wordOf, readOf}
 use Rattle.identifier.specs.declared.Read.{Read}
@@ -36,7 +36,7 @@ use Rattle.concrete.specs.Table as T
 use Rattle.concrete.specs.Table.{Table}
 use Rattle.concrete.specs.Layout.{liveCountAt, inRange, numbersOf, tableFrom, lengthOf}
 use Rattle.concrete.specs.Content.{entriesOf}
-use Rattle.concrete.specs.Calls.{rows, solutions, tableOf, planIn, shaped, sound, FlatSound, Outcome, turnedDown, openCall, joined, replaced, queried, served, callRead, call}
+use Rattle.concrete.specs.Calls.{rows, solutions, tableOf, planIn, shaped, sound, FlatSound, Outcome, openCall, joined, replaced, queried, served, callRead, call}
 use Rattle.concrete.specs.History.{Put, tables, states, Opened, acceptedCalls, flatState, Same}
 use Rattle.concrete.proofs.Calls.{FlatStands, Match, stands-test, stands-shows, stands-look, call-match, open-stands-flat, sound-stands-flat, stands-flat, stands-entries}
 
@@ -73,24 +73,10 @@ open-refused b1 b2 t =
 
 -- ---- what each call leaves where it is refused, and which causes it can give
 
-module _ (t : List ℕ) (c : Call (List ℕ)) where
-  -- the causes in their order
-  pub by-identifier : (a : Answer) → readOf (subject c) ≡ Refused a → call t c ≡ turnedDown a t
-  unfolding call
-  by-identifier a e = ap (callRead t c) e
-
-  module _ (w : ℕ) (e : readOf (subject c) ≡ Word w) where
-    pub by-shape : shaped t ≡ false → call t c ≡ turnedDown (WrongTable (length t)) t
-    unfolding call
-    by-shape k = ap (callRead t c) e ∙ cond-false _ _ k
-
-    pub by-sound : shaped t ≡ true → sound t ≡ false → call t c ≡ turnedDown NotSound t
-    unfolding call
-    by-sound k h = ap (callRead t c) e ∙ cond-true _ _ k ∙ cond-false _ _ h
-
-    pub by-word : shaped t ≡ true → sound t ≡ true → call t c ≡ served t w c
-    unfolding call
-    by-word k h = ap (callRead t c) e ∙ cond-true _ _ k ∙ cond-true _ _ h
+-- a call that meets none of 1, 2, 4 and 5
+pub by-word : (t : List ℕ) (c : Call (List ℕ)) (w : ℕ) → readOf (subject c) ≡ Word w → shaped t ≡ true → sound t ≡ true → call t c ≡ served t w c
+unfolding call
+by-word t c w e k h = ap (callRead t c) e ∙ cond-true _ _ k ∙ cond-true _ _ h
 
 module _ (t : List ℕ) where
   -- refused calls keep every number

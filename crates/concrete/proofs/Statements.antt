@@ -2,20 +2,21 @@
 -- t is the list of the table's numbers, `tableOf t` the table that it holds.
 -- Assumes nothing.
 use Prim.Native.Nat.{ℕ, _+_, _*_, _^_, _<_}
-use mathlib.Core.Path.{_≡_, ap, _∙_, sym}
+use mathlib.Core.Path.{_≡_, ap, _∙_, sym, subst}
 use mathlib.Core.Bool.{true, false}
 use mathlib.Core.Logic.{_↔_}
 use mathlib.Core.Option.{none, some}
-use mathlib.Core.List.{List, _++_, List·Permᴰ}
+use mathlib.Core.List.{List, _∷_, _++_, List·Permᴰ}
 use lib.ListN.{length, getD, set, take, drop}
 use Rattle.lists.specs.Entries.{Entry, words, find}
 use Rattle.gf2.specs.Bound.{Largest}
 use Rattle.hash.specs.Mix.{mixOf, unmixOf}
-use Rattle.answer.specs.declared.Answer.{Answer}
-use Rattle.answer.specs.declared.Answer.the-variants.{Accepted, WrongTable, NotSound, NotLive, Full}
-use Rattle.answer.specs.Numbers.{numberOf}
+use Rattle.answer.specs.declared.Answer.the-variants.{Accepted, NotLive, Full}
+use Rattle.answer.specs.Numbers.{numberOf, valueOf}
+use Rattle.answer.specs.Causes.{Cause, NoneMet, InOrder, Exactly}
+use Rattle.answer.proofs.Causes.{number-exactly, accepted-exactly}
 use Rattle.identifier.specs.Identifier.{readOf}
-use Rattle.identifier.specs.declared.Read.the-variants.{Word, Refused}
+use Rattle.identifier.specs.declared.Read.the-variants.{Word}
 use Rattle.bucket.specs.declared.Bucket.{Bucket}
 use Rattle.bucket.specs.Words.{bucketWords, wordsOf, bucketFrom}
 use Rattle.model.specs.Levels.{firstLevel, secondLevel, passed, due}
@@ -29,14 +30,16 @@ use Rattle.concrete.specs.Layout.{buckets1At, buckets2At, baseCountAt, l
 use Rattle.concrete.specs.Content.{entriesOf}
 use Rattle.concrete.specs.AtOnce.{addedAtOnce}
 use Rattle.concrete.specs.Sound.{SoundTable}
-use Rattle.concrete.specs.Calls.{rows, solutions, tableOf, planIn, shaped, sound, FlatSound, turnedDown, openCall, queried, served, call}
+use Rattle.concrete.specs.Calls.{rows, solutions, tableOf, planIn, shaped, sound, FlatSound, openCall, queried, served, call}
 use Rattle.concrete.specs.History.{PlanFits, Put, tables, states, Opened, acceptedCalls, flatState, Same}
+use Rattle.concrete.specs.Causes.{openCauses, openReturns, callCauses, callReturns}
 use Rattle.concrete.proofs.Numbers as Numbers
 use Rattle.concrete.proofs.Numbers.{ShapedTable}
 use Rattle.concrete.proofs.AtOnce as AtOnce
 use Rattle.concrete.proofs.Calls as Calls
 use Rattle.concrete.proofs.Calls.{FlatStands}
 use Rattle.concrete.proofs.History as History
+use Rattle.concrete.proofs.Causes as Causes
 
 -- ---- the layout
 
@@ -97,19 +100,38 @@ sound-exactly = Calls.sound-exactly
 
 -- ---- "When a call is turned down"
 
--- "Order is the table's order": causes 1 and 2, then 4, then 5, then those of the call itself (`served`)
-module _ (t : List ℕ) (c : Call (List ℕ)) where
-  pub cause-identifier : (a : Answer) → readOf (subject c) ≡ Refused a → call t c ≡ turnedDown a t
-  cause-identifier = History.by-identifier t c
+-- "each number given if and only if its cause is the first met", with what is returned with it, and 0 with what is returned if none is met;
+-- specs/Causes lists the causes of opening and of the calls, each in the document's words
+pub open-causes : (b1 b2 : ℕ) (t : List ℕ) → Exactly (openCauses b1 b2 t) openReturns (openCall b1 b2 t .answer)
+open-causes = Causes.open-exactly
 
-  pub cause-4 : (w : ℕ) → readOf (subject c) ≡ Word w → shaped t ≡ false → call t c ≡ turnedDown (WrongTable (length t)) t
-  cause-4 = History.by-shape t c
+-- the numbers of a table have 64 bits; the plan of a call is a byte
+module _ (t : List ℕ) (b : (i : ℕ) → getD t i 0 < 2 ^ 64) (p : Put) where
+  pub call-causes : Exactly (callCauses t (p .call)) (callReturns t (p .call)) (call t (p .call) .answer)
+  call-causes = Causes.call-exactly t b (p .call) (p .fits)
 
-  pub cause-5 : (w : ℕ) → readOf (subject c) ≡ Word w → shaped t ≡ true → sound t ≡ false → call t c ≡ turnedDown NotSound t
-  cause-5 = History.by-sound t c
+  -- read for one cause x: the call gives its number, with v, exactly if x is met with v and no cause before it is met
+  pub call-cause : (before : List Cause) (x : Cause) (after : List Cause) → callCauses t (p .call) ≡ before ++ (x ∷ after) → (v : ℕ)
+      → ((numberOf (call t (p .call) .answer) ≡ x .number) × (valueOf (call t (p .call) .answer) ≡ v)) ↔ (NoneMet before × x .met v)
+  call-cause before x after e =
+      number-exactly before x after (callReturns t (p .call)) (call t (p .call) .answer) (subst (InOrder 0) e (Causes.call-order t (p .call)))
+      (subst (λ (cs : List Cause). Exactly cs (callReturns t (p .call)) (call t (p .call) .answer)) e call-causes)
 
-  pub causes-else : (w : ℕ) → readOf (subject c) ≡ Word w → shaped t ≡ true → sound t ≡ true → call t c ≡ served t w c
-  causes-else = History.by-word t c
+  -- "A call is accepted if it meets no cause"
+  pub call-accepted : (v : ℕ)
+      → ((numberOf (call t (p .call) .answer) ≡ 0) × (valueOf (call t (p .call) .answer) ≡ v)) ↔ (NoneMet (callCauses t (p .call)) × callReturns t (p .call) v)
+  call-accepted = accepted-exactly (callCauses t (p .call)) (callReturns t (p .call)) (call t (p .call) .answer) (Causes.call-order t (p .call)) call-causes
+
+-- "Order is the table's order"
+pub open-order : (b1 b2 : ℕ) (t : List ℕ) → InOrder 0 (openCauses b1 b2 t)
+open-order = Causes.open-order
+
+pub call-order : (t : List ℕ) (c : Call (List ℕ)) → InOrder 0 (callCauses t c)
+call-order = Causes.call-order
+
+-- a call that meets none of 1, 2, 4 and 5 does what `served` says
+pub causes-else : (t : List ℕ) (c : Call (List ℕ)) (w : ℕ) → readOf (subject c) ≡ Word w → shaped t ≡ true → sound t ≡ true → call t c ≡ served t w c
+causes-else = History.by-word
 
 -- "Kept as it was"
 pub refused-keeps : (t : List ℕ) (c : Call (List ℕ)) → accepted (call t c .answer) ≡ false → call t c .table ≡ t

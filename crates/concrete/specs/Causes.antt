@@ -29,12 +29,13 @@ wrongBuckets b1 b2 = causeIf 3 (inRange b1 b2 ≡ false) 0
 abbrev pub wrongRoom : ℕ → ℕ → List ℕ → Cause
 wrongRoom b1 b2 t = causeIf 4 (length t ≡ lengthOf rows solutions b1 b2 → ⊥) (length t)
 
--- "table under 4 numbers; header bucket numbers out of range; length not as they give"; the length
+-- "table under 4 numbers; header bucket numbers out of range; length not as they give"
+abbrev pub Misshapen : List ℕ → Type 0
+Misshapen t = (length t < leading) ⊎ ((inRange (getD t buckets1At 0) (getD t buckets2At 0) ≡ false) ⊎ (length t ≡ lengthOf rows solutions (getD t buckets1At 0) (getD t buckets2At 0) → ⊥))
+
+-- with the length
 abbrev pub wrongTable : List ℕ → Cause
-wrongTable t =
-    causeIf 4
-    ((length t < leading) ⊎ ((inRange (getD t buckets1At 0) (getD t buckets2At 0) ≡ false) ⊎ (length t ≡ lengthOf rows solutions (getD t buckets1At 0) (getD t buckets2At 0) → ⊥)))
-    (length t)
+wrongTable t = causeIf 4 (Misshapen t) (length t)
 
 -- "table not sound"; 0
 abbrev pub notSound : List ℕ → Cause
@@ -75,7 +76,7 @@ wordCauses t (query i) = notLive t i ∷ []
 abbrev pub callCauses : List ℕ → Call (List ℕ) → List Cause
 callCauses t c = wrongLength (subject c) ∷ wrongByte (subject c) ∷ wrongTable t ∷ notSound t ∷ wordCauses t c
 
--- "add the live count, change and withdraw the earlier plan, query the plan"
+-- "add the live count, change and withdraw the earlier plan, query the plan": after an add the word added counts as live
 abbrev pub callReturns : List ℕ → Call (List ℕ) → ℕ → Type 0
 callReturns t (add i p) v = v ≡ suc (length (flatState t .live))
 callReturns t (change i p) v = LivePlan t i v

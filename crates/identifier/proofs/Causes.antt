@@ -9,7 +9,7 @@ use native.Mathlib.Nat.{le-refl, le-of-lt, le-antisymm, lt-irrefl, lt-of-lt-of-l
 use native.Mathlib.Omega.{arith}
 use lib.Dec.{ltb, leb}
 use lib.ListN.{length, getD}
-use borrow.Author.Tests.{lt-ltb, le-ltb, ltb-true, ltb-false, leb-true, leb-false, le-leb, lt-leb}
+use borrow.Author.Tests.{lt-ltb, le-ltb, ltb-true, ltb-false, leb-false, le-leb, lt-leb}
 use Rattle.answer.specs.Causes.{Cause}
 use Rattle.answer.proofs.Causes.{One, Given}
 use Rattle.answer.specs.declared.Answer.{Answer}
