@@ -15,16 +15,14 @@ use Rattle.lists.proofs.Tests.{cond-true, and-one, and-two, and-both}
 use Rattle.hash.specs.Mix.{mixOf, unmixOf}
 use Rattle.hash.proofs.Inverse.{mix-lt, unmix-lt, unmix-mix, mix-unmix}
 use Rattle.answer.specs.declared.Answer.the-variants.{Accepted, Full}
-use Rattle.identifier.specs.Identifier.{readOf}
 use Rattle.identifier.specs.declared.Read.{Read}
 use Rattle.identifier.specs.declared.Read.the-variants.{Word, Refused}
-use Rattle.identifier.proofs.Causes.{read-word}
-use Rattle.identifier.proofs.Words.{word-lt}
 use Rattle.bucket.specs.declared.Bucket.{Bucket}
 use Rattle.model.specs.Levels.{firstLevel, secondLevel}
 use Rattle.model.specs.Model as M
 use Rattle.model.specs.Model.{baseLimit, State, Call, add, change, withdraw, query, opened, withLive, wouldLeave, base, stepAdd, stepLive, step}
-use Rattle.model.specs.Request.{subject, askOf, serveRead, serve}
+use Rattle.model.specs.Request.{Token, wordFor, askOf, serveRead, serve}
+use Rattle.model.proofs.Requests.{word-small}
 use Rattle.concrete.specs.Table as T
 use Rattle.concrete.specs.Table.{Table}
 use Rattle.concrete.specs.Layout.{leading, buckets1At, buckets2At, mostBuckets1, inRange, numbersOf, unusedIn, lengthOf}
@@ -174,7 +172,7 @@ module _ (t : List ℕ) (s : State) (h : FlatStands t s) where
             record { says = ap Accepted (k .counted); stands = numbers-stand u t′ k range }))
 
     -- the causes 1, 2, 4 and 5 are not met
-    pub served-match : (c : Call (List ℕ)) → PlanFits c → Match (served t w c) (step firstLevel secondLevel s (askOf w c))
+    pub served-match : (c : Call Token) → PlanFits c → Match (served t w c) (step firstLevel secondLevel s (askOf w c))
     unfolding served
     served-match (add i p) k = add-match p k
     served-match (change i p) k = live-match (T.changedIn rows solutions mixOf T₀ w p) (update (record { word = w; plan = p }) (s .live)) (λ q f. change-stands rows solutions mixOf keeps one T₀ s (h .stands) w l p q k f)
@@ -182,15 +180,15 @@ module _ (t : List ℕ) (s : State) (h : FlatStands t s) where
     served-match (query i) k = query-match
 
   -- each call follows the model
-  pub call-match : (c : Call (List ℕ)) → PlanFits c → Match (call t c) (serve s c)
+  pub call-match : (c : Call Token) → PlanFits c → Match (call t c) (serve s c)
   unfolding call
-  call-match c k = go (readOf (subject c)) refl
+  call-match c k = go (wordFor c) refl
     where
-      go : (x : Read) → readOf (subject c) ≡ x → Match (callRead t c x) (serveRead s c x)
+      go : (x : Read) → wordFor c ≡ x → Match (callRead t c x) (serveRead s c x)
       go (Refused a) e = record { says = refl; stands = h }
       go (Word w) e =
           subst⁻¹ (λ (o : Outcome). Match o (step firstLevel secondLevel s (askOf w c))) (cond-true _ _ (h .shape) ∙ cond-true _ _ stands-test)
-          (served-match w (subst⁻¹ (λ (x : ℕ). x < 2 ^ rows) (read-word (subject c) w .0 e .2) (word-lt (subject c))) c k)
+          (served-match w (word-small c w e) c k)
 
 -- ---- opening, and sound numbers
 

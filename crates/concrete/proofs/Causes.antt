@@ -24,7 +24,7 @@ use Rattle.identifier.proofs.Words.{word-lt}
 use Rattle.model.specs.Levels.{firstLevel, secondLevel}
 use Rattle.model.specs.Model as M
 use Rattle.model.specs.Model.{baseLimit, Call, add, change, withdraw, query, wouldLeave, base, stepAdd, stepLive, step}
-use Rattle.model.specs.Request.{subject, askOf}
+use Rattle.model.specs.Request.{Token, subject, askOf}
 use Rattle.concrete.specs.Layout.{leading, buckets1At, buckets2At, inRange, lengthOf}
 use Rattle.concrete.specs.Test.{shapeTest}
 use Rattle.concrete.specs.Calls.{rows, solutions, shaped, sound, FlatSound, Outcome, turnedDown, openCall, served, callRead, call}
@@ -80,19 +80,19 @@ open-exactly b1 b2 t =
 one-plan : (t i : List ℕ) → One (LivePlan t i)
 one-plan t i u v p q = cc
 
-one-each : (t : List ℕ) (c : Call (List ℕ)) → OneEach (callCauses t c) (callReturns t c)
+one-each : (t : List ℕ) (c : Call Token) → OneEach (callCauses t c) (callReturns t c)
 one-each t c = (one-if 1 _ (length (subject c)), (one-byte (subject c), (one-if 4 _ (length t), (one-if 5 _ 0, word c))))
   where
-    word : (c : Call (List ℕ)) → OneEach (wordCauses t c) (callReturns t c)
+    word : (c : Call Token) → OneEach (wordCauses t c) (callReturns t c)
     word (add i p) = (one-plan t i, (one-if 8 _ 0, one-value (suc (length (flatState t .live)))))
     word (change i p) = (one-if 7 _ 0, one-plan t i)
     word (withdraw i) = (one-if 7 _ 0, one-plan t i)
     word (query i) = (one-if 7 _ 0, one-plan t i)
 
-pub call-order : (t : List ℕ) (c : Call (List ℕ)) → InOrder 0 (callCauses t c)
+pub call-order : (t : List ℕ) (c : Call Token) → InOrder 0 (callCauses t c)
 call-order t c = (lit< tt, (lit< tt, (lit< tt, (lit< tt, word c))))
   where
-    word : (c : Call (List ℕ)) → InOrder 5 (wordCauses t c)
+    word : (c : Call Token) → InOrder 5 (wordCauses t c)
     word (add i p) = (lit< tt, (lit< tt, tt))
     word (change i p) = (lit< tt, tt)
     word (withdraw i) = (lit< tt, tt)
@@ -117,13 +117,13 @@ module _ (t : List ℕ) where
             (ltb-true baseLimit _, lt-ltb baseLimit _) (refl, refl) (λ f. (refl, insert-length _ (flatState t .live))),
       )
 
-  step-given : (c : Call (List ℕ)) → Given (wordCauses t c) (callReturns t c) (step firstLevel secondLevel (flatState t) (askOf (wordOf (subject c)) c) .answer)
+  step-given : (c : Call Token) → Given (wordCauses t c) (callReturns t c) (step firstLevel secondLevel (flatState t) (askOf (wordOf (subject c)) c) .answer)
   step-given (add i p) = add-given i p (find (wordOf i) (flatState t .live)) refl
   step-given (change i p) = live-given i (update (record { word = wordOf i; plan = p }) (flatState t .live)) (find (wordOf i) (flatState t .live)) refl
   step-given (withdraw i) = live-given i (remove (wordOf i) (flatState t .live)) (find (wordOf i) (flatState t .live)) refl
   step-given (query i) = live-given i (flatState t .live) (find (wordOf i) (flatState t .live)) refl
 
-  module _ (b : (i : ℕ) → getD t i 0 < 2 ^ rows) (c : Call (List ℕ)) (f : PlanFits c) where
+  module _ (b : (i : ℕ) → getD t i 0 < 2 ^ rows) (c : Call Token) (f : PlanFits c) where
     -- a sound table answers as the model does
     served-given : shaped t ≡ true → FlatSound t → Given (wordCauses t c) (callReturns t c) (served t (wordOf (subject c)) c .answer)
     served-given k h =

@@ -16,21 +16,19 @@ use Rattle.hash.specs.Mix.{mixOf, unmixOf}
 use Rattle.answer.specs.declared.Answer.{Answer}
 use Rattle.answer.specs.declared.Answer.the-variants.{Accepted, Full}
 use Rattle.answer.specs.Numbers.{numberOf}
-use Rattle.identifier.specs.Identifier.{wordOf, readOf}
+use Rattle.identifier.specs.Identifier.{wordOf}
 use Rattle.identifier.specs.declared.Read.{Read}
 use Rattle.identifier.specs.declared.Read.the-variants.{Word, Refused}
-use Rattle.identifier.proofs.Causes.{read-word}
-use Rattle.identifier.proofs.Words.{word-lt}
 use Rattle.model.specs.Levels.{firstLevel, secondLevel, passed, due}
 use Rattle.model.specs.Model as M
 use Rattle.model.specs.Model.{baseLimit, State, Call, add, change, withdraw, query, opened, wouldLeave, base, step}
-use Rattle.model.specs.Request.{subject, byWord, serveRead, serve}
+use Rattle.model.specs.Request.{Token, wordFor, byWord, serveRead, serve}
 use Rattle.model.specs.Machine.{accepted, after, acceptedOf, Refines, Compares}
 use Rattle.model.specs.History.{addsIn, withdrawalsIn, told}
 use Rattle.model.proofs.Valid.{valid-opened}
 use Rattle.model.proofs.Refine.{stands-after, accepted-after}
 use Rattle.model.proofs.Calls.{count-after, told-after}
-use Rattle.model.proofs.Requests.{serve-each, serve-never}
+use Rattle.model.proofs.Requests.{word-small, serve-each, serve-never}
 use Rattle.model.proofs.Statements as Model
 use Rattle.concrete.specs.Table as T
 use Rattle.concrete.specs.Table.{Table}
@@ -74,7 +72,7 @@ open-refused b1 b2 t =
 -- ---- what each call leaves where it is refused, and which causes it can give
 
 -- a call that meets none of 1, 2, 4 and 5
-pub by-word : (t : List ℕ) (c : Call (List ℕ)) (w : ℕ) → readOf (subject c) ≡ Word w → shaped t ≡ true → sound t ≡ true → call t c ≡ served t w c
+pub by-word : (t : List ℕ) (c : Call Token) (w : ℕ) → wordFor c ≡ Word w → shaped t ≡ true → sound t ≡ true → call t c ≡ served t w c
 unfolding call
 by-word t c w e k h = ap (callRead t c) e ∙ cond-true _ _ k ∙ cond-true _ _ h
 
@@ -87,7 +85,7 @@ module _ (t : List ℕ) where
   kept-replaced u (some q) = λ r. absurd (true≢false r)
   kept-replaced u none = λ r. refl
 
-  kept-served : (w : ℕ) (c : Call (List ℕ)) → Kept (served t w c)
+  kept-served : (w : ℕ) (c : Call Token) → Kept (served t w c)
   unfolding served
   kept-served w (add i p) = go (planIn t w)
     where
@@ -105,9 +103,9 @@ module _ (t : List ℕ) where
       go (some q) = λ r. refl
       go none = λ r. refl
 
-  pub call-refused : (c : Call (List ℕ)) → accepted (call t c .answer) ≡ false → call t c .table ≡ t
+  pub call-refused : (c : Call Token) → accepted (call t c .answer) ≡ false → call t c .table ≡ t
   unfolding call
-  call-refused c = go (readOf (subject c))
+  call-refused c = go (wordFor c)
     where
       go : (x : Read) → Kept (callRead t c x)
       go (Refused a) = λ r. refl
@@ -150,9 +148,6 @@ module _ (t : List ℕ) (o : Opened t) (ps : List Put) where
       ∙ told-after firstLevel secondLevel states (λ p. byWord (p .call)) (λ s p. serve-each s (p .call)) v s₀ (valid-opened firstLevel secondLevel (o .buckets1) (o .buckets2)) false 0 refl ps
       ∙ ap (told v) same-calls
 
-word-lt-of : (i : List ℕ) (w : ℕ) → readOf i ≡ Word w → w < 2 ^ rows
-word-lt-of i w e = subst⁻¹ (λ (x : ℕ). x < 2 ^ rows) (read-word i w .0 e .2) (word-lt i)
-
 -- ---- a sound table, also one handed in from elsewhere
 
 module _ (t : List ℕ) (k : shaped t ≡ true) (h : FlatSound t) where
@@ -175,12 +170,12 @@ module _ (t : List ℕ) (k : shaped t ≡ true) (h : FlatSound t) where
   sound-count = st .stands .counted
 
   -- a query of a live word gives its plan, of any other word cause 7
-  pub query-is : (i : List ℕ) (w : ℕ) → readOf i ≡ Word w → call t (query i) ≡ queried t (find w (s .live))
+  pub query-is : (i : Token) (w : ℕ) → wordFor (query i) ≡ Word w → call t (query i) ≡ queried t (find w (s .live))
   unfolding served
   query-is i w e =
-      by-word t (query i) w e k (stands-test t s st) ∙ ap (queried t) (sound-look w (word-lt-of i w e))
+      by-word t (query i) w e k (stands-test t s st) ∙ ap (queried t) (sound-look w (word-small (query i) w e))
 
-  module _ (i : List ℕ) (p : ℕ) (l : p < 2 ^ solutions) where
+  module _ (i : Token) (p : ℕ) (l : p < 2 ^ solutions) where
     abbrev t′ : List ℕ
     t′ = call t (add i p) .table
 
@@ -213,7 +208,7 @@ module _ (t : List ℕ) (k : shaped t ≡ true) (h : FlatSound t) where
           subst⁻¹ (λ (u : State). Largest (getD (s .bounds2) j 0) (due secondLevel (s .buckets2) (passed firstLevel (s .buckets1) (u .bounds1) (words (u .live))) j) (getD (u .bounds2) j 0)) left
           (Model.bounds-second firstLevel secondLevel s e took j q)
 
-    pub rule-full : (w : ℕ) → readOf i ≡ Word w → find w (s .live) ≡ none
+    pub rule-full : (w : ℕ) → wordFor (add i p) ≡ Word w → find w (s .live) ≡ none
         → (call t (add i p) .answer ≡ Full) ↔ (baseLimit < length (base firstLevel secondLevel (wouldLeave firstLevel secondLevel s (record { word = w; plan = p }))))
     rule-full w q f =
         subst⁻¹ (λ (a : Answer). (a ≡ Full) ↔ (baseLimit < length (base firstLevel secondLevel (wouldLeave firstLevel secondLevel s (record { word = w; plan = p })))))
@@ -222,10 +217,10 @@ module _ (t : List ℕ) (k : shaped t ≡ true) (h : FlatSound t) where
 
 -- ---- what a query tells after any list of calls
 
-pub query-after : (t : List ℕ) (o : Opened t) (ps : List Put) (i : List ℕ) (w : ℕ) → readOf i ≡ Word w
+pub query-after : (t : List ℕ) (o : Opened t) (ps : List Put) (i : Token) (w : ℕ) → wordFor (query i) ≡ Word w
     → call (after tables t ps) (query i) ≡ queried (after tables t ps) (told w (acceptedCalls t ps))
 query-after t o ps i w e =
     let h = after-stands t o ps in
-    let l : w < 2 ^ rows = word-lt-of i w e in
+    let l : w < 2 ^ rows = word-small (query i) w e in
     query-is (after tables t ps) (h .shape) (stands-flat (after tables t ps) _ h) i w e
     ∙ ap (queried (after tables t ps)) (sym (sound-look (after tables t ps) (h .shape) (stands-flat (after tables t ps) _ h) w l) ∙ plan-after t o ps w l)

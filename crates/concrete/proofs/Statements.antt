@@ -15,13 +15,12 @@ use Rattle.answer.specs.declared.Answer.the-variants.{Accepted, NotLive, Full}
 use Rattle.answer.specs.Numbers.{numberOf, valueOf}
 use Rattle.answer.specs.Causes.{Cause, NoneMet, InOrder, Exactly}
 use Rattle.answer.proofs.Causes.{number-exactly, accepted-exactly}
-use Rattle.identifier.specs.Identifier.{readOf}
 use Rattle.identifier.specs.declared.Read.the-variants.{Word}
 use Rattle.bucket.specs.declared.Bucket.{Bucket}
 use Rattle.bucket.specs.Words.{bucketWords, wordsOf, bucketFrom}
 use Rattle.model.specs.Levels.{firstLevel, secondLevel, passed, due}
 use Rattle.model.specs.Model.{State, Call, add, query, opened, wouldLeave, base}
-use Rattle.model.specs.Request.{subject}
+use Rattle.model.specs.Request.{Token, wordFor}
 use Rattle.model.specs.Machine.{accepted, after, answers, Alike, Refines}
 use Rattle.model.specs.History.{addsIn, withdrawalsIn, told}
 use Rattle.model.proofs.Statements as Model
@@ -126,15 +125,15 @@ module _ (t : List ℕ) (b : (i : ℕ) → getD t i 0 < 2 ^ 64) (p : Put) where
 pub open-order : (b1 b2 : ℕ) (t : List ℕ) → InOrder 0 (openCauses b1 b2 t)
 open-order = Causes.open-order
 
-pub call-order : (t : List ℕ) (c : Call (List ℕ)) → InOrder 0 (callCauses t c)
+pub call-order : (t : List ℕ) (c : Call Token) → InOrder 0 (callCauses t c)
 call-order = Causes.call-order
 
 -- a call that meets none of 1, 2, 4 and 5 does what `served` says
-pub causes-else : (t : List ℕ) (c : Call (List ℕ)) (w : ℕ) → readOf (subject c) ≡ Word w → shaped t ≡ true → sound t ≡ true → call t c ≡ served t w c
+pub causes-else : (t : List ℕ) (c : Call Token) (w : ℕ) → wordFor c ≡ Word w → shaped t ≡ true → sound t ≡ true → call t c ≡ served t w c
 causes-else = History.by-word
 
 -- "Kept as it was"
-pub refused-keeps : (t : List ℕ) (c : Call (List ℕ)) → accepted (call t c .answer) ≡ false → call t c .table ≡ t
+pub refused-keeps : (t : List ℕ) (c : Call Token) → accepted (call t c .answer) ≡ false → call t c .table ≡ t
 refused-keeps = History.call-refused
 
 pub refused-opening : (b1 b2 : ℕ) (t : List ℕ) → accepted (openCall b1 b2 t .answer) ≡ false → openCall b1 b2 t .table ≡ t
@@ -163,7 +162,7 @@ pub stands-one : (t : List ℕ) (s : State) → FlatStands t s → flatState t �
 stands-one = Calls.stands-shows
 
 -- so a call for a word of 64 bits leaves a sound table sound
-pub served-sound : (t : List ℕ) → shaped t ≡ true → FlatSound t → (w : ℕ) → w < 2 ^ 64 → (c : Call (List ℕ)) → PlanFits c
+pub served-sound : (t : List ℕ) → shaped t ≡ true → FlatSound t → (w : ℕ) → w < 2 ^ 64 → (c : Call Token) → PlanFits c
     → (shaped (served t w c .table) ≡ true) × FlatSound (served t w c .table)
 served-sound t k h w l c f =
     let m = Calls.served-match t (flatState t) (sound-stands t k h) w l c f in
@@ -185,13 +184,13 @@ module _ (t : List ℕ) (k : shaped t ≡ true) (h : FlatSound t) where
   live-count = History.sound-count t k h
 
   -- "query the plan", and 7 where the word is not live
-  pub query-live : (i : List ℕ) (w p : ℕ) → readOf i ≡ Word w → find w (flatState t .live) ≡ some p → call t (query i) ≡ record { answer = Accepted p; table = t }
+  pub query-live : (i : Token) (w p : ℕ) → wordFor (query i) ≡ Word w → find w (flatState t .live) ≡ some p → call t (query i) ≡ record { answer = Accepted p; table = t }
   query-live i w p e f = History.query-is t k h i w e ∙ ap (queried t) f
 
-  pub query-other : (i : List ℕ) (w : ℕ) → readOf i ≡ Word w → find w (flatState t .live) ≡ none → call t (query i) ≡ record { answer = NotLive; table = t }
+  pub query-other : (i : Token) (w : ℕ) → wordFor (query i) ≡ Word w → find w (flatState t .live) ≡ none → call t (query i) ≡ record { answer = NotLive; table = t }
   query-other i w e f = History.query-is t k h i w e ∙ ap (queried t) f
 
-  module _ (i : List ℕ) (p : ℕ) (l : p < 256) where
+  module _ (i : Token) (p : ℕ) (l : p < 256) where
     -- statement 3, the rule of the bounds: after an accepted add each is the largest number, not above the old one, under which no
     -- non-empty selection of the words due there XORs to zero; first level
     pub bounds-first : accepted (call t (add i p) .answer) ≡ true → (j : ℕ) → j < flatState t .buckets1
@@ -210,7 +209,7 @@ module _ (t : List ℕ) (k : shaped t ≡ true) (h : FlatSound t) where
 
     -- statement 3, the rule of the base list: refused as full exactly when more than 64 words would fall to the base list under the bounds
     -- that the add would so leave
-    pub full-exactly : (w : ℕ) → readOf i ≡ Word w → find w (flatState t .live) ≡ none
+    pub full-exactly : (w : ℕ) → wordFor (add i p) ≡ Word w → find w (flatState t .live) ≡ none
         → (call t (add i p) .answer ≡ Full) ↔ (64 < length (base firstLevel secondLevel (wouldLeave firstLevel secondLevel (flatState t) (record { word = w; plan = p }))))
     full-exactly = History.rule-full t k h i p l
 
@@ -255,5 +254,5 @@ module _ (t : List ℕ) (o : Opened t) (ps : List Put) where
   plan = History.plan-after t o ps
 
   -- so a query of an identifier gives the last accepted plan of its word (`queried`: Accepted), or says that it is not live
-  pub query-tells : (i : List ℕ) (w : ℕ) → readOf i ≡ Word w → call (after tables t ps) (query i) ≡ queried (after tables t ps) (told w (acceptedCalls t ps))
+  pub query-tells : (i : Token) (w : ℕ) → wordFor (query i) ≡ Word w → call (after tables t ps) (query i) ≡ queried (after tables t ps) (told w (acceptedCalls t ps))
   query-tells = History.query-after t o ps

@@ -14,7 +14,7 @@ use Rattle.identifier.specs.Identifier.{wordOf}
 use Rattle.identifier.specs.Causes.{wrongLength, wrongByte}
 use Rattle.model.specs.Levels.{firstLevel, secondLevel}
 use Rattle.model.specs.Model.{baseLimit, Call, add, change, withdraw, query, wouldLeave, base}
-use Rattle.model.specs.Request.{subject}
+use Rattle.model.specs.Request.{Token, subject}
 use Rattle.concrete.specs.Layout.{leading, buckets1At, buckets2At, inRange, lengthOf}
 use Rattle.concrete.specs.Calls.{rows, solutions, FlatSound}
 use Rattle.concrete.specs.History.{flatState}
@@ -67,17 +67,17 @@ abbrev pub openReturns : ℕ → Type 0
 openReturns v = v ≡ 0
 
 -- those that the call's word meets: change, withdraw and query share theirs
-abbrev pub wordCauses : List ℕ → Call (List ℕ) → List Cause
+abbrev pub wordCauses : List ℕ → Call Token → List Cause
 wordCauses t (add i p) = wordLive t i ∷ baseFull t i p ∷ []
 wordCauses t (change i p) = notLive t i ∷ []
 wordCauses t (withdraw i) = notLive t i ∷ []
 wordCauses t (query i) = notLive t i ∷ []
 
-abbrev pub callCauses : List ℕ → Call (List ℕ) → List Cause
+abbrev pub callCauses : List ℕ → Call Token → List Cause
 callCauses t c = wrongLength (subject c) ∷ wrongByte (subject c) ∷ wrongTable t ∷ notSound t ∷ wordCauses t c
 
 -- "add the live count, change and withdraw the earlier plan, query the plan": after an add the word added counts as live
-abbrev pub callReturns : List ℕ → Call (List ℕ) → ℕ → Type 0
+abbrev pub callReturns : List ℕ → Call Token → ℕ → Type 0
 callReturns t (add i p) v = v ≡ suc (length (flatState t .live))
 callReturns t (change i p) v = LivePlan t i v
 callReturns t (withdraw i) v = LivePlan t i v

@@ -6,13 +6,13 @@ use mathlib.Core.List.{List, map}
 use Rattle.hash.specs.Mix.{unmixOf}
 use Rattle.answer.specs.declared.Answer.the-variants.{Accepted}
 use Rattle.model.specs.Model.{State, Call, add, change, withdraw, query}
-use Rattle.model.specs.Request.{byWord, serve}
+use Rattle.model.specs.Request.{Token, byWord, serve}
 use Rattle.model.specs.Machine.{Machine, acceptedOf}
 use Rattle.concrete.specs.Content.{stateOf}
 use Rattle.concrete.specs.Calls.{rows, solutions, tableOf, openCall, call}
 
 -- the plan of a call is a byte, 0 to 255
-abbrev pub PlanFits : Call (List ℕ) → Type 0
+abbrev pub PlanFits : Call Token → Type 0
 PlanFits (add i p) = p < 2 ^ solutions
 PlanFits (change i p) = p < 2 ^ solutions
 PlanFits (withdraw i) = Unit {0}
@@ -20,7 +20,7 @@ PlanFits (query i) = Unit {0}
 
 -- a call with any bytes as identifier
 pub record Put : Type 0 where
-  pub call : Call (List ℕ)
+  pub call : Call Token
   pub fits : PlanFits call
 
 -- the table: each call gets it as the last one left it

@@ -7,7 +7,7 @@ use mathlib.Core.Option.{Option, none, some}
 use lib.Dec.{eqb}
 use Rattle.model.specs.Levels.{Level}
 use Rattle.model.specs.Model.{State, Call, add, change, withdraw, query, opened, step}
-use Rattle.model.specs.Request.{byWord, serve}
+use Rattle.model.specs.Request.{Token, byWord, serve}
 use Rattle.model.specs.Machine.{Machine, acceptedOf}
 
 -- the model, at any two levels, with words for identifiers
@@ -15,11 +15,11 @@ abbrev pub wordModel : Level → Level → Machine State (Call ℕ)
 wordModel L1 L2 = record { answer = λ s c. step L1 L2 s c .answer; next = λ s c. step L1 L2 s c .after }
 
 -- the model, at document 01's levels, with any bytes as identifiers
-abbrev pub model : Machine State (Call (List ℕ))
+abbrev pub model : Machine State (Call Token)
 model = record { answer = λ s c. serve s c .answer; next = λ s c. serve s c .after }
 
 -- the calls that are accepted since opening, by the words of their identifiers
-abbrev pub acceptedCalls : ℕ → ℕ → List (Call (List ℕ)) → List (Call ℕ)
+abbrev pub acceptedCalls : ℕ → ℕ → List (Call Token) → List (Call ℕ)
 acceptedCalls b1 b2 cs = map byWord (acceptedOf model (opened b1 b2) cs)
 
 -- the number of adds among these calls

@@ -8,6 +8,10 @@ use Rattle.identifier.specs.declared.Read.the-variants.{Word, Refused}
 use Rattle.model.specs.Levels.{firstLevel, secondLevel}
 use Rattle.model.specs.Model.{State, Call, add, change, withdraw, query, Outcome, step}
 
+-- an identifier as it is handed in: any bytes
+abbrev pub Token : Type 0
+Token = List ℕ
+
 -- the identifier of a call
 abbrev pub subject : {I : Type 0} → Call I → I
 subject (add i p) = i
@@ -22,15 +26,19 @@ askOf j (change i p) = change j p
 askOf j (withdraw i) = withdraw j
 askOf j (query i) = query j
 
+-- what a call is for: the word of its identifier, or the cause that is met before the table is looked at
+abbrev pub wordFor : Call Token → Read
+wordFor c = readOf (subject c)
+
 -- the call by the word of its identifier
-abbrev pub byWord : Call (List ℕ) → Call ℕ
+abbrev pub byWord : Call Token → Call ℕ
 byWord c = askOf (wordOf (subject c)) c
 
--- by what the bytes are read as: a call of bytes that are no identifier is turned down (causes 1 and 2), else the word is taken
-abbrev pub serveRead : State → Call (List ℕ) → Read → Outcome
+-- by what it is for: a call of bytes that are no identifier is turned down (causes 1 and 2), else the word is taken
+abbrev pub serveRead : State → Call Token → Read → Outcome
 serveRead s c (Refused a) = record { answer = a; after = s }
 serveRead s c (Word w) = step firstLevel secondLevel s (askOf w c)
 
 -- what a call does
-abbrev pub serve : State → Call (List ℕ) → Outcome
-serve s c = serveRead s c (readOf (subject c))
+abbrev pub serve : State → Call Token → Outcome
+serve s c = serveRead s c (wordFor c)

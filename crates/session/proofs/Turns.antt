@@ -12,6 +12,7 @@ use Rattle.codec.specs.Parts.{written}
 use Rattle.answer.specs.declared.Answer.{Answer}
 use Rattle.answer.specs.declared.Answer.the-variants.{WrongBuckets}
 use Rattle.model.specs.Model.{Call}
+use Rattle.model.specs.Request.{Token}
 use Rattle.concrete.specs.Layout.{inRange, lengthOf, longest}
 use Rattle.concrete.specs.Calls.{rows, solutions, Outcome, openCall, call}
 use Rattle.text.specs.Line.{opening, ask}
@@ -33,7 +34,7 @@ module _ (at k : ℕ) (o o' : List ℕ) where
   pub bad-did : (n : ℕ) (t : List ℕ) → Put badLine → n ≤ length t → Did (refuse tables (heldIn n t)) at o (record { held = n; printed = k }) t o'
   bad-did n t p f = did (refuse tables (heldIn n t)) n t badLine refl p f refl
 
-  module _ (n : ℕ) (t : List ℕ) (c : Call (List ℕ)) where
+  module _ (n : ℕ) (t : List ℕ) (c : Call Token) where
     pub ask-bad : n ≡ 0 → Put badLine → Did (obey tables (heldIn n t) (ask c)) at o (record { held = n; printed = k }) t o'
     ask-bad e p =
         subst⁻¹ (λ m. Did (obey tables m (ask c)) at o (record { held = n; printed = k }) t o') (held-none n t e)

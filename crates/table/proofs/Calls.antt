@@ -17,7 +17,7 @@ use Rattle.identifier.specs.Identifier.{readOf}
 use Rattle.identifier.specs.declared.Read.{Read}
 use Rattle.identifier.specs.declared.Read.the-variants.{Word, Refused}
 use Rattle.model.specs.Model.{Call, add, change, withdraw, query}
-use Rattle.model.specs.Request.{subject, askOf}
+use Rattle.model.specs.Request.{Token, wordFor, askOf}
 use Rattle.concrete.specs.Table.{Table, withCount}
 use Rattle.concrete.specs.Layout.{liveCountAt, numbersOf, tableFrom}
 use Rattle.concrete.specs.Calls.{rows, solutions, tableOf, planIn, shaped, sound, Outcome, turnedDown, queried, replaced, served, callRead, call}
@@ -47,7 +47,7 @@ found-none none e = refl
 abbrev edited : Edit → ℕ → Table → Table
 edited d w T = withCount (touched d w T) (T .count - leaving d)
 
-edit-served : (t : List ℕ) (w : ℕ) (i : List ℕ) (d : Edit) → served t w (asked d i) ≡ replaced t (edited d w (tableOf t)) (planIn t w)
+edit-served : (t : List ℕ) (w : ℕ) (i : Token) (d : Edit) → served t w (asked d i) ≡ replaced t (edited d w (tableOf t)) (planIn t w)
 unfolding served
 edit-served t w i (Change q) =
     let d : Edit = Change q in
@@ -58,7 +58,7 @@ leaving-le : (d : Edit) → leaving d ≤ 1
 leaving-le (Change q) = omega arith
 leaving-le Withdraw = omega arith
 
-module _ (t : List ℕ) (w : ℕ) (i : List ℕ) (f : Found) (e : f ≡ foundOf (planIn t w)) where
+module _ (t : List ℕ) (w : ℕ) (i : Token) (f : Found) (e : f ≡ foundOf (planIn t w)) where
   module _ (p : ℕ) (l : f ≡ Plan p) where
     pub live : planIn t w ≡ some p
     live = found-some (planIn t w) p (sym e ∙ l)
@@ -98,36 +98,36 @@ module _ (t : List ℕ) (w : ℕ) (i : List ℕ) (f : Found) (e : f ≡ foundOf 
 -- ---- the causes before that
 
 -- the identifier plays no part once its word is known
-by-word : (t : List ℕ) (w : ℕ) (c : Call (List ℕ)) → served t w c ≡ served t w (askOf [] c)
+by-word : (t : List ℕ) (w : ℕ) (c : Call Token) → served t w c ≡ served t w (askOf [] c)
 unfolding served
 by-word t w (add i p) = refl
 by-word t w (change i p) = refl
 by-word t w (withdraw i) = refl
 by-word t w (query i) = refl
 
-abbrev after : List ℕ → Call (List ℕ) → Read → Outcome
+abbrev after : List ℕ → Call Token → Read → Outcome
 after t c (Refused a) = turnedDown a t
 after t c (Word w) = served t w c
 
-after-admitted : (t : List ℕ) (c : Call (List ℕ)) (x : Read) → callRead t c x ≡ after t c (admitted t x)
+after-admitted : (t : List ℕ) (c : Call Token) (x : Read) → callRead t c x ≡ after t c (admitted t x)
 after-admitted t c (Refused a) = refl
 after-admitted t c (Word w) = cases (shaped t) (λ p. rw p (cases (sound t) (λ q. rw q) (λ q. rw q))) (λ p. rw p)
 
-module _ (t : List ℕ) (c : Call (List ℕ)) (x : Read) (e : x ≡ admitted t (readOf (subject c))) where
+module _ (t : List ℕ) (c : Call Token) (x : Read) (e : x ≡ admitted t (wordFor c)) where
   pub call-word : (w : ℕ) → x ≡ Word w → call t c ≡ served t w (askOf [] c)
   unfolding call
-  call-word w q = after-admitted t c (readOf (subject c)) ∙ ap (after t c) (sym e ∙ q) ∙ by-word t w c
+  call-word w q = after-admitted t c (wordFor c) ∙ ap (after t c) (sym e ∙ q) ∙ by-word t w c
 
   pub call-refused : (a : Answer) → x ≡ Refused a → call t c ≡ turnedDown a t
   unfolding call
-  call-refused a q = after-admitted t c (readOf (subject c)) ∙ ap (after t c) (sym e ∙ q)
+  call-refused a q = after-admitted t c (wordFor c) ∙ ap (after t c) (sym e ∙ q)
 
 -- the same for an edit
-pub edit-word : (t i : List ℕ) (d : Edit) (x : Read) → x ≡ admitted t (readOf i) → (w : ℕ) → x ≡ Word w → call t (asked d i) ≡ served t w (asked d [])
+pub edit-word : (t : List ℕ) (i : Token) (d : Edit) (x : Read) → x ≡ admitted t (readOf i) → (w : ℕ) → x ≡ Word w → call t (asked d i) ≡ served t w (asked d [])
 edit-word t i (Change q) x = call-word t (change i q) x
 edit-word t i Withdraw x = call-word t (withdraw i) x
 
-pub edit-refused : (t i : List ℕ) (d : Edit) (x : Read) → x ≡ admitted t (readOf i) → (a : Answer) → x ≡ Refused a → call t (asked d i) ≡ turnedDown a t
+pub edit-refused : (t : List ℕ) (i : Token) (d : Edit) (x : Read) → x ≡ admitted t (readOf i) → (a : Answer) → x ≡ Refused a → call t (asked d i) ≡ turnedDown a t
 edit-refused t i (Change q) x = call-refused t (change i q) x
 edit-refused t i Withdraw x = call-refused t (withdraw i) x
 

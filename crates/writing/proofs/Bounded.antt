@@ -21,7 +21,6 @@ use Rattle.gf2.proofs.Inverse as Inverse
 use Rattle.gf2.proofs.Inverse.{set-lt, flip-lt, colStep-lt, length-colStep}
 use Rattle.gf2.proofs.Loops.{length-solStep}
 use Rattle.hash.specs.Mix.{mixOf}
-use Rattle.identifier.specs.Identifier.{readOf}
 use Rattle.identifier.specs.declared.Read.{Read}
 use Rattle.identifier.specs.declared.Read.the-variants.{Word, Refused}
 use Rattle.bucket.specs.declared.Bucket.{Bucket}
@@ -30,7 +29,7 @@ use Rattle.bucket.specs.Words.{Shaped}
 use Rattle.bucket.proofs.Words.{empty-shaped}
 use Rattle.settle.specs.Settle.{Settlement, leaving, withdrawAll, lowered, settle}
 use Rattle.model.specs.Model.{baseLimit, Call, add, change, withdraw, query}
-use Rattle.model.specs.Request.{subject}
+use Rattle.model.specs.Request.{Token, wordFor}
 use Rattle.model.specs.Machine.{after}
 use Rattle.concrete.specs.Table as C
 use Rattle.concrete.specs.Table.{Table}
@@ -183,7 +182,7 @@ module _ (t : List ℕ) (h : BoundedNumbers t) where
   replaced-bounded T k (some p) = numbers T k
   replaced-bounded T k none = h
 
-  served-bounded : (w : ℕ) (c : Call (List ℕ)) → Kept (served t w c)
+  served-bounded : (w : ℕ) (c : Call Token) → Kept (served t w c)
   unfolding served
   served-bounded w (add i p) = go (planIn t w)
     where
@@ -207,9 +206,9 @@ module _ (t : List ℕ) (h : BoundedNumbers t) where
       go (some q) = h
       go none = h
 
-  call-bounded : (c : Call (List ℕ)) → Kept (call t c)
+  call-bounded : (c : Call Token) → Kept (call t c)
   unfolding call
-  call-bounded c = go (readOf (subject c))
+  call-bounded c = go (wordFor c)
     where
       go : (x : Read) → Kept (callRead t c x)
       go (Refused a) = h
