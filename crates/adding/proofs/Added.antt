@@ -22,18 +22,18 @@ use Rattle.settle.specs.declared.Settled.{Settled}
 use Rattle.settle.specs.Settle.{SoundBucket, settle}
 use Rattle.settle.specs.Outgoing.{outgoing, settledOf}
 use Rattle.model.specs.Model.{baseLimit, add}
-use Rattle.concrete.specs.Table.{Table, thr, index, onSecond, put, nth, bucketOf, holds, arriveAt, addedTo}
-use Rattle.concrete.specs.Layout.{header, inRange, numbersOf, bucketPlace, tableFrom}
+use Rattle.concrete.specs.Table.{Table, withFirst, withCount, thr, index, onSecond, put, nth, bucketOf, holds, arriveAt, addedTo}
+use Rattle.concrete.specs.Layout.{leading, buckets1At, buckets2At, liveCountAt, inRange, numbersOf, bucketPlace, tableFrom}
 use Rattle.concrete.specs.Calls.{rows, solutions, tableOf, planIn, Outcome, turnedDown, joined, served}
 use Rattle.concrete.specs.Content.{occupied}
 use Rattle.concrete.specs.Test.{shapeTest}
-use Rattle.concrete.proofs.Numbers.{header-read, forth}
+use Rattle.concrete.proofs.Numbers.{header-read, write-count, forth}
 use Rattle.table.specs.Ready.{Ready}
 use Rattle.table.proofs.Places.{shape-of, laid-of}
 use Rattle.arriving.specs.Arrival.{settledAt, storedAt, toSecond, Straight, Passed, Kept, FlatKept}
 use Rattle.arriving.proofs.Tables.{numbers-table, numbers-kept}
 use Rattle.arriving.proofs.Settled.{straightly, straight-is, bucket-is, out-is, out-few}
-use Rattle.adding.specs.Arrivals.{seconds, withFirst, allToSecond, entering}
+use Rattle.adding.specs.Arrivals.{seconds, allToSecond, entering}
 use Rattle.adding.proofs.Tables.{first-room, first-here, first-sound, first-stored, stored-same}
 use Rattle.adding.proofs.Arrivals.{all-law, add-law}
 use Rattle.adding.proofs.Passing.{pass-none, pass-one}
@@ -43,13 +43,13 @@ passed-as n r t U done b u y g = subst (λ (x : Bool). Passed n r t U x u) y g
 
 -- u is the table t after the add of e, but for the live count
 pub record Counted (n r : ℕ) (S : ℕ → ℕ) (t : List ℕ) (e : Entry) (u : List ℕ) : Type 0 where
-  pub long : 3 < length u
-  pub count : getD u 3 0 ≡ tableFrom n r t .count
+  pub long : liveCountAt < length u
+  pub count : getD u liveCountAt 0 ≡ tableFrom n r t .count
   pub fits : ltb baseLimit (length (addedTo n r S (tableFrom n r t) e .base)) ≡ false
-  pub next : addedTo n r S (tableFrom n r t) e .count ≡ getD u 3 0 + 1
-  pub table : numbersOf (addedTo n r S (tableFrom n r t) e) ≡ set u 3 (getD u 3 0 + 1)
+  pub next : addedTo n r S (tableFrom n r t) e .count ≡ getD u liveCountAt 0 + 1
+  pub table : numbersOf (addedTo n r S (tableFrom n r t) e) ≡ set u liveCountAt (getD u liveCountAt 0 + 1)
 
-module _ (n r : ℕ) (S : ℕ → ℕ) (t : List ℕ) (h : FlatKept n r t) (e : Entry) (small : e .word < 2 ^ n) (at : ℕ) (p : at ≡ bucketPlace n r (index S (getD t 0 0) (e .word)))
+module _ (n r : ℕ) (S : ℕ → ℕ) (t : List ℕ) (h : FlatKept n r t) (e : Entry) (small : e .word < 2 ^ n) (at : ℕ) (p : at ≡ bucketPlace n r (index S (getD t buckets1At 0) (e .word)))
     (m : ℕ) (s : Settled) (q : s ≡ settledOf m (settledAt n r (thr S) at e t)) where
   abbrev T : Table
   T = tableFrom n r t
@@ -70,10 +70,10 @@ module _ (n r : ℕ) (S : ℕ → ℕ) (t : List ℕ) (h : FlatKept n r t) (e : 
   pub enter-few : s .out .count ≤ suc n
   enter-few = out-few n r S m (T .level1) e at t s here q small sound
 
-  U-is : U ≡ record { level1 = arriveAt n r S (T .level1) e .buckets; level2 = D .level2; base = D .base; count = suc (T .count) }
+  U-is : U ≡ withCount (withFirst D (arriveAt n r S (T .level1) e .buckets)) (suc (T .count))
   U-is =
       add-law n r S T e
-      ∙ ap (λ (es : List Entry). let X : Table = allToSecond n r S T (map (onSecond S) es) in record { level1 = arriveAt n r S (T .level1) e .buckets; level2 = X .level2; base = X .base; count = suc (T .count) })
+      ∙ ap (λ (es : List Entry). withCount (withFirst (allToSecond n r S T (map (onSecond S) es)) (arriveAt n r S (T .level1) e .buckets)) (suc (T .count)))
       (sym (out-is n r S m (T .level1) e at t s here q))
 
   -- the words did not go on
@@ -97,7 +97,7 @@ module _ (n r : ℕ) (S : ℕ → ℕ) (t : List ℕ) (h : FlatKept n r t) (e : 
     count-same : D .count ≡ T .count
     count-same = ap (λ (X : Table). X .count) (all-law n r S T (seconds S (s .out)))
 
-    place1 : at ≡ bucketPlace n r (index S (getD t1 0 0) (e .word))
+    place1 : at ≡ bucketPlace n r (index S (getD t1 buckets1At 0) (e .word))
     place1 =
         p ∙ ap (λ (k : ℕ). bucketPlace n r (index S k (e .word)))
         (sym (header-read n r t .0) ∙ ap (λ (bs : List Bucket). length bs) (sym first-same) ∙ ap (λ (X : Table). length (X .level1)) (sym table1) ∙ header-read n r t1 .0)
@@ -123,20 +123,20 @@ module _ (n r : ℕ) (S : ℕ → ℕ) (t : List ℕ) (h : FlatKept n r t) (e : 
           ∙ ap (λ (bs : List Bucket). numbersOf (withFirst D (put S bs (e .word) (s .bucket)))) first-same
           ∙ ap (λ (bs : List Bucket). numbersOf (withFirst D bs)) (bucket-is n r S m (T .level1) e at t s here q)
 
-      counted : getD t2 3 0 ≡ T .count
+      counted : getD t2 liveCountAt 0 ≡ T .count
       unfolding numbersOf
-      counted = ap (λ (l : List ℕ). getD l 3 0) t2-is ∙ count-same
+      counted = ap (λ (l : List ℕ). getD l liveCountAt 0) t2-is ∙ count-same
 
       pub enter-counted : Counted n r S t e t2
       unfolding numbersOf
       enter-counted =
-          let c : suc (T .count) ≡ getD t2 3 0 + 1 = omega (arith, counted) in
+          let c : suc (T .count) ≡ getD t2 liveCountAt 0 + 1 = omega (arith, counted) in
           record {
             long = omega (arith, ap (λ (l : List ℕ). length l) t2-is);
             count = counted;
             fits = le-ltb baseLimit (length (U .base)) (omega (arith, kept-D .short, ap (λ (X : Table). length (X .base)) U-is));
             next = c;
-            table = ap numbersOf U-is ∙ sym (ap₂ (λ (l : List ℕ) (k : ℕ). set l 3 k) t2-is (sym c));
+            table = ap numbersOf U-is ∙ write-count n r E (suc (T .count)) ∙ sym (ap₂ (λ (l : List ℕ) (k : ℕ). set l liveCountAt k) t2-is (sym c));
           }
 
 -- ---- a word that settles at once: straight into its bucket, or in none at level 1. Either way u is the table before it is counted
@@ -146,7 +146,7 @@ module _ (n : ℕ) (thr : ℕ → ℕ) (e : Entry) (b : Bucket) where
   settle-passes zero h = refl
   settle-passes (suc t) h = cond-false _ _ (le-ltb (thr (e .word)) (suc t) h)
 
-module _ (n r : ℕ) (S : ℕ → ℕ) (t : List ℕ) (h : FlatKept n r t) (e : Entry) (small : e .word < 2 ^ n) (at : ℕ) (p : at ≡ bucketPlace n r (index S (getD t 0 0) (e .word))) where
+module _ (n r : ℕ) (S : ℕ → ℕ) (t : List ℕ) (h : FlatKept n r t) (e : Entry) (small : e .word < 2 ^ n) (at : ℕ) (p : at ≡ bucketPlace n r (index S (getD t buckets1At 0) (e .word))) where
   pub counted-straight : (u : List ℕ) → Straight n r (thr S) at e t true u → Counted n r S t e u
   unfolding outgoing
   counted-straight u g =
@@ -186,9 +186,9 @@ occupied-few n r (b ∷ bs) h =
     omega arith
 
 module _ (t : List ℕ) (h : Ready t) where
-  in-range : inRange (getD t 0 0) (getD t 1 0) ≡ true
+  in-range : inRange (getD t buckets1At 0) (getD t buckets2At 0) ≡ true
   unfolding shapeTest
-  in-range = and-one (inRange (getD t 0 0) (getD t 1 0)) _ (and-two (leb header (length t)) _ (h .shape))
+  in-range = and-one (inRange (getD t buckets1At 0) (getD t buckets2At 0)) _ (and-two (leb leading (length t)) _ (h .shape))
 
   pub ready-kept : FlatKept rows solutions t
   ready-kept = record {
@@ -216,7 +216,7 @@ module _ (t : List ℕ) (h : Ready t) where
         header-read rows solutions t .1,
       )
 
-  pub count-room : (e : Entry) (u : List ℕ) → Counted rows solutions mixOf t e u → (3 < length u) × (getD u 3 0 + 1 < 2 ^ 64)
+  pub count-room : (e : Entry) (u : List ℕ) → Counted rows solutions mixOf t e u → (liveCountAt < length u) × (getD u liveCountAt 0 + 1 < 2 ^ 64)
   count-room e u g = (g .long, subst⁻¹ (λ (k : ℕ). k + 1 < 2 ^ 64) (g .count) live-room)
 
 module _ (t : List ℕ) (w p : ℕ) where
@@ -231,7 +231,7 @@ module _ (t : List ℕ) (w p : ℕ) where
 
   -- u is counted: a is the answer, v the table then
   pub entered-done : (u : List ℕ) → Counted rows solutions mixOf t (record { word = w; plan = p }) u → (a : Answer) (v : List ℕ)
-      → (a ≡ Accepted (getD u 3 0 + 1)) × (v ≡ set u 3 (getD u 3 0 + 1)) → (a ≡ outcome .answer) × (v ≡ outcome .table)
+      → (a ≡ Accepted (getD u liveCountAt 0 + 1)) × (v ≡ set u liveCountAt (getD u liveCountAt 0 + 1)) → (a ≡ outcome .answer) × (v ≡ outcome .table)
   entered-done u g a v k =
       let e = cond-false (turnedDown Full t) (record { answer = Accepted (added .count); table = numbersOf added }) (g .fits) in
       (k .0 ∙ ap Accepted (sym (g .next)) ∙ ap (λ (o : Outcome). o .answer) (sym e), k .1 ∙ sym (g .table) ∙ ap (λ (o : Outcome). o .table) (sym e))

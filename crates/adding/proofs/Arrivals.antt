@@ -13,8 +13,8 @@ use Rattle.lists.specs.Entries.{Entry, words, insertAll}
 use Rattle.lists.proofs.Tests.{cases}
 use Rattle.bucket.specs.declared.Bucket.{Bucket}
 use Rattle.bucket.specs.Bucket.{emptyBucket}
-use Rattle.concrete.specs.Table.{Table, Placed, index, onSecond, put, nth, bucketOf, arriveAt, arriveAll, addedTo}
-use Rattle.arriving.specs.Arrival.{withSecond, withBase, toSecond}
+use Rattle.concrete.specs.Table.{Table, withFirst, withSecond, withBase, withCount, Placed, index, onSecond, put, nth, bucketOf, arriveAt, arriveAll, addedTo}
+use Rattle.arriving.specs.Arrival.{toSecond}
 use Rattle.arriving.proofs.Arrival.{insert-all-length}
 use Rattle.adding.specs.Arrivals.{allToSecond, takeOver}
 
@@ -38,15 +38,9 @@ module _ (n r : ℕ) (S : ℕ → ℕ) where
   -- the table after an add
   pub add-law : (T : Table) (e : Entry)
       → addedTo n r S T e
-      ≡ record {
-        level1 = arriveAt n r S (T .level1) e .buckets;
-        level2 = allToSecond n r S T (map (onSecond S) (arriveAt n r S (T .level1) e .out)) .level2;
-        base = allToSecond n r S T (map (onSecond S) (arriveAt n r S (T .level1) e .out)) .base;
-        count = suc (T .count);
-      }
+      ≡ withCount (withFirst (allToSecond n r S T (map (onSecond S) (arriveAt n r S (T .level1) e .out))) (arriveAt n r S (T .level1) e .buckets)) (suc (T .count))
   add-law T e =
-      ap (λ (U : Table). record { level1 = arriveAt n r S (T .level1) e .buckets; level2 = U .level2; base = U .base; count = suc (T .count) })
-      (sym (all-law T (map (onSecond S) (arriveAt n r S (T .level1) e .out))))
+      ap (λ (U : Table). withCount (withFirst U (arriveAt n r S (T .level1) e .buckets)) (suc (T .count))) (sym (all-law T (map (onSecond S) (arriveAt n r S (T .level1) e .out))))
 
   -- the base list grows
   pub base-grows : (T : Table) (es : List Entry) → length (T .base) ≤ length (allToSecond n r S T es .base)

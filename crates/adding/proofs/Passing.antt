@@ -15,10 +15,10 @@ use Rattle.bucket.specs.declared.Bucket.{Bucket}
 use Rattle.bucket_words.specs.Words.{bucketWords, bucketFrom}
 use Rattle.settle.specs.declared.Outgoing.{Outgoing}
 use Rattle.model.specs.Model.{baseLimit}
-use Rattle.concrete.specs.Table.{Table, index, onSecond, put, bucketOf}
-use Rattle.concrete.specs.Layout.{inRange, numbersOf, bucketPlace, tableFrom}
+use Rattle.concrete.specs.Table.{Table, withSecond, withBase, index, onSecond, put, bucketOf}
+use Rattle.concrete.specs.Layout.{buckets1At, buckets2At, inRange, numbersOf, bucketPlace, tableFrom}
 use Rattle.concrete.proofs.Numbers.{header-read}
-use Rattle.arriving.specs.Arrival.{entriesFrom, entriesOf, storedAt, withSecond, withBase, toSecond, Passed, Kept, FlatKept}
+use Rattle.arriving.specs.Arrival.{entriesFrom, entriesOf, storedAt, toSecond, Passed, Kept, FlatKept}
 use Rattle.arriving.proofs.Tables.{second-room, second-here, second-sound, second-stored, second-kept, numbers-table, numbers-kept}
 use Rattle.arriving.proofs.Arrival.{entries-next, entries-length}
 use Rattle.adding.specs.Arrivals.{seconds, allToSecond, takeOver, Drafted, Alike}
@@ -106,8 +106,8 @@ module _ (n r : ℕ) (S : ℕ → ℕ) where
     abbrev E : Table
     E = tableFrom n r d
 
-    module _ (v : ℕ) (p : ℕ) (e : p ≡ bucketPlace n r (getD d 0 0 + index S (getD d 1 0) v)) where
-      there : p ≡ bucketPlace n r (getD t 0 0 + index S (getD t 1 0) v)
+    module _ (v : ℕ) (p : ℕ) (e : p ≡ bucketPlace n r (getD d buckets1At 0 + index S (getD d buckets2At 0) v)) where
+      there : p ≡ bucketPlace n r (getD t buckets1At 0 + index S (getD t buckets2At 0) v)
       there = e ∙ sym (ap₂ (λ (a m : ℕ). bucketPlace n r (a + index S m v)) (h .alike .buckets1) (h .alike .buckets2))
 
       pub taking-room : p + bucketWords n r ≤ length t

@@ -12,13 +12,12 @@ use Rattle.bucket.specs.declared.Bucket.{Bucket}
 use Rattle.bucket_words.specs.Words.{bucketWords, wordsOf, bucketFrom}
 use Rattle.bucket_words.proofs.Words.{words-from}
 use Rattle.settle.specs.Settle.{SoundBucket}
-use Rattle.concrete.specs.Table.{Table, index, put, bucketOf}
-use Rattle.concrete.specs.Layout.{baseNumbers, mostBuckets1, mostBuckets2, numbersOf, bucketPlace, tableFrom, lengthOf}
+use Rattle.concrete.specs.Table.{Table, withFirst, index, put, bucketOf}
+use Rattle.concrete.specs.Layout.{buckets1At, buckets2At, baseNumbers, mostBuckets1, mostBuckets2, numbersOf, bucketPlace, tableFrom, longest}
 use Rattle.concrete.proofs.Numbers.{length-base, header-read, write-first}
 use Rattle.layout.proofs.Shape.{first-lt, first-bucket, first-in}
 use Rattle.arriving.specs.Arrival.{storedAt, FlatKept}
 use Rattle.arriving.proofs.Tables.{kept-shaped, shape-of, last-is}
-use Rattle.adding.specs.Arrivals.{withFirst}
 
 module _ (n r : ℕ) where
   -- a bucket stored where it is read from
@@ -32,18 +31,18 @@ module _ (n r : ℕ) where
     abbrev T : Table
     T = tableFrom n r t
 
-    pub not-longer : length t ≤ lengthOf n r mostBuckets1 mostBuckets2
+    pub not-longer : length t ≤ longest n r
     not-longer =
         let k = shape-of n r t h .range in
-        let l : (getD t 0 0 + getD t 1 0) * bucketWords n r ≤ (mostBuckets1 + mostBuckets2) * bucketWords n r = mul-le-mul-right (bucketWords n r) (omega arith) in
+        let l : (getD t buckets1At 0 + getD t buckets2At 0) * bucketWords n r ≤ (mostBuckets1 + mostBuckets2) * bucketWords n r = mul-le-mul-right (bucketWords n r) (omega arith) in
         omega (arith, shape-of n r t h .size)
 
     -- the base list, from its place on
-    pub last-length : (p : ℕ) → p ≡ bucketPlace n r (getD t 0 0 + getD t 1 0) → length (take (length t - p) (drop p t)) ≡ baseNumbers
+    pub last-length : (p : ℕ) → p ≡ bucketPlace n r (getD t buckets1At 0 + getD t buckets2At 0) → length (take (length t - p) (drop p t)) ≡ baseNumbers
     last-length p e = ap (λ (l : List ℕ). length l) (last-is n r t h p e) ∙ length-base (T .base) (h .table .short)
 
     -- the bucket of v at its place: it is in the table, it is sound, and where another is stored the table has that
-    module _ (S : ℕ → ℕ) (v p : ℕ) (e : p ≡ bucketPlace n r (index S (getD t 0 0) v)) where
+    module _ (S : ℕ → ℕ) (v p : ℕ) (e : p ≡ bucketPlace n r (index S (getD t buckets1At 0) v)) where
       pub first-room : p + bucketWords n r ≤ length t
       first-room = subst⁻¹ (λ (k : ℕ). k + bucketWords n r ≤ length t) e (first-in n r t (shape-of n r t h) S v)
 

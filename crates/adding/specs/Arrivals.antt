@@ -9,20 +9,15 @@ use mathlib.Core.List.{List, [], _∷_, map}
 use lib.ListN.{getD}
 use Rattle.lists.specs.Entries.{Entry}
 use Rattle.hash.specs.Mix.{mixOf}
-use Rattle.bucket.specs.declared.Bucket.{Bucket}
 use Rattle.settle.specs.declared.Outgoing.{Outgoing}
-use Rattle.concrete.specs.Table.{Table, onSecond, put, bucketOf, addedTo}
+use Rattle.concrete.specs.Table.{Table, withSecond, onSecond, put, bucketOf, addedTo}
 use Rattle.concrete.specs.Calls.{rows, solutions, tableOf, Outcome, joined}
-use Rattle.concrete.specs.Layout.{numbersOf}
-use Rattle.arriving.specs.Arrival.{entriesOf, withSecond, toSecond, fits, Kept, FlatKept}
+use Rattle.concrete.specs.Layout.{buckets1At, buckets2At, numbersOf}
+use Rattle.arriving.specs.Arrival.{entriesOf, toSecond, fits, Kept, FlatKept}
 
 -- the words that leave level 1, as level 2 sees them
 abbrev pub seconds : (ℕ → ℕ) → Outgoing → List Entry
 seconds S o = map (onSecond S) (entriesOf o)
-
--- the table with these buckets at level 1
-abbrev pub withFirst : Table → List Bucket → Table
-withFirst T bs = record { level1 = bs; level2 = T .level2; base = T .base; count = T .count }
 
 module _ (n r : ℕ) (S : ℕ → ℕ) where
   -- words arrive at level 2 one after the other
@@ -46,8 +41,8 @@ module _ (n r : ℕ) where
   pub record Alike (t u : List ℕ) : Type 0 where
     pub one : FlatKept n r t
     pub other : FlatKept n r u
-    pub buckets1 : getD t 0 0 ≡ getD u 0 0
-    pub buckets2 : getD t 1 0 ≡ getD u 1 0
+    pub buckets1 : getD t buckets1At 0 ≡ getD u buckets1At 0
+    pub buckets2 : getD t buckets2At 0 ≡ getD u buckets2At 0
 
 -- what an add of the word e, which is not live, does at 64 rows and 8 solution words
 abbrev pub entering : List ℕ → Entry → Outcome

@@ -18,10 +18,11 @@ ghost use Rattle.lists.specs.Entries.{words};
 ghost use Rattle.hash.specs.Mix.{mixOf};
 ghost use Rattle.answer.specs.declared.Answer.the-variants.{Accepted};
 ghost use Rattle.model.specs.Model.{add};
+ghost use Rattle.concrete.specs.Table.{withBase};
 ghost use Rattle.concrete.specs.Layout.{numbersOf};
 ghost use Rattle.concrete.specs.Calls.{rows, solutions, tableOf, served, call};
 ghost use Rattle.table.specs.Ready.{Ready};
-ghost use Rattle.arriving.specs.Arrival.{withBase, Passed, FlatKept};
+ghost use Rattle.arriving.specs.Arrival.{Passed, FlatKept};
 ghost use Rattle.adding.specs.Arrivals.{seconds, allToSecond, takeOver, Drafted, Alike, entering};
 
 // The words that leave level 1 arrive at level 2 one after the other. False as soon as the base list has no room.

@@ -21,10 +21,10 @@ use Rattle.settle.specs.Settle.{SoundBucket, Settlement, settle}
 use Rattle.settle.specs.Outgoing.{outgoing, settledOf}
 use Rattle.settle.proofs.Sound.{settle-sound, settle-few}
 use Rattle.model.specs.Model.{baseLimit}
-use Rattle.concrete.specs.Table.{Table, thr, index, put, bucketOf, arriveAt}
-use Rattle.concrete.specs.Layout.{numbersOf, bucketPlace, tableFrom}
+use Rattle.concrete.specs.Table.{Table, withSecond, withBase, thr, index, put, bucketOf, arriveAt}
+use Rattle.concrete.specs.Layout.{buckets1At, buckets2At, baseCountAt, numbersOf, bucketPlace, tableFrom}
 use Rattle.concrete.proofs.Numbers.{from-part}
-use Rattle.arriving.specs.Arrival.{entriesOf, settledAt, storedAt, goesIn, addedIn, withSecond, withBase, toSecond, Straight, Passed, Kept, FlatKept}
+use Rattle.arriving.specs.Arrival.{entriesOf, settledAt, storedAt, goesIn, addedIn, toSecond, Straight, Passed, Kept, FlatKept}
 use Rattle.arriving.proofs.Tables.{count0, second-here, second-sound, second-stored, second-kept, numbers-table, numbers-kept}
 use Rattle.arriving.proofs.Arrival.{entries-back, insert-all-length, to-second-kept}
 
@@ -130,7 +130,7 @@ module _ (n r : ℕ) (S : ℕ → ℕ) (m : ℕ) (bs : List Bucket) (e : Entry) 
 
 -- ---- a word at level 2
 
-module _ (n r : ℕ) (S : ℕ → ℕ) (t : List ℕ) (h : FlatKept n r t) (e : Entry) (at : ℕ) (p : at ≡ bucketPlace n r (getD t 0 0 + index S (getD t 1 0) (e .word)))
+module _ (n r : ℕ) (S : ℕ → ℕ) (t : List ℕ) (h : FlatKept n r t) (e : Entry) (at : ℕ) (p : at ≡ bucketPlace n r (getD t buckets1At 0 + index S (getD t buckets2At 0) (e .word)))
     (m : ℕ) (s : Settled) (q : s ≡ settledOf m (settledAt n r (thr S) at e t)) where
   abbrev T : Table
   T = tableFrom n r t
@@ -144,13 +144,13 @@ module _ (n r : ℕ) (S : ℕ → ℕ) (t : List ℕ) (h : FlatKept n r t) (e : 
   sound : SoundBucket n r (bucketOf n r S (T .level2) (e .word))
   sound = second-sound n r t h S (e .word) at p
 
-  base-length : length (U .base) ≡ getD t 2 0 + s .out .count
+  base-length : length (U .base) ≡ getD t baseCountAt 0 + s .out .count
   base-length = omega (arith, insert-all-length (arriveAt n r S (T .level2) e .out) (T .base), out-count n r S m (T .level2) e at t s here q, count0 n r t h)
 
   pub arrive-few : e .word < 2 ^ n → s .out .count ≤ suc n
   arrive-few small = out-few n r S m (T .level2) e at t s here q small sound
 
-  pub arrive-full : baseLimit < getD t 2 0 + s .out .count → Passed n r t U false t
+  pub arrive-full : baseLimit < getD t baseCountAt 0 + s .out .count → Passed n r t U false t
   arrive-full l = record { says = sym (lt-leb (length (U .base)) baseLimit (omega (arith, base-length))); kept = λ z. absurd (true≢false (sym z)); table = refl }
 
   module _ (small : e .word < 2 ^ n) (t1 : List ℕ) (q1 : t1 ≡ storedAt n r at (s .bucket) t) where
@@ -169,11 +169,11 @@ module _ (n r : ℕ) (S : ℕ → ℕ) (t : List ℕ) (h : FlatKept n r t) (e : 
     pub arrive-stored : FlatKept n r t1
     arrive-stored = numbers-kept n r T1 kept1 t1 stored
 
-    pub arrive-count : getD t1 2 0 ≡ getD t 2 0
+    pub arrive-count : getD t1 baseCountAt 0 ≡ getD t baseCountAt 0
     arrive-count = sym (count0 n r t1 arrive-stored) ∙ ap (λ (X : Table). length (X .base)) table1 ∙ count0 n r t h
 
     pub arrive-done : (t2 : List ℕ) → t2 ≡ numbersOf (withBase (tableFrom n r t1) (insertAll (entriesOf (s .out)) (tableFrom n r t1 .base)))
-        → getD t 2 0 + s .out .count ≤ baseLimit → Passed n r t U true t2
+        → getD t baseCountAt 0 + s .out .count ≤ baseLimit → Passed n r t U true t2
     arrive-done t2 q2 l =
         let short : length (U .base) ≤ baseLimit = omega (arith, base-length) in
         record {
@@ -185,7 +185,7 @@ module _ (n r : ℕ) (S : ℕ → ℕ) (t : List ℕ) (h : FlatKept n r t) (e : 
         }
 
 -- straight into its bucket
-pub arrive-straight : (n r : ℕ) (S : ℕ → ℕ) (t : List ℕ) (h : FlatKept n r t) (e : Entry) (at : ℕ) → at ≡ bucketPlace n r (getD t 0 0 + index S (getD t 1 0) (e .word)) → e .word < 2 ^ n
+pub arrive-straight : (n r : ℕ) (S : ℕ → ℕ) (t : List ℕ) (h : FlatKept n r t) (e : Entry) (at : ℕ) → at ≡ bucketPlace n r (getD t buckets1At 0 + index S (getD t buckets2At 0) (e .word)) → e .word < 2 ^ n
     → (u : List ℕ) → Straight n r (thr S) at e t true u → Passed n r t (toSecond n r S (tableFrom n r t) e) true u
 unfolding outgoing
 arrive-straight n r S t h e at p small u g =

@@ -2,14 +2,13 @@
 -- of solution words, and for every mix S.
 -- Assumes nothing.
 use Prim.Native.Nat.{ℕ, _+_, _-_, _≤_, _<_}
-use native.Mathlib.Nat.{add-mul}
 use native.Mathlib.Omega.{arith}
 use mathlib.Core.Path.{_≡_, sym, ap, ap₂, _∙_, subst, subst⁻¹}
 use mathlib.Core.Bool.{true}
-use mathlib.Core.List.{List, [], _∷_, _++_, append-nil}
+use mathlib.Core.List.{List, _++_, append-nil}
 use lib.Dec.{eqb}
 use lib.ListN.{length, getD, set, take, drop, length-append, length-set, length-drop, drop-of-length-le}
-use lib.Seq.{getD-set-same, getD-set-other, length-take-le, drop-append-add, take-all}
+use lib.Seq.{getD-set-same, getD-set-other, length-take-le, take-all}
 use borrow.Author.Tests.{eqb-true, eqb-false, eq-eqb, le-leb}
 use borrow.Rule.Slice.PartMut.{putMid}
 use Rattle.lists.specs.Entries.{Entry}
@@ -19,13 +18,13 @@ use Rattle.bucket.specs.Bucket.{emptyBucket}
 use Rattle.bucket_words.specs.Words.{bucketWords, bucketFrom}
 use Rattle.settle.specs.Settle.{SoundBucket}
 use Rattle.model.specs.Model.{baseLimit}
-use Rattle.concrete.specs.Table.{Table, index, put, nth, bucketOf}
-use Rattle.concrete.specs.Layout.{header, inRange, levelNumbers, pairsFrom, basePairs, numbersOf, bucketPlace, tableFrom, lengthOf}
+use Rattle.concrete.specs.Table.{Table, withSecond, withBase, index, put, nth, bucketOf}
+use Rattle.concrete.specs.Layout.{leading, buckets1At, buckets2At, baseCountAt, header, inRange, pairsFrom, basePairs, numbersOf, bucketPlace, tableFrom, lengthOf}
 use Rattle.concrete.specs.Test.{shapeTest}
-use Rattle.concrete.proofs.Numbers.{ShapedTable, length-level, header-read, back, laid, write-second, write-base}
+use Rattle.concrete.proofs.Numbers.{ShapedTable, drop-base, header-read, back, laid, write-second, write-base}
 use Rattle.layout.proofs.Shape.{Shape, range, second-lt, second-bucket, second-in}
 use Rattle.base.specs.Base.{Pairs}
-use Rattle.arriving.specs.Arrival.{storedAt, withSecond, withBase, Kept, FlatKept}
+use Rattle.arriving.specs.Arrival.{storedAt, Kept, FlatKept}
 use Rattle.arriving.proofs.Base.{from-pairs, pairs-of}
 
 module _ (n r : ℕ) where
@@ -60,17 +59,6 @@ module _ (n r : ℕ) where
     pub base-kept : (es : List Entry) → length es ≤ baseLimit → Kept n r (withBase T es)
     base-kept es l = record { range = h .range; first = h .first; second = h .second; short = l }
 
-    -- the numbers of the base list are the last
-    base-part : drop (bucketPlace n r (length (T .level1) + length (T .level2))) (numbersOf T) ≡ basePairs (T .base)
-    unfolding numbersOf
-    base-part =
-        let l1 : List ℕ = levelNumbers (T .level1) in
-        let l2 : List ℕ = levelNumbers (T .level2) in
-        let heads : List ℕ = length (T .level1) ∷ length (T .level2) ∷ length (T .base) ∷ T .count ∷ [] in
-        let e : bucketPlace n r (length (T .level1) + length (T .level2)) ≡ header + (length l1 + (length l2 + 0)) =
-        omega (arith, add-mul (length (T .level1)) (length (T .level2)) (bucketWords n r), length-level n r (T .level1) (kept-shaped .first), length-level n r (T .level2) (kept-shaped .second)) in
-        ap (λ (k : ℕ). drop k (numbersOf T)) e ∙ drop-append-add heads _ (length l1 + (length l2 + 0)) ∙ drop-append-add l1 _ (length l2 + 0) ∙ drop-append-add l2 _ 0
-
     -- its numbers give it back
     module _ (t : List ℕ) (q : t ≡ numbersOf T) where
       pub numbers-table : tableFrom n r t ≡ T
@@ -88,33 +76,33 @@ module _ (n r : ℕ) where
     abbrev whole : ShapedTable n r T
     whole = kept-shaped T (h .table)
 
-    count1 : length (T .level1) ≡ getD t 0 0
+    count1 : length (T .level1) ≡ getD t buckets1At 0
     count1 = header-read n r t .0
 
-    count2 : length (T .level2) ≡ getD t 1 0
+    count2 : length (T .level2) ≡ getD t buckets2At 0
     count2 = header-read n r t .1
 
-    pub count0 : length (T .base) ≡ getD t 2 0
+    pub count0 : length (T .base) ≡ getD t baseCountAt 0
     count0 = header-read n r t .2
 
-    range-is : inRange (getD t 0 0) (getD t 1 0) ≡ true
+    range-is : inRange (getD t buckets1At 0) (getD t buckets2At 0) ≡ true
     range-is = sym (ap₂ inRange count1 count2) ∙ h .table .range
 
     pub shape-of : Shape n r t
     shape-of = record {
-      range = range (getD t 0 0) (getD t 1 0) range-is;
-      size = subst (λ (l : List ℕ). length l ≡ lengthOf n r (getD l 0 0) (getD l 1 0)) (h .numbers) (laid n r T whole .size);
+      range = range (getD t buckets1At 0) (getD t buckets2At 0) range-is;
+      size = subst (λ (l : List ℕ). length l ≡ lengthOf n r (getD l buckets1At 0) (getD l buckets2At 0)) (h .numbers) (laid n r T whole .size);
     }
 
     pub shape : shapeTest n r t ≡ true
     unfolding shapeTest
-    shape = let e = shape-of .size in and-both (le-leb header (length t) (omega arith)) (and-both range-is (eq-eqb _ _ e))
+    shape = let e = shape-of .size in and-both (le-leb leading (length t) (omega arith)) (and-both range-is (eq-eqb _ _ e))
 
     pub long : header ≤ length t
     long = omega (arith, shape-of .size)
 
     -- the base list, from its place on
-    module _ (p : ℕ) (e : p ≡ bucketPlace n r (getD t 0 0 + getD t 1 0)) where
+    module _ (p : ℕ) (e : p ≡ bucketPlace n r (getD t buckets1At 0 + getD t buckets2At 0)) where
       place-is : p ≡ bucketPlace n r (length (T .level1) + length (T .level2))
       place-is = e ∙ sym (ap₂ (λ (a b : ℕ). bucketPlace n r (a + b)) count1 count2)
 
@@ -126,27 +114,27 @@ module _ (n r : ℕ) where
 
       pub last-is : last ≡ basePairs (T .base)
       last-is =
-          take-all (length t - p) (drop p t) (omega (arith, length-drop p t)) ∙ ap₂ (λ (k : ℕ) (l : List ℕ). drop k l) place-is (sym (h .numbers)) ∙ base-part T (h .table)
+          take-all (length t - p) (drop p t) (omega (arith, length-drop p t)) ∙ ap₂ (λ (k : ℕ) (l : List ℕ). drop k l) place-is (sym (h .numbers)) ∙ drop-base n r T whole
 
-      pub last-pairs : Pairs baseLimit (getD t 2 0) last
-      last-pairs = subst⁻¹ (Pairs baseLimit (getD t 2 0)) last-is (pairs-of (getD t 2 0) (T .base) count0 (subst (λ (k : ℕ). k ≤ baseLimit) count0 (h .table .short)))
+      pub last-pairs : Pairs baseLimit (getD t baseCountAt 0) last
+      last-pairs = subst⁻¹ (Pairs baseLimit (getD t baseCountAt 0)) last-is (pairs-of (getD t baseCountAt 0) (T .base) count0 (subst (λ (k : ℕ). k ≤ baseLimit) count0 (h .table .short)))
 
-      pub last-read : pairsFrom (getD t 2 0) last ≡ T .base
-      last-read = ap (pairsFrom (getD t 2 0)) last-is ∙ from-pairs (getD t 2 0) (T .base) count0
+      pub last-read : pairsFrom (getD t baseCountAt 0) last ≡ T .base
+      last-read = ap (pairsFrom (getD t baseCountAt 0)) last-is ∙ from-pairs (getD t baseCountAt 0) (T .base) count0
 
       -- written anew, and its count
-      pub last-room : (ys : List ℕ) → 2 < length (putMid p (length t - p) t ys)
+      pub last-room : (ys : List ℕ) → baseCountAt < length (putMid p (length t - p) t ys)
       last-room ys = omega (arith, length-append (take p t) (ys ++ drop (length t - p) (drop p t)), length-take-le p t place-le)
 
-      pub last-put : (es : List Entry) (ys : List ℕ) (k : ℕ) → ys ≡ basePairs es → k ≡ length es → set (putMid p (length t - p) t ys) 2 k ≡ numbersOf (withBase T es)
+      pub last-put : (es : List Entry) (ys : List ℕ) (k : ℕ) → ys ≡ basePairs es → k ≡ length es → set (putMid p (length t - p) t ys) baseCountAt k ≡ numbersOf (withBase T es)
       last-put es ys k q l =
-          ap₂ (λ (zs : List ℕ) (j : ℕ). set (take p t ++ zs) 2 j)
+          ap₂ (λ (zs : List ℕ) (j : ℕ). set (take p t ++ zs) baseCountAt j)
           (ap₂ (λ (zs ws : List ℕ). zs ++ ws) q (drop-of-length-le (drop p t) {i = length t - p} (omega (arith, length-drop p t))) ∙ append-nil (basePairs es)) l
-          ∙ ap₂ (λ (j : ℕ) (l : List ℕ). set (take j l ++ basePairs es) 2 (length es)) place-is (sym (h .numbers))
+          ∙ ap₂ (λ (j : ℕ) (l : List ℕ). set (take j l ++ basePairs es) baseCountAt (length es)) place-is (sym (h .numbers))
           ∙ sym (write-base n r T whole es)
 
     -- the bucket of v at its place: it is in the table, it is sound, and where another is stored the table has that
-    module _ (S : ℕ → ℕ) (v p : ℕ) (e : p ≡ bucketPlace n r (getD t 0 0 + index S (getD t 1 0) v)) where
+    module _ (S : ℕ → ℕ) (v p : ℕ) (e : p ≡ bucketPlace n r (getD t buckets1At 0 + index S (getD t buckets2At 0) v)) where
       pub second-room : p + bucketWords n r ≤ length t
       second-room = subst⁻¹ (λ (k : ℕ). k + bucketWords n r ≤ length t) e (second-in n r t shape-of S v)
 

@@ -14,7 +14,7 @@ use Rattle.bucket_words.specs.Words.{bucketWords, wordsOf, bucketFrom}
 use Rattle.settle.specs.declared.Outgoing.{Outgoing}
 use Rattle.settle.specs.Settle.{SoundBucket, Settlement, settle}
 use Rattle.model.specs.Model.{baseLimit}
-use Rattle.concrete.specs.Table.{Table, Placed, nth, arriveAt}
+use Rattle.concrete.specs.Table.{Table, withSecond, withBase, Placed, nth, arriveAt}
 use Rattle.concrete.specs.Layout.{inRange, numbersOf, tableFrom}
 
 -- k words with their plans, from the front of two lists
@@ -47,14 +47,6 @@ module _ (n r : ℕ) where
   pub record Straight (thr : ℕ → ℕ) (at : ℕ) (e : Entry) (t : List ℕ) (done : Bool) (after : List ℕ) : Type 0 where
     pub says : done ≡ goesIn thr e (drop at t)
     pub table : after ≡ cond done (storedAt at (settledAt thr at e t .bucket) t) t
-
--- the table with these buckets at level 2
-abbrev pub withSecond : Table → List Bucket → Table
-withSecond T bs = record { level1 = T .level1; level2 = bs; base = T .base; count = T .count }
-
--- with this base list
-abbrev pub withBase : Table → List Entry → Table
-withBase T es = record { level1 = T .level1; level2 = T .level2; base = es; count = T .count }
 
 module _ (n r : ℕ) (S : ℕ → ℕ) where
   -- the word e arrives at level 2, and what leaves that at the base list

@@ -19,10 +19,11 @@ ghost use Rattle.bucket_words.specs.Words.{bucketFrom};
 ghost use Rattle.settle.specs.Settle.{SoundBucket, thresholdOf};
 ghost use Rattle.settle.specs.Outgoing.{settledOf};
 ghost use Rattle.model.specs.Model.{baseLimit};
+ghost use Rattle.concrete.specs.Table.{withBase};
 ghost use Rattle.concrete.specs.Layout.{pairsFrom, basePairs, numbersOf};
 ghost use Rattle.concrete.specs.Calls.{rows, solutions, tableOf};
 ghost use Rattle.base.specs.Base.{Pairs};
-ghost use Rattle.arriving.specs.Arrival.{entriesOf, settledAt, storedAt, goesIn, addedIn, withBase, toSecond, Straight, Passed, FlatKept};
+ghost use Rattle.arriving.specs.Arrival.{entriesOf, settledAt, storedAt, goesIn, addedIn, toSecond, Straight, Passed, FlatKept};
 
 // v with its plan settles in the bucket at a place. Nothing is written.
 pub fn settled_at(t: &[u64], at: usize, v: u64, plan: u64) -> Settled

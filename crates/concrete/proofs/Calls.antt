@@ -15,24 +15,22 @@ use Rattle.lists.proofs.Tests.{cond-true, and-one, and-two, and-both}
 use Rattle.hash.specs.Mix.{mixOf, unmixOf}
 use Rattle.hash.proofs.Inverse.{mix-lt, unmix-lt, unmix-mix, mix-unmix}
 use Rattle.answer.specs.declared.Answer.the-variants.{Accepted, Full}
-use Rattle.identifier.specs.Identifier.{readOf}
 use Rattle.identifier.specs.declared.Read.{Read}
 use Rattle.identifier.specs.declared.Read.the-variants.{Word, Refused}
-use Rattle.identifier.proofs.Causes.{read-word}
-use Rattle.identifier.proofs.Words.{word-lt}
 use Rattle.bucket.specs.declared.Bucket.{Bucket}
 use Rattle.model.specs.Levels.{firstLevel, secondLevel}
 use Rattle.model.specs.Model as M
-use Rattle.model.specs.Model.{baseLimit, State, Call, add, change, withdraw, query, opened, withLive, wouldLeave, base, stepAdd, stepLive, step}
-use Rattle.model.specs.Request.{subject, askOf, serveRead, serve}
+use Rattle.model.specs.Model.{baseLimit, Size, State, Call, add, change, withdraw, query, opened, withLive, wouldLeave, base, stepAdd, stepLive, step}
+use Rattle.model.specs.Request.{Token, wordFor, askOf, serveRead, serve, Request, ask, respond}
+use Rattle.model.proofs.Requests.{word-small}
 use Rattle.concrete.specs.Table as T
 use Rattle.concrete.specs.Table.{Table}
-use Rattle.concrete.specs.Layout.{mostBuckets1, inRange, numbersOf, unusedIn, lengthOf}
+use Rattle.concrete.specs.Layout.{leading, buckets1At, buckets2At, mostBuckets1, inRange, numbersOf, unusedIn, lengthOf}
 use Rattle.concrete.specs.Content.{entriesOf}
 use Rattle.concrete.specs.Sound.{SoundLevel, SoundTable}
 use Rattle.concrete.specs.Test.{shapeTest}
 use Rattle.concrete.specs.Calls.{rows, solutions, tableOf, planIn, shaped, sound, FlatSound, Outcome, turnedDown, joined, replaced, queried, served, callRead, call}
-use Rattle.concrete.specs.History.{PlanFits, flatState}
+use Rattle.concrete.specs.History.{PlanFits, PlansFit, request, flatState}
 use Rattle.concrete.proofs.Numbers.{AllShaped, ShapedTable, Laid, header-read, back, laid}
 use Rattle.concrete.proofs.Stand.{Stands, open-stands, look, change-stands, withdraw-stands, based-length, add-stands}
 use Rattle.concrete.proofs.Content.{table-entries, table-live}
@@ -74,20 +72,20 @@ match-test : (b : Bool) {o p : Outcome} {m q : M.Outcome} → (b ≡ true → Ma
 match-test true f g = f refl
 match-test false f g = g refl
 
-shape-range : (t : List ℕ) → shaped t ≡ true → inRange (getD t 0 0) (getD t 1 0) ≡ true
+shape-range : (t : List ℕ) → shaped t ≡ true → inRange (getD t buckets1At 0) (getD t buckets2At 0) ≡ true
 unfolding shapeTest
-shape-range t h = and-one (inRange (getD t 0 0) (getD t 1 0)) _ (and-two (leb 4 (length t)) _ h)
+shape-range t h = and-one (inRange (getD t buckets1At 0) (getD t buckets2At 0)) _ (and-two (leb leading (length t)) _ h)
 
-shape-size : (t : List ℕ) → shaped t ≡ true → length t ≡ lengthOf rows solutions (getD t 0 0) (getD t 1 0)
+shape-size : (t : List ℕ) → shaped t ≡ true → length t ≡ lengthOf rows solutions (getD t buckets1At 0) (getD t buckets2At 0)
 unfolding shapeTest
-shape-size t h = eqb-true _ _ (and-two (inRange (getD t 0 0) (getD t 1 0)) _ (and-two (leb 4 (length t)) _ h))
+shape-size t h = eqb-true _ _ (and-two (inRange (getD t buckets1At 0) (getD t buckets2At 0)) _ (and-two (leb leading (length t)) _ h))
 
-size-shape : (t : List ℕ) → inRange (getD t 0 0) (getD t 1 0) ≡ true → length t ≡ lengthOf rows solutions (getD t 0 0) (getD t 1 0) → shaped t ≡ true
+size-shape : (t : List ℕ) → inRange (getD t buckets1At 0) (getD t buckets2At 0) ≡ true → length t ≡ lengthOf rows solutions (getD t buckets1At 0) (getD t buckets2At 0) → shaped t ≡ true
 unfolding shapeTest
-size-shape t h e = and-both (le-leb 4 (length t) (omega (arith, e))) (and-both h (eq-eqb _ _ e))
+size-shape t h e = and-both (le-leb leading (length t) (omega (arith, e))) (and-both h (eq-eqb _ _ e))
 
 -- a table that stands for a state with bucket numbers in range, as numbers
-pub numbers-stand : (T : Table) (s : State) → Stands rows solutions mixOf T s → inRange (s .buckets1) (s .buckets2) ≡ true → FlatStands (numbersOf T) s
+pub numbers-stand : (T : Table) (s : State) → Stands rows solutions mixOf T s → inRange (s .size .buckets1) (s .size .buckets2) ≡ true → FlatStands (numbersOf T) s
 unfolding numbersOf
 numbers-stand T s st h =
     let g = sound-shaped T (stands-sound rows solutions mixOf unmixOf keeps keepsU unmix-mix mix-unmix T s st) in
@@ -102,7 +100,7 @@ module _ (t : List ℕ) (s : State) (h : FlatStands t s) where
   abbrev T₀ : Table
   T₀ = tableOf t
 
-  range : inRange (s .buckets1) (s .buckets2) ≡ true
+  range : inRange (s .size .buckets1) (s .size .buckets2) ≡ true
   range =
       let k = header-read rows solutions t in
       ap₂ inRange (sym (h .stands .level1 .count) ∙ k .0) (sym (h .stands .level2 .count) ∙ k .1) ∙ shape-range t (h .shape)
@@ -116,8 +114,7 @@ module _ (t : List ℕ) (s : State) (h : FlatStands t s) where
   -- the state is the one that the table shows
   pub stands-shows : flatState t ≡ s
   stands-shows = λ i. record {
-    buckets1 = h .stands .level1 .count i;
-    buckets2 = h .stands .level2 .count i;
+    size = record { buckets1 = h .stands .level1 .count i; buckets2 = h .stands .level2 .count i };
     live = table-live rows solutions mixOf unmixOf keeps unmix-mix T₀ s (h .stands) i;
     bounds1 = h .stands .bounds1 i;
     bounds2 = h .stands .bounds2 i;
@@ -174,7 +171,7 @@ module _ (t : List ℕ) (s : State) (h : FlatStands t s) where
             record { says = ap Accepted (k .counted); stands = numbers-stand u t′ k range }))
 
     -- the causes 1, 2, 4 and 5 are not met
-    pub served-match : (c : Call (List ℕ)) → PlanFits c → Match (served t w c) (step firstLevel secondLevel s (askOf w c))
+    pub served-match : (c : Call Token) → PlanFits c → Match (served t w c) (step firstLevel secondLevel s (askOf w c))
     unfolding served
     served-match (add i p) k = add-match p k
     served-match (change i p) k = live-match (T.changedIn rows solutions mixOf T₀ w p) (update (record { word = w; plan = p }) (s .live)) (λ q f. change-stands rows solutions mixOf keeps one T₀ s (h .stands) w l p q k f)
@@ -182,15 +179,19 @@ module _ (t : List ℕ) (s : State) (h : FlatStands t s) where
     served-match (query i) k = query-match
 
   -- each call follows the model
-  pub call-match : (c : Call (List ℕ)) → PlanFits c → Match (call t c) (serve s c)
+  pub call-match : (c : Call Token) → PlanFits c → Match (call t c) (serve s c)
   unfolding call
-  call-match c k = go (readOf (subject c)) refl
+  call-match c k = go (wordFor c) refl
     where
-      go : (x : Read) → readOf (subject c) ≡ x → Match (callRead t c x) (serveRead s c x)
+      go : (x : Read) → wordFor c ≡ x → Match (callRead t c x) (serveRead s c x)
       go (Refused a) e = record { says = refl; stands = h }
       go (Word w) e =
           subst⁻¹ (λ (o : Outcome). Match o (step firstLevel secondLevel s (askOf w c))) (cond-true _ _ (h .shape) ∙ cond-true _ _ stands-test)
-          (served-match w (subst⁻¹ (λ (x : ℕ). x < 2 ^ rows) (read-word (subject c) w .0 e .2) (word-lt (subject c))) c k)
+          (served-match w (word-small c w e) c k)
+
+  -- and so does each request
+  pub request-match : (q : Request) → PlansFit q → Match (request t q) (respond s q)
+  request-match (ask c) k = call-match c k
 
 -- ---- opening, and sound numbers
 
@@ -198,10 +199,10 @@ range-some : (b1 b2 : ℕ) → inRange b1 b2 ≡ true → (0 < b1) × (0 < b2)
 range-some b1 b2 h =
     (leb-true 1 b1 (and-one (leb 1 b1) _ (and-one (leb 1 b1 && leb b1 mostBuckets1) _ h)), leb-true 1 b2 (and-one (leb 1 b2) _ (and-two (leb 1 b1 && leb b1 mostBuckets1) _ h)))
 
-pub open-stands-flat : (b1 b2 : ℕ) → inRange b1 b2 ≡ true → FlatStands (numbersOf (T.openTable rows solutions b1 b2)) (opened b1 b2)
-open-stands-flat b1 b2 h =
-    let g = range-some b1 b2 h in
-    numbers-stand (T.openTable rows solutions b1 b2) (opened b1 b2) (open-stands rows solutions mixOf b1 b2 (g .0) (g .1)) h
+pub open-stands-flat : (z : Size) → inRange (z .buckets1) (z .buckets2) ≡ true → FlatStands (numbersOf (T.openTable rows solutions (z .buckets1) (z .buckets2))) (opened z)
+open-stands-flat z h =
+    let g = range-some (z .buckets1) (z .buckets2) h in
+    numbers-stand (T.openTable rows solutions (z .buckets1) (z .buckets2)) (opened z) (open-stands rows solutions mixOf z (g .0) (g .1)) h
 
 pub sound-stands-flat : (t : List ℕ) → shaped t ≡ true → FlatSound t → FlatStands t (flatState t)
 sound-stands-flat t k h = record { shape = k; unused = h .unused; stands = sound-stands rows solutions mixOf unmixOf keeps keepsU unmix-mix mix-unmix (tableOf t) (h .table) }
@@ -216,5 +217,5 @@ sound-laid t k h = record {
 -- the test says true exactly of sound tables
 pub sound-exactly : (t : List ℕ) → shaped t ≡ true → ((i : ℕ) → getD t i 0 < 2 ^ rows) → (sound t ≡ true) ↔ FlatSound t
 sound-exactly t k b =
-    let g = range-some (getD t 0 0) (getD t 1 0) (shape-range t k) in
+    let g = range-some (getD t buckets1At 0) (getD t buckets2At 0) (shape-range t k) in
     (test-sound rows solutions mixOf unmixOf t (shape-size t k) b (g .0) (g .1), sound-test rows solutions mixOf unmixOf t)

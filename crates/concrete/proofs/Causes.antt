@@ -25,8 +25,8 @@ use Rattle.identifier.proofs.Words.{word-lt}
 use Rattle.model.specs.Levels.{firstLevel, secondLevel}
 use Rattle.model.specs.Model as M
 use Rattle.model.specs.Model.{baseLimit, Call, add, change, withdraw, query, wouldLeave, base, stepAdd, stepLive, step}
-use Rattle.model.specs.Request.{subject, askOf}
-use Rattle.concrete.specs.Layout.{header, inRange, lengthOf}
+use Rattle.model.specs.Request.{Token, subject, askOf}
+use Rattle.concrete.specs.Layout.{leading, buckets1At, buckets2At, inRange, lengthOf}
 use Rattle.concrete.specs.Test.{shapeTest}
 use Rattle.concrete.specs.Calls.{rows, solutions, shaped, sound, FlatSound, Outcome, turnedDown, openCall, served, callRead, call}
 use Rattle.concrete.specs.History.{PlanFits, flatState}
@@ -43,8 +43,8 @@ and-fails false b p q = (λ e. inl (p .0 refl), λ x. refl)
 pub shape-exactly : (t : List ℕ) → (shaped t ≡ false) ↔ Misshapen t
 unfolding shapeTest
 shape-exactly t =
-    and-fails (leb header (length t)) _ (leb-false header (length t), lt-leb header (length t))
-    (and-fails (inRange (getD t 0 0) (getD t 1 0)) _ (λ e. e, λ e. e) (eqb-false _ _, ne-eqb _ _))
+    and-fails (leb leading (length t)) _ (leb-false leading (length t), lt-leb leading (length t))
+    (and-fails (inRange (getD t buckets1At 0) (getD t buckets2At 0)) _ (λ e. e, λ e. e) (eqb-false _ _, ne-eqb _ _))
 
 -- the test of soundness fails exactly if cause 5 is met
 pub unsound-exactly : (t : List ℕ) → shaped t ≡ true → ((i : ℕ) → getD t i 0 < 2 ^ rows) → (sound t ≡ false) ↔ (FlatSound t → ⊥)
@@ -81,19 +81,19 @@ open-exactly b1 b2 t =
 one-plan : (t i : List ℕ) → One (LivePlan t i)
 one-plan t i u v p q = cc
 
-one-each : (t : List ℕ) (c : Call (List ℕ)) → OneEach (wordCauses t c) (callReturns t c)
+one-each : (t : List ℕ) (c : Call Token) → OneEach (wordCauses t c) (callReturns t c)
 one-each t (add i p) = (one-plan t i, (one-if 8 _ 0, one-value (suc (length (flatState t .live)))))
 one-each t (change i p) = (one-if 7 _ 0, one-plan t i)
 one-each t (withdraw i) = (one-if 7 _ 0, one-plan t i)
 one-each t (query i) = (one-if 7 _ 0, one-plan t i)
 
-word-order : (t : List ℕ) (c : Call (List ℕ)) → InOrder 5 (wordCauses t c)
+word-order : (t : List ℕ) (c : Call Token) → InOrder 5 (wordCauses t c)
 word-order t (add i p) = (lit< tt, (lit< tt, tt))
 word-order t (change i p) = (lit< tt, tt)
 word-order t (withdraw i) = (lit< tt, tt)
 word-order t (query i) = (lit< tt, tt)
 
-pub call-order : (t : List ℕ) (c : Call (List ℕ)) → InOrder 0 (callCauses t c)
+pub call-order : (t : List ℕ) (c : Call Token) → InOrder 0 (callCauses t c)
 call-order t c = (lit< tt, (lit< tt, (lit< tt, (lit< tt, word-order t c))))
 
 module _ (t : List ℕ) where
@@ -115,13 +115,13 @@ module _ (t : List ℕ) where
             (ltb-true baseLimit _, lt-ltb baseLimit _) (refl, refl) (λ f. (refl, insert-length _ (flatState t .live))),
       )
 
-  step-given : (c : Call (List ℕ)) → Given (wordCauses t c) (callReturns t c) (step firstLevel secondLevel (flatState t) (askOf (wordOf (subject c)) c) .answer)
+  step-given : (c : Call Token) → Given (wordCauses t c) (callReturns t c) (step firstLevel secondLevel (flatState t) (askOf (wordOf (subject c)) c) .answer)
   step-given (add i p) = add-given i p (find (wordOf i) (flatState t .live)) refl
   step-given (change i p) = live-given i (update (record { word = wordOf i; plan = p }) (flatState t .live)) (find (wordOf i) (flatState t .live)) refl
   step-given (withdraw i) = live-given i (remove (wordOf i) (flatState t .live)) (find (wordOf i) (flatState t .live)) refl
   step-given (query i) = live-given i (flatState t .live) (find (wordOf i) (flatState t .live)) refl
 
-  module _ (c : Call (List ℕ)) (f : PlanFits c) where
+  module _ (c : Call Token) (f : PlanFits c) where
     -- a sound table answers as the model does
     served-given : shaped t ≡ true → FlatSound t → Given (wordCauses t c) (callReturns t c) (served t (wordOf (subject c)) c .answer)
     served-given k h =

@@ -13,8 +13,8 @@ use Rattle.bucket.specs.declared.Bucket.{Bucket}
 use Rattle.bucket_words.specs.Words.{bucketWords, wordsOf, bucketFrom, Shaped}
 use Rattle.bucket_words.proofs.Words.{length-words, from-words, words-from}
 use Rattle.model.specs.Model.{baseLimit}
-use Rattle.concrete.specs.Table.{Table, nth}
-use Rattle.concrete.specs.Layout.{header, baseNumbers, levelNumbers, pairNumbers, basePairs, numbersOf, levelFrom, pairsFrom, bucketPlace, tableFrom, lengthOf, unusedIn}
+use Rattle.concrete.specs.Table.{Table, withFirst, withSecond, withBase, withCount, nth}
+use Rattle.concrete.specs.Layout.{buckets1At, buckets2At, baseCountAt, liveCountAt, header, baseNumbers, levelNumbers, pairNumbers, basePairs, heads, numbersOf, levelFrom, pairsFrom, bucketPlace, tableFrom, lengthOf, unusedIn}
 
 -- ---- pairs
 
@@ -66,8 +66,8 @@ module _ (n r : ℕ) where
 
   -- numbers that have the layout
   pub record Laid (xs : List ℕ) : Type 0 where
-    pub size : length xs ≡ lengthOf n r (getD xs 0 0) (getD xs 1 0)
-    pub fits : getD xs 2 0 ≤ baseLimit
+    pub size : length xs ≡ lengthOf n r (getD xs buckets1At 0) (getD xs buckets2At 0)
+    pub fits : getD xs baseCountAt 0 ≤ baseLimit
     pub unused : (i : ℕ) → getD (unusedIn n r xs) i 0 ≡ 0
 
   -- ---- one level
@@ -163,6 +163,17 @@ module _ (n r : ℕ) where
 
   -- ---- the whole table
 
+  -- the header has its length
+  pub length-heads : (T : Table) → length (heads T) ≡ header
+  length-heads T = refl
+
+  -- it keeps to the bucket numbers
+  heads-first : (T : Table) (bs : List Bucket) → length bs ≡ length (T .level1) → heads (withFirst T bs) ≡ heads T
+  heads-first T bs e = ap {B = List ℕ} (λ m. m ∷ length (T .level2) ∷ length (T .base) ∷ T .count ∷ []) e
+
+  heads-second : (T : Table) (bs : List Bucket) → length bs ≡ length (T .level2) → heads (withSecond T bs) ≡ heads T
+  heads-second T bs e = ap {B = List ℕ} (λ m. length (T .level1) ∷ m ∷ length (T .base) ∷ T .count ∷ []) e
+
   module _ (T : Table) (h : ShapedTable T) where
     abbrev l1 : List ℕ
     l1 = levelNumbers (T .level1)
@@ -170,8 +181,12 @@ module _ (n r : ℕ) where
     abbrev l2 : List ℕ
     l2 = levelNumbers (T .level2)
 
-    abbrev heads : List ℕ
-    heads = length (T .level1) ∷ length (T .level2) ∷ length (T .base) ∷ T .count ∷ []
+    -- level 2 and the base list, and level 1 before them
+    abbrev from2 : List ℕ
+    from2 = l2 ++ basePairs (T .base)
+
+    abbrev from1 : List ℕ
+    from1 = l1 ++ from2
 
     abbrev m1 : ℕ
     m1 = length (T .level1)
@@ -186,29 +201,33 @@ module _ (n r : ℕ) where
     size2 = length-level (T .level2) (h .second)
 
     -- the numbers from a place on
-    drop-heads : (k : ℕ) → drop (header + k) (numbersOf T) ≡ drop k (l1 ++ (l2 ++ basePairs (T .base)))
+    pub drop-heads : (k : ℕ) → drop (header + k) (numbersOf T) ≡ drop k from1
     unfolding numbersOf
-    drop-heads k = drop-append-add heads (l1 ++ (l2 ++ basePairs (T .base))) k
+    drop-heads k = ap (λ (j : ℕ). drop (j + k) (heads T ++ from1)) (sym (length-heads T)) ∙ drop-append-add (heads T) from1 k
 
-    drop-first : (k : ℕ) → drop (bucketPlace n r m1 + k) (numbersOf T) ≡ drop k (l2 ++ basePairs (T .base))
+    drop-first : (k : ℕ) → drop (bucketPlace n r m1 + k) (numbersOf T) ≡ drop k from2
     drop-first k =
         let e : bucketPlace n r m1 + k ≡ header + (length l1 + k) = omega (arith, size1) in
-        ap (λ (j : ℕ). drop j (numbersOf T)) e ∙ drop-heads (length l1 + k) ∙ drop-append-add l1 (l2 ++ basePairs (T .base)) k
+        ap (λ (j : ℕ). drop j (numbersOf T)) e ∙ drop-heads (length l1 + k) ∙ drop-append-add l1 from2 k
 
-    drop-second : (k : ℕ) → drop (bucketPlace n r (m1 + m2) + k) (numbersOf T) ≡ drop k (basePairs (T .base))
+    pub drop-second : (k : ℕ) → drop (bucketPlace n r (m1 + m2) + k) (numbersOf T) ≡ drop k (basePairs (T .base))
     drop-second k =
         let e : bucketPlace n r (m1 + m2) + k ≡ bucketPlace n r m1 + (length l2 + k) = omega (arith, size2, add-mul m1 m2 (bucketWords n r)) in
         ap (λ (j : ℕ). drop j (numbersOf T)) e ∙ drop-first (length l2 + k) ∙ drop-append-add l2 (basePairs (T .base)) k
 
-    -- and before it
-    take-heads : (k : ℕ) → take (header + k) (numbersOf T) ≡ heads ++ take k (l1 ++ (l2 ++ basePairs (T .base)))
-    unfolding numbersOf
-    take-heads k = take-append-add heads (l1 ++ (l2 ++ basePairs (T .base))) k
+    -- the base pairs are the last
+    pub drop-base : drop (bucketPlace n r (m1 + m2)) (numbersOf T) ≡ basePairs (T .base)
+    drop-base = let e : bucketPlace n r (m1 + m2) ≡ bucketPlace n r (m1 + m2) + 0 = omega arith in ap (λ (k : ℕ). drop k (numbersOf T)) e ∙ drop-second 0
 
-    take-first : (k : ℕ) → take (bucketPlace n r m1 + k) (numbersOf T) ≡ heads ++ (l1 ++ take k (l2 ++ basePairs (T .base)))
+    -- and before it
+    take-heads : (k : ℕ) → take (header + k) (numbersOf T) ≡ heads T ++ take k from1
+    unfolding numbersOf
+    take-heads k = ap (λ (j : ℕ). take (j + k) (heads T ++ from1)) (sym (length-heads T)) ∙ take-append-add (heads T) from1 k
+
+    take-first : (k : ℕ) → take (bucketPlace n r m1 + k) (numbersOf T) ≡ heads T ++ (l1 ++ take k from2)
     take-first k =
         let e : bucketPlace n r m1 + k ≡ header + (length l1 + k) = omega (arith, size1) in
-        ap (λ (j : ℕ). take j (numbersOf T)) e ∙ take-heads (length l1 + k) ∙ ap (λ (l : List ℕ). heads ++ l) (take-append-add l1 (l2 ++ basePairs (T .base)) k)
+        ap (λ (j : ℕ). take j (numbersOf T)) e ∙ take-heads (length l1 + k) ∙ ap (λ (l : List ℕ). heads T ++ l) (take-append-add l1 from2 k)
 
     -- the numbers give the table back
     pub back : tableFrom n r (numbersOf T) ≡ T
@@ -216,15 +235,13 @@ module _ (n r : ℕ) where
     back = λ i. record { level1 = one i; level2 = two i; base = three i; count = T .count }
       where
         one : levelFrom n r m1 (drop (bucketPlace n r 0) (numbersOf T)) ≡ T .level1
-        one = ap (levelFrom n r m1) (let e : 0 * bucketWords n r ≡ 0 = omega arith in ap (λ (k : ℕ). drop (header + k) (numbersOf T)) e ∙ drop-heads 0) ∙ back-level (T .level1) (l2 ++ basePairs (T .base)) (h .first)
+        one = ap (levelFrom n r m1) (let e : 0 * bucketWords n r ≡ 0 = omega arith in ap (λ (k : ℕ). drop (header + k) (numbersOf T)) e ∙ drop-heads 0) ∙ back-level (T .level1) from2 (h .first)
 
         two : levelFrom n r m2 (drop (bucketPlace n r m1) (numbersOf T)) ≡ T .level2
         two = ap (levelFrom n r m2) (let e : bucketPlace n r m1 ≡ bucketPlace n r m1 + 0 = omega arith in ap (λ (k : ℕ). drop k (numbersOf T)) e ∙ drop-first 0) ∙ back-level (T .level2) (basePairs (T .base)) (h .second)
 
         three : pairsFrom (length (T .base)) (drop (bucketPlace n r (m1 + m2)) (numbersOf T)) ≡ T .base
-        three =
-            ap (pairsFrom (length (T .base))) (let e : bucketPlace n r (m1 + m2) ≡ bucketPlace n r (m1 + m2) + 0 = omega arith in ap (λ (k : ℕ). drop k (numbersOf T)) e ∙ drop-second 0)
-            ∙ back-pairs (T .base) (replicate (baseNumbers - 2 * length (T .base)) 0)
+        three = ap (pairsFrom (length (T .base))) drop-base ∙ back-pairs (T .base) (replicate (baseNumbers - 2 * length (T .base)) 0)
 
     -- the numbers have the layout
     pub laid : Laid (numbersOf T)
@@ -232,7 +249,9 @@ module _ (n r : ℕ) where
     laid = record {
       size = omega (
         arith,
-        length-append l1 (l2 ++ basePairs (T .base)),
+        length-heads T,
+        length-append (heads T) from1,
+        length-append l1 from2,
         length-append l2 (basePairs (T .base)),
         length-base (T .base) (h .fits),
         size1,
@@ -246,77 +265,78 @@ module _ (n r : ℕ) where
 
     -- one bucket is replaced
     pub write-first : (i : ℕ) (b : Bucket) → i < m1
-        → numbersOf (record { level1 = set (T .level1) i b; level2 = T .level2; base = T .base; count = T .count })
+        → numbersOf (withFirst T (set (T .level1) i b))
         ≡ take (bucketPlace n r i) (numbersOf T) ++ (wordsOf b ++ drop (bucketPlace n r i + bucketWords n r) (numbersOf T))
     unfolding numbersOf
     write-first i b l =
         let w : ℕ = bucketWords n r in
         let e : bucketPlace n r i + w ≡ header + (i * w + w) = omega arith in
-        ap₂ {C = List ℕ} (λ m ys. m ∷ m2 ∷ length (T .base) ∷ T .count ∷ ys) (length-set (T .level1) i b) (write-level (T .level1) (l2 ++ basePairs (T .base)) i b (h .first) l)
+        ap₂ (λ (p q : List ℕ). p ++ q) (heads-first T (set (T .level1) i b) (length-set (T .level1) i b)) (write-level (T .level1) from2 i b (h .first) l)
+        ∙ sym (append-assoc (heads T) (take (i * w) from1) (wordsOf b ++ drop (i * w + w) from1))
         ∙ sym (ap₂ (λ (p q : List ℕ). p ++ (wordsOf b ++ q)) (take-heads (i * w)) (ap (λ (j : ℕ). drop j (numbersOf T)) e ∙ drop-heads (i * w + w)))
 
     pub write-second : (i : ℕ) (b : Bucket) → i < m2
-        → numbersOf (record { level1 = T .level1; level2 = set (T .level2) i b; base = T .base; count = T .count })
+        → numbersOf (withSecond T (set (T .level2) i b))
         ≡ take (bucketPlace n r (m1 + i)) (numbersOf T) ++ (wordsOf b ++ drop (bucketPlace n r (m1 + i) + bucketWords n r) (numbersOf T))
     unfolding numbersOf
     write-second i b l =
         let w : ℕ = bucketWords n r in
-        let Y : List ℕ = l2 ++ basePairs (T .base) in
         let e : bucketPlace n r (m1 + i) ≡ bucketPlace n r m1 + i * w = omega (arith, add-mul m1 i w) in
         let g : bucketPlace n r (m1 + i) + w ≡ bucketPlace n r m1 + (i * w + w) = omega (arith, add-mul m1 i w) in
-        ap₂ {C = List ℕ} (λ m ys. m1 ∷ m ∷ length (T .base) ∷ T .count ∷ (l1 ++ ys)) (length-set (T .level2) i b) (write-level (T .level2) (basePairs (T .base)) i b (h .second) l)
-        ∙ ap (λ (l : List ℕ). heads ++ l) (sym (append-assoc l1 (take (i * w) Y) (wordsOf b ++ drop (i * w + w) Y)))
+        ap₂ (λ (p q : List ℕ). p ++ (l1 ++ q)) (heads-second T (set (T .level2) i b) (length-set (T .level2) i b)) (write-level (T .level2) (basePairs (T .base)) i b (h .second) l)
+        ∙ ap (λ (l : List ℕ). heads T ++ l) (sym (append-assoc l1 (take (i * w) from2) (wordsOf b ++ drop (i * w + w) from2)))
+        ∙ sym (append-assoc (heads T) (l1 ++ take (i * w) from2) (wordsOf b ++ drop (i * w + w) from2))
         ∙ sym (ap₂ (λ (p q : List ℕ). p ++ (wordsOf b ++ q)) (ap (λ (j : ℕ). take j (numbersOf T)) e ∙ take-first (i * w)) (ap (λ (j : ℕ). drop j (numbersOf T)) g ∙ drop-first (i * w + w)))
 
     -- the base list is replaced
     pub write-base : (es : List Entry)
-        → numbersOf (record { level1 = T .level1; level2 = T .level2; base = es; count = T .count })
-        ≡ set (take (bucketPlace n r (m1 + m2)) (numbersOf T) ++ basePairs es) 2 (length es)
+        → numbersOf (withBase T es)
+        ≡ set (take (bucketPlace n r (m1 + m2)) (numbersOf T) ++ basePairs es) baseCountAt (length es)
     unfolding numbersOf
     write-base es =
         let e : bucketPlace n r (m1 + m2) ≡ bucketPlace n r m1 + m2 * bucketWords n r = omega (arith, add-mul m1 m2 (bucketWords n r)) in
-        sym (ap (λ (p : List ℕ). set (p ++ basePairs es) 2 (length es))
-        (ap (λ (j : ℕ). take j (numbersOf T)) e ∙ take-first (m2 * bucketWords n r) ∙ ap (λ (l : List ℕ). heads ++ (l1 ++ l)) (take-at l2 (basePairs (T .base)) (m2 * bucketWords n r) size2))
-        ∙ ap {B = List ℕ} (λ l. m1 ∷ m2 ∷ length es ∷ T .count ∷ l) (append-assoc l1 l2 (basePairs es)))
+        sym (ap (λ (p : List ℕ). set (p ++ basePairs es) baseCountAt (length es))
+        (ap (λ (j : ℕ). take j (numbersOf T)) e ∙ take-first (m2 * bucketWords n r) ∙ ap (λ (l : List ℕ). heads T ++ (l1 ++ l)) (take-at l2 (basePairs (T .base)) (m2 * bucketWords n r) size2))
+        ∙ append-assoc (heads (withBase T es)) (l1 ++ l2) (basePairs es) ∙ ap (λ (l : List ℕ). heads (withBase T es) ++ l) (append-assoc l1 l2 (basePairs es)))
 
   -- the live count is replaced
-  pub write-count : (T : Table) (c : ℕ) → numbersOf (record { level1 = T .level1; level2 = T .level2; base = T .base; count = c }) ≡ set (numbersOf T) 3 c
+  pub write-count : (T : Table) (c : ℕ) → numbersOf (withCount T c) ≡ set (numbersOf T) liveCountAt c
   unfolding numbersOf
   write-count T c = refl
 
   -- ---- numbers that have the layout
 
   -- bucket i of each level, in any numbers
-  pub read-first : (xs : List ℕ) (i : ℕ) → i < getD xs 0 0 → nth n r (tableFrom n r xs .level1) i ≡ bucketFrom n r (drop (bucketPlace n r i) xs)
+  pub read-first : (xs : List ℕ) (i : ℕ) → i < getD xs buckets1At 0 → nth n r (tableFrom n r xs .level1) i ≡ bucketFrom n r (drop (bucketPlace n r i) xs)
   unfolding tableFrom
   read-first xs i l =
       let e : bucketPlace n r 0 + i * bucketWords n r ≡ bucketPlace n r i = omega arith in
-      read-level (getD xs 0 0) (drop (bucketPlace n r 0) xs) i l
+      read-level (getD xs buckets1At 0) (drop (bucketPlace n r 0) xs) i l
       ∙ ap (bucketFrom n r) (drop-drop (i * bucketWords n r) (bucketPlace n r 0) xs ∙ ap (λ (k : ℕ). drop k xs) e)
 
-  pub read-second : (xs : List ℕ) (i : ℕ) → i < getD xs 1 0 → nth n r (tableFrom n r xs .level2) i ≡ bucketFrom n r (drop (bucketPlace n r (getD xs 0 0 + i)) xs)
+  pub read-second : (xs : List ℕ) (i : ℕ) → i < getD xs buckets2At 0 → nth n r (tableFrom n r xs .level2) i ≡ bucketFrom n r (drop (bucketPlace n r (getD xs buckets1At 0 + i)) xs)
   unfolding tableFrom
   read-second xs i l =
-      let e : bucketPlace n r (getD xs 0 0) + i * bucketWords n r ≡ bucketPlace n r (getD xs 0 0 + i) = omega (arith, add-mul (getD xs 0 0) i (bucketWords n r)) in
-      read-level (getD xs 1 0) (drop (bucketPlace n r (getD xs 0 0)) xs) i l
-      ∙ ap (bucketFrom n r) (drop-drop (i * bucketWords n r) (bucketPlace n r (getD xs 0 0)) xs ∙ ap (λ (k : ℕ). drop k xs) e)
+      let e : bucketPlace n r (getD xs buckets1At 0) + i * bucketWords n r ≡ bucketPlace n r (getD xs buckets1At 0 + i) = omega (arith, add-mul (getD xs buckets1At 0) i (bucketWords n r)) in
+      read-level (getD xs buckets2At 0) (drop (bucketPlace n r (getD xs buckets1At 0)) xs) i l
+      ∙ ap (bucketFrom n r) (drop-drop (i * bucketWords n r) (bucketPlace n r (getD xs buckets1At 0)) xs ∙ ap (λ (k : ℕ). drop k xs) e)
 
   -- the header, and base pair i
-  pub header-read : (xs : List ℕ) → (length (tableFrom n r xs .level1) ≡ getD xs 0 0) × (length (tableFrom n r xs .level2) ≡ getD xs 1 0)
-      × (length (tableFrom n r xs .base) ≡ getD xs 2 0) × (tableFrom n r xs .count ≡ getD xs 3 0)
+  pub header-read : (xs : List ℕ) → (length (tableFrom n r xs .level1) ≡ getD xs buckets1At 0) × (length (tableFrom n r xs .level2) ≡ getD xs buckets2At 0)
+      × (length (tableFrom n r xs .base) ≡ getD xs baseCountAt 0) × (tableFrom n r xs .count ≡ getD xs liveCountAt 0)
   unfolding tableFrom
-  header-read xs = (length-levelFrom (getD xs 0 0) _, length-levelFrom (getD xs 1 0) _, length-pairsFrom (getD xs 2 0) _, refl)
+  header-read xs = (length-levelFrom (getD xs buckets1At 0) _, length-levelFrom (getD xs buckets2At 0) _, length-pairsFrom (getD xs baseCountAt 0) _, refl)
 
-  pub read-base : (xs : List ℕ) (i : ℕ) (d : Entry) → i < getD xs 2 0
+  pub read-base : (xs : List ℕ) (i : ℕ) (d : Entry) → i < getD xs baseCountAt 0
       → getD (tableFrom n r xs .base) i d
       ≡ record {
-        word = getD (drop (bucketPlace n r (getD xs 0 0 + getD xs 1 0)) xs) (2 * i) 0;
-        plan = getD (drop (bucketPlace n r (getD xs 0 0 + getD xs 1 0)) xs) (2 * i + 1) 0;
+        word = getD (drop (bucketPlace n r (getD xs buckets1At 0 + getD xs buckets2At 0)) xs) (2 * i) 0;
+        plan = getD (drop (bucketPlace n r (getD xs buckets1At 0 + getD xs buckets2At 0)) xs) (2 * i + 1) 0;
       }
   unfolding tableFrom
-  read-base xs i d l = read-pair (getD xs 2 0) (drop (bucketPlace n r (getD xs 0 0 + getD xs 1 0)) xs) i d l
+  read-base xs i d l = read-pair (getD xs baseCountAt 0) (drop (bucketPlace n r (getD xs buckets1At 0 + getD xs buckets2At 0)) xs) i d l
 
-  four : (xs : List ℕ) → header ≤ length xs → getD xs 0 0 ∷ getD xs 1 0 ∷ getD xs 2 0 ∷ getD xs 3 0 ∷ drop header xs ≡ xs
+  four : (xs : List ℕ) → header ≤ length xs → getD xs buckets1At 0 ∷ getD xs buckets2At 0 ∷ getD xs baseCountAt 0 ∷ getD xs liveCountAt 0 ∷ drop header xs ≡ xs
   four [] h = absurd (omega arith)
   four (a ∷ []) h = absurd (omega arith)
   four (a ∷ b ∷ []) h = absurd (omega arith)
@@ -325,13 +345,13 @@ module _ (n r : ℕ) where
 
   module _ (xs : List ℕ) (h : Laid xs) where
     abbrev a : ℕ
-    a = getD xs 0 0
+    a = getD xs buckets1At 0
 
     abbrev b : ℕ
-    b = getD xs 1 0
+    b = getD xs buckets2At 0
 
     abbrev c : ℕ
-    c = getD xs 2 0
+    c = getD xs baseCountAt 0
 
     abbrev w : ℕ
     w = bucketWords n r
@@ -376,5 +396,5 @@ module _ (n r : ℕ) where
         let e : bucketPlace n r 0 ≡ header = omega arith in
         ap₂ {C = List ℕ} (λ m l. m ∷ l) (length-levelFrom a (drop (bucketPlace n r 0) xs))
         (ap₂ {C = List ℕ} (λ m l. m ∷ l) (length-levelFrom b (drop (bucketPlace n r a) xs))
-        (ap₂ {C = List ℕ} (λ m l. m ∷ getD xs 3 0 ∷ l) (length-pairsFrom c tail-of) (inner ∙ ap (λ (k : ℕ). drop k xs) e)))
+        (ap₂ {C = List ℕ} (λ m l. m ∷ getD xs liveCountAt 0 ∷ l) (length-pairsFrom c tail-of) (inner ∙ ap (λ (k : ℕ). drop k xs) e)))
         ∙ four xs (omega (arith, h .size))

@@ -15,23 +15,22 @@ use Rattle.answer.specs.declared.Answer.the-variants.{Accepted, NotLive, Full}
 use Rattle.answer.specs.Numbers.{numberOf, valueOf}
 use Rattle.answer.specs.Causes.{Cause, NoneMet, InOrder, Exactly}
 use Rattle.answer.proofs.Causes.{number-exactly, accepted-exactly}
-use Rattle.identifier.specs.Identifier.{readOf}
 use Rattle.identifier.specs.declared.Read.the-variants.{Word}
 use Rattle.bucket.specs.declared.Bucket.{Bucket}
 use Rattle.bucket_words.specs.Words.{bucketWords, wordsOf, bucketFrom}
 use Rattle.model.specs.Levels.{firstLevel, secondLevel, passed, due}
 use Rattle.model.specs.Model.{State, Call, add, query, opened, wouldLeave, base}
-use Rattle.model.specs.Request.{subject}
+use Rattle.model.specs.Request.{Token, wordFor, Request}
 use Rattle.model.specs.Machine.{accepted, after, answers, Alike, Refines}
 use Rattle.model.specs.History.{addsIn, withdrawalsIn, told}
 use Rattle.model.proofs.Statements as Model
-use Rattle.concrete.specs.Table.{Table, bounds, nth, addedTo}
-use Rattle.concrete.specs.Layout.{numbersOf, bucketPlace}
+use Rattle.concrete.specs.Table.{Table, withFirst, withSecond, bounds, nth, addedTo}
+use Rattle.concrete.specs.Layout.{buckets1At, buckets2At, baseCountAt, liveCountAt, numbersOf, bucketPlace}
 use Rattle.concrete.specs.Content.{entriesOf}
 use Rattle.concrete.specs.AtOnce.{addedAtOnce}
 use Rattle.concrete.specs.Sound.{SoundTable}
 use Rattle.concrete.specs.Calls.{rows, solutions, tableOf, planIn, shaped, sound, FlatSound, openCall, queried, served, call}
-use Rattle.concrete.specs.History.{PlanFits, Put, tables, states, Opened, acceptedCalls, flatState, Same}
+use Rattle.concrete.specs.History.{PlanFits, Put, request, tables, states, Opened, acceptedCalls, flatState, Same}
 use Rattle.concrete.specs.Causes.{openCauses, openReturns, callCauses, soundCauses, callReturns}
 use Rattle.concrete.proofs.Numbers as Numbers
 use Rattle.concrete.proofs.Numbers.{ShapedTable}
@@ -52,36 +51,36 @@ pub table-numbers : (t : List ℕ) → shaped t ≡ true → FlatSound t → num
 table-numbers t k h = Numbers.forth rows solutions t (Calls.sound-laid t k h)
 
 -- the header: buckets of level 1, of level 2, base count, live count
-pub header-read : (t : List ℕ) → (length (tableOf t .level1) ≡ getD t 0 0) × (length (tableOf t .level2) ≡ getD t 1 0) × (length (tableOf t .base) ≡ getD t 2 0) × (tableOf t .count ≡ getD t 3 0)
+pub header-read : (t : List ℕ) → (length (tableOf t .level1) ≡ getD t buckets1At 0) × (length (tableOf t .level2) ≡ getD t buckets2At 0) × (length (tableOf t .base) ≡ getD t baseCountAt 0) × (tableOf t .count ≡ getD t liveCountAt 0)
 header-read = Numbers.header-read rows solutions
 
 -- "74 per bucket, level 1 first": bucket i is read from its own stretch
-pub read-first : (t : List ℕ) (i : ℕ) → i < getD t 0 0
+pub read-first : (t : List ℕ) (i : ℕ) → i < getD t buckets1At 0
     → nth rows solutions (tableOf t .level1) i ≡ bucketFrom rows solutions (take (bucketWords rows solutions) (drop (bucketPlace rows solutions i) t))
 read-first t i l = Numbers.read-first rows solutions t i l ∙ sym (Numbers.from-part rows solutions (drop (bucketPlace rows solutions i) t))
 
-pub read-second : (t : List ℕ) (i : ℕ) → i < getD t 1 0
-    → nth rows solutions (tableOf t .level2) i ≡ bucketFrom rows solutions (take (bucketWords rows solutions) (drop (bucketPlace rows solutions (getD t 0 0 + i)) t))
-read-second t i l = Numbers.read-second rows solutions t i l ∙ sym (Numbers.from-part rows solutions (drop (bucketPlace rows solutions (getD t 0 0 + i)) t))
+pub read-second : (t : List ℕ) (i : ℕ) → i < getD t buckets2At 0
+    → nth rows solutions (tableOf t .level2) i ≡ bucketFrom rows solutions (take (bucketWords rows solutions) (drop (bucketPlace rows solutions (getD t buckets1At 0 + i)) t))
+read-second t i l = Numbers.read-second rows solutions t i l ∙ sym (Numbers.from-part rows solutions (drop (bucketPlace rows solutions (getD t buckets1At 0 + i)) t))
 
 -- base pair i
-pub read-base : (t : List ℕ) (i : ℕ) (d : Entry) → i < getD t 2 0
+pub read-base : (t : List ℕ) (i : ℕ) (d : Entry) → i < getD t baseCountAt 0
     → getD (tableOf t .base) i d
     ≡ record {
-      word = getD (drop (bucketPlace rows solutions (getD t 0 0 + getD t 1 0)) t) (2 * i) 0;
-      plan = getD (drop (bucketPlace rows solutions (getD t 0 0 + getD t 1 0)) t) (2 * i + 1) 0;
+      word = getD (drop (bucketPlace rows solutions (getD t buckets1At 0 + getD t buckets2At 0)) t) (2 * i) 0;
+      plan = getD (drop (bucketPlace rows solutions (getD t buckets1At 0 + getD t buckets2At 0)) t) (2 * i + 1) 0;
     }
 read-base = Numbers.read-base rows solutions
 
 module _ (T : Table) (h : ShapedTable rows solutions T) where
   -- "lends only the touched bucket's stretch of the table": one bucket replaced is its stretch replaced
   pub write-first : (i : ℕ) (b : Bucket) → i < length (T .level1)
-      → numbersOf (record { level1 = set (T .level1) i b; level2 = T .level2; base = T .base; count = T .count })
+      → numbersOf (withFirst T (set (T .level1) i b))
       ≡ take (bucketPlace rows solutions i) (numbersOf T) ++ (wordsOf b ++ drop (bucketPlace rows solutions i + bucketWords rows solutions) (numbersOf T))
   write-first = Numbers.write-first rows solutions T h
 
   pub write-second : (i : ℕ) (b : Bucket) → i < length (T .level2)
-      → numbersOf (record { level1 = T .level1; level2 = set (T .level2) i b; base = T .base; count = T .count })
+      → numbersOf (withSecond T (set (T .level2) i b))
       ≡ take (bucketPlace rows solutions (length (T .level1) + i)) (numbersOf T)
       ++ (wordsOf b ++ drop (bucketPlace rows solutions (length (T .level1) + i) + bucketWords rows solutions) (numbersOf T))
   write-second = Numbers.write-second rows solutions T h
@@ -106,36 +105,36 @@ pub open-causes : (b1 b2 : ℕ) (t : List ℕ) → Exactly (openCauses b1 b2 t) 
 open-causes = Causes.open-exactly
 
 -- the numbers of a table have 64 bits; the plan of a call is a byte
-module _ (t : List ℕ) (b : (i : ℕ) → getD t i 0 < 2 ^ 64) (p : Put) where
-  pub call-causes : Exactly (callCauses t (p .call)) (callReturns t (p .call)) (call t (p .call) .answer)
-  call-causes = Causes.call-exactly t (p .call) (p .fits) b
+module _ (t : List ℕ) (b : (i : ℕ) → getD t i 0 < 2 ^ 64) (c : Call Token) (f : PlanFits c) where
+  pub call-causes : Exactly (callCauses t c) (callReturns t c) (call t c .answer)
+  call-causes = Causes.call-exactly t c f b
 
   -- read for one cause x: the call gives its number, with v, exactly if x is met with v and no cause before it is met
-  pub call-cause : (before : List Cause) (x : Cause) (after : List Cause) → callCauses t (p .call) ≡ before ++ (x ∷ after) → (v : ℕ)
-      → ((numberOf (call t (p .call) .answer) ≡ x .number) × (valueOf (call t (p .call) .answer) ≡ v)) ↔ (NoneMet before × x .met v)
+  pub call-cause : (before : List Cause) (x : Cause) (after : List Cause) → callCauses t c ≡ before ++ (x ∷ after) → (v : ℕ)
+      → ((numberOf (call t c .answer) ≡ x .number) × (valueOf (call t c .answer) ≡ v)) ↔ (NoneMet before × x .met v)
   call-cause before x after e =
-      number-exactly before x after (callReturns t (p .call)) (call t (p .call) .answer) (subst (InOrder 0) e (Causes.call-order t (p .call)))
-      (subst (λ (cs : List Cause). Exactly cs (callReturns t (p .call)) (call t (p .call) .answer)) e call-causes)
+      number-exactly before x after (callReturns t c) (call t c .answer) (subst (InOrder 0) e (Causes.call-order t c))
+      (subst (λ (cs : List Cause). Exactly cs (callReturns t c) (call t c .answer)) e call-causes)
 
   -- "A call is accepted if it meets no cause"
   pub call-accepted : (v : ℕ)
-      → ((numberOf (call t (p .call) .answer) ≡ 0) × (valueOf (call t (p .call) .answer) ≡ v)) ↔ (NoneMet (callCauses t (p .call)) × callReturns t (p .call) v)
-  call-accepted = accepted-exactly (callCauses t (p .call)) (callReturns t (p .call)) (call t (p .call) .answer) (Causes.call-order t (p .call)) call-causes
+      → ((numberOf (call t c .answer) ≡ 0) × (valueOf (call t c .answer) ≡ v)) ↔ (NoneMet (callCauses t c) × callReturns t c v)
+  call-accepted = accepted-exactly (callCauses t c) (callReturns t c) (call t c .answer) (Causes.call-order t c) call-causes
 
 -- "Order is the table's order"
 pub open-order : (b1 b2 : ℕ) (t : List ℕ) → InOrder 0 (openCauses b1 b2 t)
 open-order = Causes.open-order
 
-pub call-order : (t : List ℕ) (c : Call (List ℕ)) → InOrder 0 (callCauses t c)
+pub call-order : (t : List ℕ) (c : Call Token) → InOrder 0 (callCauses t c)
 call-order = Causes.call-order
 
 -- a call that meets none of 1, 2, 4 and 5 does what `served` says
-pub causes-else : (t : List ℕ) (c : Call (List ℕ)) (w : ℕ) → readOf (subject c) ≡ Word w → shaped t ≡ true → sound t ≡ true → call t c ≡ served t w c
+pub causes-else : (t : List ℕ) (c : Call Token) (w : ℕ) → wordFor c ≡ Word w → shaped t ≡ true → sound t ≡ true → call t c ≡ served t w c
 causes-else = History.by-word
 
 -- "Kept as it was"
-pub refused-keeps : (t : List ℕ) (c : Call (List ℕ)) → accepted (call t c .answer) ≡ false → call t c .table ≡ t
-refused-keeps = History.call-refused
+pub refused-keeps : (t : List ℕ) (q : Request) → accepted (request t q .answer) ≡ false → request t q .table ≡ t
+refused-keeps = History.request-refused
 
 pub refused-opening : (b1 b2 : ℕ) (t : List ℕ) → accepted (openCall b1 b2 t .answer) ≡ false → openCall b1 b2 t .table ≡ t
 refused-opening = History.open-refused
@@ -143,7 +142,7 @@ refused-opening = History.open-refused
 -- ---- the link to the model: FlatStands t s says that the numbers t stand for the state s (Calls)
 
 -- "Opening sets each bound to 8": what an accepted opening left stands for the opened state
-pub opening-stands : (t : List ℕ) (o : Opened t) → FlatStands t (opened (o .buckets1) (o .buckets2))
+pub opening-stands : (t : List ℕ) (o : Opened t) → FlatStands t (opened (o .size))
 opening-stands = History.opened-stands
 
 -- each call answers as the model does, and leaves a table that stands for the state that the model comes to
@@ -163,7 +162,7 @@ pub stands-one : (t : List ℕ) (s : State) → FlatStands t s → flatState t �
 stands-one = Calls.stands-shows
 
 -- so a call for a word of 64 bits leaves a sound table sound
-pub served-sound : (t : List ℕ) → shaped t ≡ true → FlatSound t → (w : ℕ) → w < 2 ^ 64 → (c : Call (List ℕ)) → PlanFits c
+pub served-sound : (t : List ℕ) → shaped t ≡ true → FlatSound t → (w : ℕ) → w < 2 ^ 64 → (c : Call Token) → PlanFits c
     → (shaped (served t w c .table) ≡ true) × FlatSound (served t w c .table)
 served-sound t k h w l c f =
     let m = Calls.served-match t (flatState t) (sound-stands t k h) w l c f in
@@ -181,76 +180,76 @@ module _ (t : List ℕ) (k : shaped t ≡ true) (h : FlatSound t) where
   live-plans = History.sound-look t k h
 
   -- "live count = occupied rows + base count"
-  pub live-count : getD t 3 0 ≡ length (flatState t .live)
+  pub live-count : getD t liveCountAt 0 ≡ length (flatState t .live)
   live-count = History.sound-count t k h
 
   -- "query the plan", and 7 where the word is not live
-  pub query-live : (i : List ℕ) (w p : ℕ) → readOf i ≡ Word w → find w (flatState t .live) ≡ some p → call t (query i) ≡ record { answer = Accepted p; table = t }
+  pub query-live : (i : Token) (w p : ℕ) → wordFor (query i) ≡ Word w → find w (flatState t .live) ≡ some p → call t (query i) ≡ record { answer = Accepted p; table = t }
   query-live i w p e f = History.query-is t k h i w e ∙ ap (queried t) f
 
-  pub query-other : (i : List ℕ) (w : ℕ) → readOf i ≡ Word w → find w (flatState t .live) ≡ none → call t (query i) ≡ record { answer = NotLive; table = t }
+  pub query-other : (i : Token) (w : ℕ) → wordFor (query i) ≡ Word w → find w (flatState t .live) ≡ none → call t (query i) ≡ record { answer = NotLive; table = t }
   query-other i w e f = History.query-is t k h i w e ∙ ap (queried t) f
 
-  module _ (i : List ℕ) (p : ℕ) (l : p < 256) where
+  module _ (i : Token) (p : ℕ) (l : p < 256) where
     -- statement 3, the rule of the bounds: after an accepted add each is the largest number, not above the old one, under which no
     -- non-empty selection of the words due there XORs to zero; first level
-    pub bounds-first : accepted (call t (add i p) .answer) ≡ true → (j : ℕ) → j < flatState t .buckets1
+    pub bounds-first : accepted (call t (add i p) .answer) ≡ true → (j : ℕ) → j < flatState t .size .buckets1
         → Largest (getD (flatState t .bounds1) j 0)
-        (due firstLevel (flatState t .buckets1) (words (flatState (call t (add i p) .table) .live)) j)
+        (due firstLevel (flatState t .size .buckets1) (words (flatState (call t (add i p) .table) .live)) j)
         (getD (flatState (call t (add i p) .table) .bounds1) j 0)
     bounds-first = History.rule-first t k h i p l
 
     -- then the second, where the words are due that the first does not hold now
-    pub bounds-second : accepted (call t (add i p) .answer) ≡ true → (j : ℕ) → j < flatState t .buckets2
+    pub bounds-second : accepted (call t (add i p) .answer) ≡ true → (j : ℕ) → j < flatState t .size .buckets2
         → Largest (getD (flatState t .bounds2) j 0)
-        (due secondLevel (flatState t .buckets2)
-        (passed firstLevel (flatState t .buckets1) (flatState (call t (add i p) .table) .bounds1) (words (flatState (call t (add i p) .table) .live))) j)
+        (due secondLevel (flatState t .size .buckets2)
+        (passed firstLevel (flatState t .size .buckets1) (flatState (call t (add i p) .table) .bounds1) (words (flatState (call t (add i p) .table) .live))) j)
         (getD (flatState (call t (add i p) .table) .bounds2) j 0)
     bounds-second = History.rule-second t k h i p l
 
     -- statement 3, the rule of the base list: refused as full exactly when more than 64 words would fall to the base list under the bounds
     -- that the add would so leave
-    pub full-exactly : (w : ℕ) → readOf i ≡ Word w → find w (flatState t .live) ≡ none
+    pub full-exactly : (w : ℕ) → wordFor (add i p) ≡ Word w → find w (flatState t .live) ≡ none
         → (call t (add i p) .answer ≡ Full) ↔ (64 < length (base firstLevel secondLevel (wouldLeave firstLevel secondLevel (flatState t) (record { word = w; plan = p }))))
     full-exactly = History.rule-full t k h i p l
 
--- ---- "A list of calls": t is what an accepted opening left, ps any calls, refused ones included
+-- ---- "A list of calls": t is what an accepted opening left, ps any requests, refused ones included
 
--- statement 3, the claim about lists: where two tables are then equal in bucket numbers, live words, plans and bounds, each further call of
--- every list gets the same answer from both, and they are equal in these again after each call
+-- statement 3, the claim about lists: where two tables are then equal in bucket numbers, live words, plans and bounds, each further
+-- request of every list gets the same answer from both, and they are equal in these again after each
 pub statement-3 : (t u : List ℕ) → Opened t → Opened u → (ps qs : List Put) → Same (after tables t ps) (after tables u qs)
     → (cs : List Put) → Alike tables Same (after tables t ps) (after tables u qs) cs
 statement-3 t u o r = Model.statement-3 tables states FlatStands refines Same History.compares t u _ _ (opening-stands t o) (opening-stands u r)
 
 module _ (t : List ℕ) (o : Opened t) (ps : List Put) where
   -- "So the opening and these calls alone settle every answer and bound"
-  pub settles : (answers tables t ps ≡ answers states (opened (o .buckets1) (o .buckets2)) ps)
-      × (flatState (after tables t ps) ≡ after states (opened (o .buckets1) (o .buckets2)) ps)
+  pub settles : (answers tables t ps ≡ answers states (opened (o .size)) ps)
+      × (flatState (after tables t ps) ≡ after states (opened (o .size)) ps)
   settles =
-      let r = Model.settles tables states FlatStands refines t (opened (o .buckets1) (o .buckets2)) (opening-stands t o) ps in
+      let r = Model.settles tables states FlatStands refines t (opened (o .size)) (opening-stands t o) ps in
       (r .0, stands-one (after tables t ps) _ (r .1))
 
   -- "the table itself never gives cause 4 or 5 in a list": it is sound after each call
   pub always-sound : (shaped (after tables t ps) ≡ true) × (sound (after tables t ps) ≡ true) × FlatSound (after tables t ps)
   always-sound = stands-sound (after tables t ps) _ (History.after-stands t o ps)
 
-  pub never-4-5 : (p : Put) → (numberOf (call (after tables t ps) (p .call) .answer) ≡ 4 → ⊥) × (numberOf (call (after tables t ps) (p .call) .answer) ≡ 5 → ⊥)
+  pub never-4-5 : (p : Put) → (numberOf (request (after tables t ps) (p .request) .answer) ≡ 4 → ⊥) × (numberOf (request (after tables t ps) (p .request) .answer) ≡ 5 → ⊥)
   never-4-5 = History.never t o ps
 
   -- so the answer to each further call is that of the first cause met, of 1, 2 and those of its word
-  pub list-causes : (p : Put) → Exactly (soundCauses (after tables t ps) (p .call)) (callReturns (after tables t ps) (p .call)) (call (after tables t ps) (p .call) .answer)
-  list-causes p = Causes.sound-call (after tables t ps) (p .call) (p .fits) (always-sound .0) (always-sound .2)
+  pub list-causes : (c : Call Token) → PlanFits c → Exactly (soundCauses (after tables t ps) c) (callReturns (after tables t ps) c) (call (after tables t ps) c .answer)
+  list-causes c f = Causes.sound-call (after tables t ps) c f (always-sound .0) (always-sound .2)
 
   -- "After each call its occupied rows and base entries hold just the live words, and its stored bounds are these": the model's
-  pub holds-live : List·Permᴰ (entriesOf rows unmixOf (tableOf (after tables t ps))) (after states (opened (o .buckets1) (o .buckets2)) ps .live)
+  pub holds-live : List·Permᴰ (entriesOf rows unmixOf (tableOf (after tables t ps))) (after states (opened (o .size)) ps .live)
   holds-live = Calls.stands-entries (after tables t ps) _ (History.after-stands t o ps)
 
-  pub stored-bounds : (bounds (tableOf (after tables t ps) .level1) ≡ after states (opened (o .buckets1) (o .buckets2)) ps .bounds1)
-      × (bounds (tableOf (after tables t ps) .level2) ≡ after states (opened (o .buckets1) (o .buckets2)) ps .bounds2)
+  pub stored-bounds : (bounds (tableOf (after tables t ps) .level1) ≡ after states (opened (o .size)) ps .bounds1)
+      × (bounds (tableOf (after tables t ps) .level2) ≡ after states (opened (o .size)) ps .bounds2)
   stored-bounds = let h = History.after-stands t o ps in (h .stands .bounds1, h .stands .bounds2)
 
   -- "The live count equals accepted adds less accepted withdrawals since opening"
-  pub count : getD (after tables t ps) 3 0 + withdrawalsIn (acceptedCalls t ps) ≡ addsIn (acceptedCalls t ps)
+  pub count : getD (after tables t ps) liveCountAt 0 + withdrawalsIn (acceptedCalls t ps) ≡ addsIn (acceptedCalls t ps)
   count = History.count-after-all t o ps
 
   -- statement 2, the table's half: a word is live if, of its accepted adds and withdrawals, the last is an add; its plan is that of its last
@@ -259,5 +258,5 @@ module _ (t : List ℕ) (o : Opened t) (ps : List Put) where
   plan = History.plan-after t o ps
 
   -- so a query of an identifier gives the last accepted plan of its word (`queried`: Accepted), or says that it is not live
-  pub query-tells : (i : List ℕ) (w : ℕ) → readOf i ≡ Word w → call (after tables t ps) (query i) ≡ queried (after tables t ps) (told w (acceptedCalls t ps))
+  pub query-tells : (i : Token) (w : ℕ) → wordFor (query i) ≡ Word w → call (after tables t ps) (query i) ≡ queried (after tables t ps) (told w (acceptedCalls t ps))
   query-tells = History.query-after t o ps

@@ -29,7 +29,7 @@ use Rattle.bucket_words.proofs.Words.{from-shaped}
 use Rattle.settle.specs.Settle.{SoundBucket}
 use Rattle.model.specs.Model.{baseLimit}
 use Rattle.concrete.specs.Table.{Table, thr, index, nth, holds}
-use Rattle.concrete.specs.Layout.{header, baseNumbers, pairsFrom, levelFrom, bucketPlace, tableFrom, lengthOf, unusedIn}
+use Rattle.concrete.specs.Layout.{buckets1At, buckets2At, baseCountAt, header, baseNumbers, pairsFrom, levelFrom, bucketPlace, tableFrom, lengthOf, unusedIn}
 use Rattle.concrete.specs.Sound as D
 use Rattle.concrete.specs.Sound.{SoundTable, FlatSound}
 use Rattle.concrete.specs.Test.{allOf, before, ascends, bucketTest, levelTest, row1, row2, row0, tableTest, soundTest}
@@ -235,16 +235,16 @@ module _ (n r : ℕ) where
   pairs-below : (k : ℕ) (xs : List ℕ) → Below xs → (e : Entry) → List·Memᴰ e (pairsFrom k xs) → e .word < 2 ^ n
   pairs-below zero xs h e m = absurd (List·Memᴰ·not-nil m)
   pairs-below (suc k) xs h e m =
-      ⊎-elim (λ (q : e ≡ record { word = getD xs 0 0; plan = getD xs 1 0 }). subst⁻¹ (λ (x : Entry). x .word < 2 ^ n) q (h 0))
+      ⊎-elim (λ (q : e ≡ record { word = getD xs buckets1At 0; plan = getD xs buckets2At 0 }). subst⁻¹ (λ (x : Entry). x .word < 2 ^ n) q (h 0))
       (pairs-below k (drop 2 xs) (below-drop 2 xs h) e) (List·Memᴰ·cases-cons m)
 
   module _ (S U : ℕ → ℕ) (xs : List ℕ) where
-    module _ (size : length xs ≡ lengthOf n r (getD xs 0 0) (getD xs 1 0)) (bits : Below xs) (some1 : 0 < getD xs 0 0) (some2 : 0 < getD xs 1 0) where
+    module _ (size : length xs ≡ lengthOf n r (getD xs buckets1At 0) (getD xs buckets2At 0)) (bits : Below xs) (some1 : 0 < getD xs buckets1At 0) (some2 : 0 < getD xs buckets2At 0) where
       abbrev a : ℕ
-      a = getD xs 0 0
+      a = getD xs buckets1At 0
 
       abbrev b : ℕ
-      b = getD xs 1 0
+      b = getD xs buckets2At 0
 
       abbrev w : ℕ
       w = bucketWords n r
@@ -267,7 +267,7 @@ module _ (n r : ℕ) where
             table = table-out n r S U (tableFrom n r xs) (subst⁻¹ (λ (k : ℕ). 0 < k) size1 some1) (subst⁻¹ (λ (k : ℕ). 0 < k) size2 some2)
                 (λ i l. level-ranged a (drop (bucketPlace n r 0) xs) room1 (below-drop (bucketPlace n r 0) xs bits) i (subst (λ (k : ℕ). i < k) size1 l))
                 (λ i l. level-ranged b (drop (bucketPlace n r a) xs) room2 (below-drop (bucketPlace n r a) xs bits) i (subst (λ (k : ℕ). i < k) size2 l))
-                (pairs-below (getD xs 2 0) _ (below-drop (bucketPlace n r (a + b)) xs bits))
+                (pairs-below (getD xs baseCountAt 0) _ (below-drop (bucketPlace n r (a + b)) xs bits))
                 (and-one (tableTest n r S U (tableFrom n r xs)) _ t);
             unused = zeros-out (unusedIn n r xs) (and-two (tableTest n r S U (tableFrom n r xs)) _ t);
           }

@@ -12,14 +12,14 @@ use lib.Seq.{map-set-same}
 use borrow.Author.Tests.{eqb-true, eq-eqb}
 use Rattle.lists.specs.Lists.{keep}
 use Rattle.lists.specs.Entries.{Entry, find, update, remove, sort, Distinct}
-use Rattle.lists.proofs.Tests.{cases}
+use Rattle.lists.proofs.Tests.{cases, by-test}
 use Rattle.lists.proofs.Edits.{find-keep, remove-in, remove-out, update-in, update-out, remove-renamed, update-renamed, sort-update, sort-remove}
 use Rattle.bucket.specs.declared.Bucket.{Bucket}
 use Rattle.bucket.specs.Bucket.{emptyBucket, change, withdraw}
 use Rattle.settle.specs.Settle.{planOf}
 use Rattle.settle.proofs.Hold.{Holds, holds-find, holds-withdraw, withdraw-bound, holds-change, change-bound}
 use Rattle.settle.proofs.Fall.{held}
-use Rattle.concrete.specs.Table.{bounds, thr, index, second, onSecond, nth, bucketOf, put, holds}
+use Rattle.concrete.specs.Table.{Table, bounds, thr, index, second, onSecond, nth, bucketOf, put, holds, touch}
 use Rattle.concrete.proofs.Level.{bound-at, within, dueIn, HoldsDue, LevelHolds, level-set}
 
 module _ (n r : ℕ) (S : ℕ → ℕ) where
@@ -27,6 +27,12 @@ module _ (n r : ℕ) (S : ℕ → ℕ) where
   pub holds-test : (m : ℕ) (bs : List Bucket) → length bs ≡ m → 0 < m → (v : ℕ) → holds n r S bs v ≡ within S m (bounds bs) v
   holds-test m bs c pos v =
       subst (λ (k : ℕ). 0 < k → holds n r S bs v ≡ within S k (bounds bs) v) c (λ p. ap (ltb (thr S v)) (sym (bound-at n r bs (index S (length bs) v) (mod-lt (S v / 8) p)))) pos
+
+  -- wherever the word is, the live count stays
+  pub touch-keeps : (T : Table) (w : ℕ) (f : ℕ → Bucket → Bucket) (g : ℕ → List Entry → List Entry) → touch n r S T w f g .count ≡ T .count
+  touch-keeps T w f g =
+      let Kept : Table → Type 0 = λ (U : Table). U .count ≡ T .count in
+      by-test Kept (holds n r S (T .level1) w) (λ _. refl) (λ _. by-test Kept (holds n r S (T .level2) (second S w)) (λ _. refl) (λ _. refl))
 
   -- ---- an edit of one word's entry: f in a bucket is g on its entries
 

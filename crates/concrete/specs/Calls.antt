@@ -10,11 +10,10 @@ use lib.ListN.{length}
 use Rattle.hash.specs.Mix.{mixOf, unmixOf}
 use Rattle.answer.specs.declared.Answer.{Answer}
 use Rattle.answer.specs.declared.Answer.the-variants.{Accepted, WrongBuckets, WrongTable, NotSound, Live, NotLive, Full}
-use Rattle.identifier.specs.Identifier.{readOf}
 use Rattle.identifier.specs.declared.Read.{Read}
 use Rattle.identifier.specs.declared.Read.the-variants.{Word, Refused}
 use Rattle.model.specs.Model.{baseLimit, Call, add, change, withdraw, query}
-use Rattle.model.specs.Request.{subject}
+use Rattle.model.specs.Request.{Token, wordFor}
 use Rattle.concrete.specs.Table as T
 use Rattle.concrete.specs.Table.{Table}
 use Rattle.concrete.specs.Layout as L
@@ -84,17 +83,17 @@ joined t u none =
     cond (ltb baseLimit (length (u .base))) (turnedDown Full t) (record { answer = Accepted (u .count); table = L.numbersOf u })
 
 -- a call for the word w on a sound table
-unfoldable pub served : List ℕ → ℕ → Call (List ℕ) → Outcome
+unfoldable pub served : List ℕ → ℕ → Call Token → Outcome
 served t w (add i p) = joined t (T.addedTo rows solutions mixOf (tableOf t) (record { word = w; plan = p })) (planIn t w)
 served t w (change i p) = replaced t (T.changedIn rows solutions mixOf (tableOf t) w p) (planIn t w)
 served t w (withdraw i) = replaced t (T.withdrawnFrom rows solutions mixOf (tableOf t) w) (planIn t w)
 served t w (query i) = queried t (planIn t w)
 
 -- the causes that every call meets first: 1 and 2, 4, 5
-abbrev pub callRead : List ℕ → Call (List ℕ) → Read → Outcome
+abbrev pub callRead : List ℕ → Call Token → Read → Outcome
 callRead t c (Refused a) = turnedDown a t
 callRead t c (Word w) = cond (shaped t) (cond (sound t) (served t w c) (turnedDown NotSound t)) (turnedDown (WrongTable (length t)) t)
 
 -- what a call does
-unfoldable pub call : List ℕ → Call (List ℕ) → Outcome
-call t c = callRead t c (readOf (subject c))
+unfoldable pub call : List ℕ → Call Token → Outcome
+call t c = callRead t c (wordFor c)

@@ -14,8 +14,8 @@ use Rattle.identifier.specs.Identifier.{wordOf}
 use Rattle.identifier.specs.Causes.{wrongLength, wrongByte}
 use Rattle.model.specs.Levels.{firstLevel, secondLevel}
 use Rattle.model.specs.Model.{baseLimit, Call, add, change, withdraw, query, wouldLeave, base}
-use Rattle.model.specs.Request.{subject}
-use Rattle.concrete.specs.Layout.{header, inRange, lengthOf}
+use Rattle.model.specs.Request.{Token, subject}
+use Rattle.concrete.specs.Layout.{leading, buckets1At, buckets2At, inRange, lengthOf}
 use Rattle.concrete.specs.Calls.{rows, solutions, FlatSound}
 use Rattle.concrete.specs.History.{flatState}
 
@@ -31,7 +31,7 @@ wrongRoom b1 b2 t = causeIf 4 (length t ≡ lengthOf rows solutions b1 b2 → �
 
 -- "table under 4 numbers; header bucket numbers out of range; length not as they give"
 abbrev pub Misshapen : List ℕ → Type 0
-Misshapen t = (length t < header) ⊎ ((inRange (getD t 0 0) (getD t 1 0) ≡ false) ⊎ (length t ≡ lengthOf rows solutions (getD t 0 0) (getD t 1 0) → ⊥))
+Misshapen t = (length t < leading) ⊎ ((inRange (getD t buckets1At 0) (getD t buckets2At 0) ≡ false) ⊎ (length t ≡ lengthOf rows solutions (getD t buckets1At 0) (getD t buckets2At 0) → ⊥))
 
 -- with the length
 abbrev pub wrongTable : List ℕ → Cause
@@ -67,22 +67,22 @@ abbrev pub openReturns : ℕ → Type 0
 openReturns v = v ≡ 0
 
 -- those that the call's word meets: change, withdraw and query share theirs
-abbrev pub wordCauses : List ℕ → Call (List ℕ) → List Cause
+abbrev pub wordCauses : List ℕ → Call Token → List Cause
 wordCauses t (add i p) = wordLive t i ∷ baseFull t i p ∷ []
 wordCauses t (change i p) = notLive t i ∷ []
 wordCauses t (withdraw i) = notLive t i ∷ []
 wordCauses t (query i) = notLive t i ∷ []
 
 -- every call meets those of the identifier first, then those of the table
-abbrev pub callCauses : List ℕ → Call (List ℕ) → List Cause
+abbrev pub callCauses : List ℕ → Call Token → List Cause
 callCauses t c = wrongLength (subject c) ∷ wrongByte (subject c) ∷ wrongTable t ∷ notSound t ∷ wordCauses t c
 
 -- on a sound table: in a list of calls "the table itself never gives cause 4 or 5"
-abbrev pub soundCauses : List ℕ → Call (List ℕ) → List Cause
+abbrev pub soundCauses : List ℕ → Call Token → List Cause
 soundCauses t c = wrongLength (subject c) ∷ wrongByte (subject c) ∷ wordCauses t c
 
 -- "add the live count, change and withdraw the earlier plan, query the plan": after an add the word added counts as live
-abbrev pub callReturns : List ℕ → Call (List ℕ) → ℕ → Type 0
+abbrev pub callReturns : List ℕ → Call Token → ℕ → Type 0
 callReturns t (add i p) v = v ≡ suc (length (flatState t .live))
 callReturns t (change i p) v = LivePlan t i v
 callReturns t (withdraw i) v = LivePlan t i v

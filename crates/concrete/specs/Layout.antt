@@ -23,9 +23,29 @@ mostBuckets2 = 32
 abbrev pub inRange : ℕ → ℕ → Bool
 inRange b1 b2 = (leb 1 b1 && leb b1 mostBuckets1) && (leb 1 b2 && leb b2 mostBuckets2)
 
--- the numbers before the buckets: buckets of level 1, of level 2, base count, live count
+-- the numbers that every table has: buckets of level 1, of level 2, base count, live count
+abbrev pub leading : ℕ
+leading = 4
+
+-- what stands where among them: the number of buckets of level 1
+abbrev pub buckets1At : ℕ
+buckets1At = 0
+
+-- of level 2
+abbrev pub buckets2At : ℕ
+buckets2At = 1
+
+-- the base count
+abbrev pub baseCountAt : ℕ
+baseCountAt = 2
+
+-- the live count
+abbrev pub liveCountAt : ℕ
+liveCountAt = 3
+
+-- the numbers before the buckets
 abbrev pub header : ℕ
-header = 4
+header = leading
 
 -- the numbers of the base list: a pair for each entry, used or not
 abbrev pub baseNumbers : ℕ
@@ -45,11 +65,13 @@ pairNumbers (e ∷ es) = e .word ∷ e .plan ∷ pairNumbers es
 abbrev pub basePairs : List Entry → List ℕ
 basePairs es = pairNumbers es ++ replicate (baseNumbers - 2 * length es) 0
 
+-- the numbers before the buckets of a table
+abbrev pub heads : Table → List ℕ
+heads T = length (T .level1) ∷ length (T .level2) ∷ length (T .base) ∷ T .count ∷ []
+
 -- the numbers of a table: header, level 1, level 2, base pairs
 unfoldable pub numbersOf : Table → List ℕ
-numbersOf T =
-    length (T .level1) ∷ length (T .level2) ∷ length (T .base) ∷ T .count
-    ∷ (levelNumbers (T .level1) ++ (levelNumbers (T .level2) ++ basePairs (T .base)))
+numbersOf T = heads T ++ (levelNumbers (T .level1) ++ (levelNumbers (T .level2) ++ basePairs (T .base)))
 
 -- m buckets from the front of the numbers
 abbrev pub levelFrom : ℕ → ℕ → ℕ → List ℕ → List Bucket
@@ -68,19 +90,23 @@ bucketPlace n r i = header + i * bucketWords n r
 -- the table that the numbers hold
 unfoldable pub tableFrom : ℕ → ℕ → List ℕ → Table
 tableFrom n r xs =
-    let b1 : ℕ = getD xs 0 0 in
-    let b2 : ℕ = getD xs 1 0 in
+    let b1 : ℕ = getD xs buckets1At 0 in
+    let b2 : ℕ = getD xs buckets2At 0 in
     record {
       level1 = levelFrom n r b1 (drop (bucketPlace n r 0) xs);
       level2 = levelFrom n r b2 (drop (bucketPlace n r b1) xs);
-      base = pairsFrom (getD xs 2 0) (drop (bucketPlace n r (b1 + b2)) xs);
-      count = getD xs 3 0;
+      base = pairsFrom (getD xs baseCountAt 0) (drop (bucketPlace n r (b1 + b2)) xs);
+      count = getD xs liveCountAt 0;
     }
 
 -- the length that the bucket numbers give
 abbrev pub lengthOf : ℕ → ℕ → ℕ → ℕ → ℕ
 lengthOf n r b1 b2 = bucketPlace n r (b1 + b2) + baseNumbers
 
+-- the longest table
+abbrev pub longest : ℕ → ℕ → ℕ
+longest n r = lengthOf n r mostBuckets1 mostBuckets2
+
 -- the numbers of the base pairs that are not used
 abbrev pub unusedIn : ℕ → ℕ → List ℕ → List ℕ
-unusedIn n r xs = drop (bucketPlace n r (getD xs 0 0 + getD xs 1 0) + 2 * getD xs 2 0) xs
+unusedIn n r xs = drop (bucketPlace n r (getD xs buckets1At 0 + getD xs buckets2At 0) + 2 * getD xs baseCountAt 0) xs

@@ -19,6 +19,22 @@ pub record Table : Type 0 where
   pub base : List Entry
   pub count : ℕ
 
+-- the table with these buckets at level 1
+abbrev pub withFirst : Table → List Bucket → Table
+withFirst T bs = record { level1 = bs; level2 = T .level2; base = T .base; count = T .count }
+
+-- with these at level 2
+abbrev pub withSecond : Table → List Bucket → Table
+withSecond T bs = record { level1 = T .level1; level2 = bs; base = T .base; count = T .count }
+
+-- with this base list
+abbrev pub withBase : Table → List Entry → Table
+withBase T es = record { level1 = T .level1; level2 = T .level2; base = es; count = T .count }
+
+-- with this live count
+abbrev pub withCount : Table → ℕ → Table
+withCount T c = record { level1 = T .level1; level2 = T .level2; base = T .base; count = c }
+
 -- the bounds of a level's buckets
 unfoldable pub bounds : List Bucket → List ℕ
 bounds bs = map (λ b. b .bound) bs
@@ -80,21 +96,20 @@ module _ (n r : ℕ) (S : ℕ → ℕ) where
       (find (second S w) (T .base)))
 
   -- the table with w's bucket changed by f, or its base list by g, wherever the three tests send w
-  abbrev pub touch : Table → ℕ → (ℕ → Bucket → Bucket) → (ℕ → List Entry → List Entry) → ℕ → Table
-  touch T w f g count =
-      cond (holds (T .level1) w)
-      (record { level1 = put S (T .level1) w (f w (bucketOf (T .level1) w)); level2 = T .level2; base = T .base; count = count })
-      (cond (holds (T .level2) (second S w))
-      (record { level1 = T .level1; level2 = put S (T .level2) (second S w) (f (second S w) (bucketOf (T .level2) (second S w))); base = T .base; count = count })
-      (record { level1 = T .level1; level2 = T .level2; base = g (second S w) (T .base); count = count }))
+  abbrev pub touch : Table → ℕ → (ℕ → Bucket → Bucket) → (ℕ → List Entry → List Entry) → Table
+  touch T w f g =
+      let v : ℕ = second S w in
+      cond (holds (T .level1) w) (withFirst T (put S (T .level1) w (f w (bucketOf (T .level1) w))))
+      (cond (holds (T .level2) v) (withSecond T (put S (T .level2) v (f v (bucketOf (T .level2) v))))
+      (withBase T (g v (T .base))))
 
   -- the live word w gets the plan p
   abbrev pub changedIn : Table → ℕ → ℕ → Table
-  changedIn T w p = touch T w (λ v b. B.change n v p b .bucket) (λ v es. update (record { word = v; plan = p }) es) (T .count)
+  changedIn T w p = touch T w (λ v b. B.change n v p b .bucket) (λ v es. update (record { word = v; plan = p }) es)
 
   -- the live word w goes
   abbrev pub withdrawnFrom : Table → ℕ → Table
-  withdrawnFrom T w = touch T w (λ v b. B.withdraw n v b .bucket) (λ v es. remove v es) (T .count - 1)
+  withdrawnFrom T w = withCount (touch T w (λ v b. B.withdraw n v b .bucket) (λ v es. remove v es)) (T .count - 1)
 
   -- the word e arrives at a level: it settles in its bucket
   abbrev pub arriveAt : List Bucket → Entry → Placed
@@ -116,4 +131,4 @@ module _ (n r : ℕ) (S : ℕ → ℕ) where
   addedTo T e =
       let p : Placed = arriveAt (T .level1) e in
       let q : Placed = arriveAll (T .level2) (map (onSecond S) (p .out)) in
-      record { level1 = p .buckets; level2 = q .buckets; base = insertAll (q .out) (T .base); count = suc (T .count) }
+      withCount (withBase (withSecond (withFirst T (p .buckets)) (q .buckets)) (insertAll (q .out) (T .base))) (suc (T .count))

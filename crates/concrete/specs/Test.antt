@@ -12,13 +12,15 @@ use Rattle.bucket.specs.declared.Bucket.{Bucket}
 use Rattle.bucket.specs.Bucket.{largestBound}
 use Rattle.model.specs.Model.{baseLimit}
 use Rattle.concrete.specs.Table.{Table, thr, index, holds}
-use Rattle.concrete.specs.Layout.{header, inRange, lengthOf, unusedIn, tableFrom}
+use Rattle.concrete.specs.Layout.{leading, buckets1At, buckets2At, inRange, lengthOf, unusedIn, tableFrom}
 use Rattle.concrete.specs.Content.{occupied}
 
--- not cause 4: at least the header, its bucket numbers in range, and the length that they give
+-- not cause 4: at least the leading numbers, the bucket numbers in range, and the length that they give
 unfoldable pub shapeTest : ℕ → ℕ → List ℕ → Bool
 shapeTest n r xs =
-    leb header (length xs) && (inRange (getD xs 0 0) (getD xs 1 0) && eqb (length xs) (lengthOf n r (getD xs 0 0) (getD xs 1 0)))
+    let b1 : ℕ = getD xs buckets1At 0 in
+    let b2 : ℕ = getD xs buckets2At 0 in
+    leb leading (length xs) && (inRange b1 b2 && eqb (length xs) (lengthOf n r b1 b2))
 
 -- every element passes the test
 abbrev pub allOf : {A : Type 0} → (A → Bool) → List A → Bool

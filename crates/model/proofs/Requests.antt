@@ -1,8 +1,8 @@
 -- Calls with any bytes as identifier: each is turned down by cause 1 or 2 and changes nothing, or is the step by its word. Causes 4 and
 -- 5 are never given. Assumes nothing.
-use Prim.Native.Nat.{ℕ, _<_}
+use Prim.Native.Nat.{ℕ, _^_, _<_}
 use native.Mathlib.Omega.{arith}
-use mathlib.Core.Path.{_≡_, refl, sym, ap, _∙_}
+use mathlib.Core.Path.{_≡_, refl, sym, ap, _∙_, subst, subst⁻¹}
 use mathlib.Core.Bool.{false, not}
 use mathlib.Core.Logic.{inl, inr, ⊎-elim}
 use mathlib.Core.List.{List}
@@ -16,35 +16,60 @@ use Rattle.answer.specs.Numbers.{numberOf}
 use Rattle.identifier.specs.Identifier.{sized, firstRefused, wordOf, readOf}
 use Rattle.identifier.specs.declared.Read.{Read}
 use Rattle.identifier.specs.declared.Read.the-variants.{Word, Refused}
+use Rattle.identifier.proofs.Words.{word-lt}
 use Rattle.model.specs.Levels.{Level, firstLevel, secondLevel}
 use Rattle.model.specs.Model.{baseLimit, State, Call, add, change, withdraw, query, Outcome, stepLive, wouldLeave, base, stepAdd, step}
-use Rattle.model.specs.Request.{subject, askOf, byWord, serveRead, serve}
+use Rattle.model.specs.Request.{Token, subject, wordFor, askOf, byWord, serveRead, serve, Request, ask, respond, callsOf}
 use Rattle.model.specs.Machine.{accepted}
+use Rattle.model.specs.History.{model}
 use Rattle.model.proofs.Steps.{refused-keeps, Follows}
+use Rattle.model.proofs.Valid.{Valid}
+use Rattle.model.proofs.Calls.{Done, done-one, valid-one, StandsFor}
 
--- bytes are read as their word, or refused with cause 1 or 2
-abbrev Reads : List ℕ → Read → Type 0
-Reads i (Word w) = w ≡ wordOf i
-Reads i (Refused a) = (0 < numberOf a) × (numberOf a < 3)
+-- a call is for the word of its identifier, or it is refused with cause 1 or 2
+abbrev Reads : Call Token → Read → Type 0
+Reads c (Word w) = w ≡ wordOf (subject c)
+Reads c (Refused a) = (0 < numberOf a) × (numberOf a < 3)
 
-reads : (i : List ℕ) → Reads i (readOf i)
+reads : (c : Call Token) → Reads c (wordFor c)
 unfolding readOf
-reads i =
-    by-test (Reads i) (not (sized (length i))) (λ t. omega arith) (λ t. by-test (Reads i) (ltb (firstRefused i) (length i)) (λ u. omega arith) (λ u. refl))
+reads c =
+    let i : Token = subject c in
+    by-test (Reads c) (not (sized (length i))) (λ t. omega arith) (λ t. by-test (Reads c) (ltb (firstRefused i) (length i)) (λ u. omega arith) (λ u. refl))
 
-pub serve-each : (s : State) (c : Call (List ℕ)) → Follows firstLevel secondLevel s (byWord c) (serve s c)
-serve-each s c = go (readOf (subject c)) (reads (subject c))
+-- so the word is the identifier's, and has 64 bits
+pub word-for : (c : Call Token) (w : ℕ) → wordFor c ≡ Word w → w ≡ wordOf (subject c)
+word-for c w e = subst (Reads c) e (reads c)
+
+pub word-small : (c : Call Token) (w : ℕ) → wordFor c ≡ Word w → w < 2 ^ 64
+word-small c w e = subst⁻¹ (λ (v : ℕ). v < 2 ^ 64) (word-for c w e) (word-lt (subject c))
+
+pub serve-each : (s : State) (c : Call Token) → Follows firstLevel secondLevel s (byWord c) (serve s c)
+serve-each s c = go (wordFor c) (reads c)
   where
-    go : (r : Read) → Reads (subject c) r → Follows firstLevel secondLevel s (byWord c) (serveRead s c r)
+    go : (r : Read) → Reads c r → Follows firstLevel secondLevel s (byWord c) (serveRead s c r)
     go (Refused a) h = inl (ne-eqb (numberOf a) 0 (omega arith), refl)
     go (Word w) h = inr (ap (λ (v : ℕ). step firstLevel secondLevel s (askOf v c)) h)
 
+-- a request stands for its calls
+pub stands-for : StandsFor firstLevel secondLevel model callsOf
+stands-for = record { keeps = keeps; each = each }
+  where
+    keeps : (s : State) (q : Request) → Valid firstLevel secondLevel s → Valid firstLevel secondLevel (respond s q .after)
+    keeps s (ask c) = valid-one firstLevel secondLevel s (byWord c) (serve s c) (serve-each s c)
+
+    each : (s : State) (q : Request) → Valid firstLevel secondLevel s → Done firstLevel secondLevel s (callsOf q) (accepted (respond s q .answer)) (respond s q .after)
+    each s (ask c) v = done-one firstLevel secondLevel s (byWord c) (serve s c) (serve-each s c)
+
 -- a refused call changes nothing
-pub serve-keeps : (s : State) (c : Call (List ℕ)) → accepted (serve s c .answer) ≡ false → serve s c .after ≡ s
+serve-keeps : (s : State) (c : Call Token) → accepted (serve s c .answer) ≡ false → serve s c .after ≡ s
 serve-keeps s c r =
     ⊎-elim (λ h. h .1)
     (λ e. ap (λ (o : Outcome). o .after) e ∙ refused-keeps firstLevel secondLevel s (byWord c) (sym (ap (λ (o : Outcome). accepted (o .answer)) e) ∙ r))
     (serve-each s c)
+
+pub respond-keeps : (s : State) (q : Request) → accepted (respond s q .answer) ≡ false → respond s q .after ≡ s
+respond-keeps s (ask c) r = serve-keeps s c r
 
 -- ---- causes 4 and 5
 
@@ -70,9 +95,12 @@ step-never L1 L2 s (change w p) = live-never s _ (find w (s .live))
 step-never L1 L2 s (withdraw w) = live-never s _ (find w (s .live))
 step-never L1 L2 s (query w) = live-never s _ (find w (s .live))
 
-pub serve-never : (s : State) (c : Call (List ℕ)) → Never45 (numberOf (serve s c .answer))
-serve-never s c = go (readOf (subject c)) (reads (subject c))
+serve-never : (s : State) (c : Call Token) → Never45 (numberOf (serve s c .answer))
+serve-never s c = go (wordFor c) (reads c)
   where
-    go : (r : Read) → Reads (subject c) r → Never45 (numberOf (serveRead s c r .answer))
+    go : (r : Read) → Reads c r → Never45 (numberOf (serveRead s c r .answer))
     go (Refused a) h = omega arith
     go (Word w) h = step-never firstLevel secondLevel s (askOf w c)
+
+pub respond-never : (s : State) (q : Request) → Never45 (numberOf (respond s q .answer))
+respond-never s (ask c) = serve-never s c

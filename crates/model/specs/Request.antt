@@ -1,12 +1,16 @@
 -- Calls as they are put, with any bytes as identifier, at document 01's two levels.
 -- Assumes nothing.
 use Prim.Native.Nat.{ℕ}
-use mathlib.Core.List.{List}
+use mathlib.Core.List.{List, [], _∷_}
 use Rattle.identifier.specs.Identifier.{wordOf, readOf}
 use Rattle.identifier.specs.declared.Read.{Read}
 use Rattle.identifier.specs.declared.Read.the-variants.{Word, Refused}
 use Rattle.model.specs.Levels.{firstLevel, secondLevel}
 use Rattle.model.specs.Model.{State, Call, add, change, withdraw, query, Outcome, step}
+
+-- an identifier as it is handed in: any bytes
+abbrev pub Token : Type 0
+Token = List ℕ
 
 -- the identifier of a call
 abbrev pub subject : {I : Type 0} → Call I → I
@@ -22,15 +26,31 @@ askOf j (change i p) = change j p
 askOf j (withdraw i) = withdraw j
 askOf j (query i) = query j
 
+-- what a call is for: the word of its identifier, or the cause that is met before the table is looked at
+abbrev pub wordFor : Call Token → Read
+wordFor c = readOf (subject c)
+
 -- the call by the word of its identifier
-abbrev pub byWord : Call (List ℕ) → Call ℕ
+abbrev pub byWord : Call Token → Call ℕ
 byWord c = askOf (wordOf (subject c)) c
 
--- by what the bytes are read as: a call of bytes that are no identifier is turned down (causes 1 and 2), else the word is taken
-abbrev pub serveRead : State → Call (List ℕ) → Read → Outcome
+-- by what it is for: a call of bytes that are no identifier is turned down (causes 1 and 2), else the word is taken
+abbrev pub serveRead : State → Call Token → Read → Outcome
 serveRead s c (Refused a) = record { answer = a; after = s }
 serveRead s c (Word w) = step firstLevel secondLevel s (askOf w c)
 
 -- what a call does
-abbrev pub serve : State → Call (List ℕ) → Outcome
-serve s c = serveRead s c (readOf (subject c))
+abbrev pub serve : State → Call Token → Outcome
+serve s c = serveRead s c (wordFor c)
+
+-- what is put to a table: a call for an identifier. (What names no identifier, or many, joins here)
+pub data Request : Type 0 where
+  ask : (c : Call Token) → Request
+
+-- what a request does
+abbrev pub respond : State → Request → Outcome
+respond s (ask c) = serve s c
+
+-- the calls by word that it stands for, if it is accepted
+abbrev pub callsOf : Request → List (Call ℕ)
+callsOf (ask c) = byWord c ∷ []

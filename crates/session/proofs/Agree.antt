@@ -13,6 +13,7 @@ use Rattle.lists.proofs.Tests.{cases}
 use Rattle.codec.specs.Bytes.{eqList}
 use Rattle.answer.specs.declared.Answer.the-variants.{Accepted, WrongBuckets}
 use Rattle.model.specs.Model.{State, Call, add, change}
+use Rattle.model.specs.Request.{Token}
 use Rattle.model.specs.Machine.{accepted}
 use Rattle.concrete.specs.Table.{openTable}
 use Rattle.concrete.specs.Layout.{inRange, lengthOf, numbersOf}
@@ -42,7 +43,7 @@ open-fits (Of b1) (Of b2) = tt
 open-fits (Of b1) Wrong = tt
 open-fits Wrong y = tt
 
-plan-fits : (c : ℕ → Call (List ℕ)) → ((p : ℕ) → p ≤ mostPlan → PlanFits (c p)) → (x : Number) → AtMost mostPlan x → CommandFits (planned c x)
+plan-fits : (c : ℕ → Call Token) → ((p : ℕ) → p ≤ mostPlan → PlanFits (c p)) → (x : Number) → AtMost mostPlan x → CommandFits (planned c x)
 plan-fits c f (Of p) h = f p h
 plan-fits c f Wrong h = tt
 
@@ -96,13 +97,13 @@ module _ (m : Option (List ℕ)) (k : Option State) (h : BothStand m k) where
   open-alike b1 b2 =
       cases (inRange b1 b2)
       (λ r. rw (open-is b1 b2 .0 r, r)
-      (refl, opening-stands (numbersOf (openTable rows solutions b1 b2)) (record { buckets1 = b1; buckets2 = b2; before = zeros b1 b2; accepted = open-is b1 b2 .0 r })))
+      (refl, opening-stands (numbersOf (openTable rows solutions b1 b2)) (record { size = record { buckets1 = b1; buckets2 = b2 }; before = zeros b1 b2; accepted = open-is b1 b2 .0 r })))
       (λ r. rw (open-is b1 b2 .1 r, r) (refl, h))
 
   refuse-alike : Alike (refuse tables m) (refuse states k)
   refuse-alike = (refl, h)
 
-ask-alike : (m : Option (List ℕ)) (k : Option State) → BothStand m k → (c : Call (List ℕ)) → PlanFits c → Alike (obey tables m (ask c)) (obey states k (ask c))
+ask-alike : (m : Option (List ℕ)) (k : Option State) → BothStand m k → (c : Call Token) → PlanFits c → Alike (obey tables m (ask c)) (obey states k (ask c))
 ask-alike none none h c f = (refl, tt)
 ask-alike none (some s) h c f = absurd h
 ask-alike (some t) none h c f = absurd h

@@ -9,18 +9,14 @@ use native.Mathlib.Omega.{arith}
 use lib.ListN.{length, take, drop}
 use lib.Seq.{length-take-le, take-append-le, take-all}
 use borrow.Author.Tests.{eq-eqb, ne-eqb}
-use Rattle.concrete.specs.Layout.{inRange, lengthOf}
+use Rattle.concrete.specs.Layout.{inRange, lengthOf, longest}
 use Rattle.concrete.specs.Calls.{rows, solutions, openCall}
 use Rattle.layout.proofs.Shape.{range}
 use Rattle.table.specs.Ready.{Ready}
-use Rattle.table.proofs.Opened.{accepted}
+use Rattle.table_open.proofs.Opened.{accepted}
 use Rattle.session.specs.Run.{tables}
 use Rattle.session.specs.Buffer.{heldIn, AllReady, Holds}
 use Rattle.session.proofs.Agree.{open-is}
-
--- the numbers of the longest table
-abbrev pub longest : ℕ
-longest = 6052
 
 -- ---- what is open
 
@@ -39,7 +35,7 @@ held-ready n t h b = subst AllReady (held-some n t h) (b .ready)
 
 -- ---- an opening
 
-module _ (b1 b2 n : ℕ) (t : List ℕ) (i : inRange b1 b2 ≡ true) (e : n ≡ lengthOf rows solutions b1 b2) (l : length t ≡ longest) where
+module _ (b1 b2 n : ℕ) (t : List ℕ) (i : inRange b1 b2 ≡ true) (e : n ≡ lengthOf rows solutions b1 b2) (l : length t ≡ longest rows solutions) where
   pub part-fits : n ≤ length t
   part-fits = let h = range b1 b2 i in omega arith
 

@@ -12,14 +12,15 @@ use Rattle.codec.specs.Parts.{written}
 use Rattle.answer.specs.declared.Answer.{Answer}
 use Rattle.answer.specs.declared.Answer.the-variants.{WrongBuckets}
 use Rattle.model.specs.Model.{Call}
-use Rattle.concrete.specs.Layout.{inRange, lengthOf}
+use Rattle.model.specs.Request.{Token}
+use Rattle.concrete.specs.Layout.{inRange, lengthOf, longest}
 use Rattle.concrete.specs.Calls.{rows, solutions, Outcome, openCall, call}
 use Rattle.text.specs.Line.{opening, ask}
 use Rattle.text.specs.Printed.{badLine, printed}
 use Rattle.session.specs.Run.{Turn, refuse, obey, tables}
 use Rattle.session.specs.Buffer.{heldIn, Did}
 use Rattle.session.proofs.Agree.{open-is}
-use Rattle.session.proofs.Opening.{longest, held-none, held-some, held-part, part-length, part-some, opened-part}
+use Rattle.session.proofs.Opening.{held-none, held-some, held-part, part-length, part-some, opened-part}
 
 module _ (at k : ℕ) (o o' : List ℕ) where
   -- the bytes l are printed, and k is the next index
@@ -33,7 +34,7 @@ module _ (at k : ℕ) (o o' : List ℕ) where
   pub bad-did : (n : ℕ) (t : List ℕ) → Put badLine → n ≤ length t → Did (refuse tables (heldIn n t)) at o (record { held = n; printed = k }) t o'
   bad-did n t p f = did (refuse tables (heldIn n t)) n t badLine refl p f refl
 
-  module _ (n : ℕ) (t : List ℕ) (c : Call (List ℕ)) where
+  module _ (n : ℕ) (t : List ℕ) (c : Call Token) where
     pub ask-bad : n ≡ 0 → Put badLine → Did (obey tables (heldIn n t) (ask c)) at o (record { held = n; printed = k }) t o'
     ask-bad e p =
         subst⁻¹ (λ m. Did (obey tables m (ask c)) at o (record { held = n; printed = k }) t o') (held-none n t e)
@@ -47,7 +48,7 @@ module _ (at k : ℕ) (o o' : List ℕ) where
         subst⁻¹ (λ m. Did (obey tables m (ask c)) at o (record { held = n; printed = k }) (u ++ drop n t) o') (held-some n t h)
         (did _ n (u ++ drop n t) (printed a) (ap printed (sym (e .0))) p (rw (length-append u (drop n t)) (omega arith)) (held-part n t u h l ∙ ap some (e .1)))
 
-  module _ (b1 b2 held : ℕ) (t : List ℕ) (l : length t ≡ longest) where
+  module _ (b1 b2 held : ℕ) (t : List ℕ) (l : length t ≡ longest rows solutions) where
     pub open-did : (n : ℕ) → inRange b1 b2 ≡ true → n ≡ lengthOf rows solutions b1 b2 → (a : Answer) (u : List ℕ)
         → (a ≡ openCall b1 b2 (take n t) .answer) × (u ≡ openCall b1 b2 (take n t) .table) → length u ≡ length (take n t) → Put (printed a)
         → Did (obey tables (heldIn held t) (opening b1 b2)) at o (record { held = n; printed = k }) (u ++ drop n t) o'

@@ -10,7 +10,7 @@ use Rattle.answer.specs.declared.Answer.{Answer}
 use Rattle.answer.specs.declared.Answer.the-variants.{Accepted, WrongBuckets}
 use Rattle.model.specs.Model as M
 use Rattle.model.specs.Model.{State, Call}
-use Rattle.model.specs.Request.{serve}
+use Rattle.model.specs.Request.{Token, serve}
 use Rattle.model.specs.Machine.{Machine, accepted}
 use Rattle.concrete.specs.Layout.{inRange, lengthOf}
 use Rattle.concrete.specs.Calls.{rows, solutions, openCall, call}
@@ -33,7 +33,7 @@ lineLimit = 64
 pub record Desk (T : Type 0) : Type 0 where
   pub answer : ℕ → ℕ → Answer
   pub opened : ℕ → ℕ → T
-  pub calls : Machine T (Call (List ℕ))
+  pub calls : Machine T (Call Token)
 
 -- what a line prints, and what is open after it
 pub record Turn (T : Type 0) : Type 0 where
@@ -87,6 +87,6 @@ output s = outputOf tables s
 abbrev pub states : Desk State
 states = record {
   answer = λ b1 b2. cond (inRange b1 b2) (Accepted 0) WrongBuckets;
-  opened = M.opened;
+  opened = λ b1 b2. M.opened (record { buckets1 = b1; buckets2 = b2 });
   calls = record { answer = λ t c. serve t c .answer; next = λ t c. serve t c .after };
 }

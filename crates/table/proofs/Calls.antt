@@ -17,11 +17,13 @@ use Rattle.identifier.specs.Identifier.{readOf}
 use Rattle.identifier.specs.declared.Read.{Read}
 use Rattle.identifier.specs.declared.Read.the-variants.{Word, Refused}
 use Rattle.model.specs.Model.{Call, add, change, withdraw, query}
-use Rattle.model.specs.Request.{subject, askOf}
-use Rattle.concrete.specs.Table.{Table, touch}
-use Rattle.concrete.specs.Layout.{numbersOf, tableFrom}
+use Rattle.model.specs.Request.{Token, wordFor, askOf}
+use Rattle.concrete.specs.Table.{Table, withCount}
+use Rattle.concrete.specs.Layout.{liveCountAt, numbersOf, tableFrom}
 use Rattle.concrete.specs.Calls.{rows, solutions, tableOf, planIn, shaped, sound, Outcome, turnedDown, queried, replaced, served, callRead, call}
 use Rattle.concrete.specs.History.{flatState}
+use Rattle.concrete.proofs.Numbers.{write-count}
+use Rattle.concrete.proofs.Touch.{touch-keeps}
 use Rattle.concrete.proofs.Calls.{stands-look, sound-stands-flat, sound-exactly}
 use Rattle.base.specs.declared.Found.{Found}
 use Rattle.base.specs.declared.Found.the-variants.{Plan, Nothing}
@@ -30,7 +32,6 @@ use Rattle.table.specs.declared.Edit.{Edit}
 use Rattle.table.specs.declared.Edit.the-variants.{Change, Withdraw}
 use Rattle.table.specs.Ready.{Ready, admitted}
 use Rattle.table.specs.Edit.{onBucket, onBase, touched, leaving, asked}
-use Rattle.table.proofs.Touched.{touch-count}
 
 -- ---- a word that is live, or not
 
@@ -44,18 +45,20 @@ found-none none e = refl
 
 -- the table after an edit, with the live count
 abbrev edited : Edit → ℕ → Table → Table
-edited d w T = touch rows solutions mixOf T w (onBucket d) (onBase d) (T .count - leaving d)
+edited d w T = withCount (touched d w T) (T .count - leaving d)
 
-edit-served : (t : List ℕ) (w : ℕ) (i : List ℕ) (d : Edit) → served t w (asked d i) ≡ replaced t (edited d w (tableOf t)) (planIn t w)
+edit-served : (t : List ℕ) (w : ℕ) (i : Token) (d : Edit) → served t w (asked d i) ≡ replaced t (edited d w (tableOf t)) (planIn t w)
 unfolding served
-edit-served t w i (Change q) = ap (λ (c : ℕ). replaced t (touch rows solutions mixOf (tableOf t) w (onBucket (Change q)) (onBase (Change q)) c) (planIn t w)) (sym (sub-zero (tableOf t .count)))
+edit-served t w i (Change q) =
+    let d : Edit = Change q in
+    ap (λ (c : ℕ). replaced t (withCount (touched d w (tableOf t)) c) (planIn t w)) (touch-keeps rows solutions mixOf (tableOf t) w (onBucket d) (onBase d) ∙ sym (sub-zero (tableOf t .count)))
 edit-served t w i Withdraw = refl
 
 leaving-le : (d : Edit) → leaving d ≤ 1
 leaving-le (Change q) = omega arith
 leaving-le Withdraw = omega arith
 
-module _ (t : List ℕ) (w : ℕ) (i : List ℕ) (f : Found) (e : f ≡ foundOf (planIn t w)) where
+module _ (t : List ℕ) (w : ℕ) (i : Token) (f : Found) (e : f ≡ foundOf (planIn t w)) where
   module _ (p : ℕ) (l : f ≡ Plan p) where
     pub live : planIn t w ≡ some p
     live = found-some (planIn t w) p (sym e ∙ l)
@@ -65,16 +68,16 @@ module _ (t : List ℕ) (w : ℕ) (i : List ℕ) (f : Found) (e : f ≡ foundOf 
     query-live = ap (queried t) live
 
     pub edit-live : (d : Edit) (ys : List ℕ) → ys ≡ numbersOf (touched d w (tableOf t))
-        → served t w (asked d i) ≡ record { answer = Accepted p; table = set ys 3 (getD t 3 0 - leaving d) }
+        → served t w (asked d i) ≡ record { answer = Accepted p; table = set ys liveCountAt (getD t liveCountAt 0 - leaving d) }
     unfolding tableFrom
     edit-live d ys y =
         edit-served t w i d ∙ ap (replaced t (edited d w (tableOf t))) live
         ∙ ap {B = Outcome} (λ l. record { answer = Accepted p; table = l })
-        (touch-count rows solutions mixOf (tableOf t) w (onBucket d) (onBase d) (tableOf t .count - leaving d)
-        ∙ ap (λ (l : List ℕ). set l 3 (tableOf t .count - leaving d)) (sym y))
+        (write-count rows solutions (touched d w (tableOf t)) (tableOf t .count - leaving d)
+        ∙ ap (λ (l : List ℕ). set l liveCountAt (tableOf t .count - leaving d)) (sym y))
 
     -- the live count is not 0
-    pub counted : Ready t → w < 2 ^ rows → (d : Edit) → leaving d ≤ getD t 3 0
+    pub counted : Ready t → w < 2 ^ rows → (d : Edit) → leaving d ≤ getD t liveCountAt 0
     unfolding tableFrom
     counted h b d =
         let st = sound-stands-flat t (h .shape) (h .sound) in
@@ -95,36 +98,36 @@ module _ (t : List ℕ) (w : ℕ) (i : List ℕ) (f : Found) (e : f ≡ foundOf 
 -- ---- the causes before that
 
 -- the identifier plays no part once its word is known
-by-word : (t : List ℕ) (w : ℕ) (c : Call (List ℕ)) → served t w c ≡ served t w (askOf [] c)
+by-word : (t : List ℕ) (w : ℕ) (c : Call Token) → served t w c ≡ served t w (askOf [] c)
 unfolding served
 by-word t w (add i p) = refl
 by-word t w (change i p) = refl
 by-word t w (withdraw i) = refl
 by-word t w (query i) = refl
 
-abbrev after : List ℕ → Call (List ℕ) → Read → Outcome
+abbrev after : List ℕ → Call Token → Read → Outcome
 after t c (Refused a) = turnedDown a t
 after t c (Word w) = served t w c
 
-after-admitted : (t : List ℕ) (c : Call (List ℕ)) (x : Read) → callRead t c x ≡ after t c (admitted t x)
+after-admitted : (t : List ℕ) (c : Call Token) (x : Read) → callRead t c x ≡ after t c (admitted t x)
 after-admitted t c (Refused a) = refl
 after-admitted t c (Word w) = cases (shaped t) (λ p. rw p (cases (sound t) (λ q. rw q) (λ q. rw q))) (λ p. rw p)
 
-module _ (t : List ℕ) (c : Call (List ℕ)) (x : Read) (e : x ≡ admitted t (readOf (subject c))) where
+module _ (t : List ℕ) (c : Call Token) (x : Read) (e : x ≡ admitted t (wordFor c)) where
   pub call-word : (w : ℕ) → x ≡ Word w → call t c ≡ served t w (askOf [] c)
   unfolding call
-  call-word w q = after-admitted t c (readOf (subject c)) ∙ ap (after t c) (sym e ∙ q) ∙ by-word t w c
+  call-word w q = after-admitted t c (wordFor c) ∙ ap (after t c) (sym e ∙ q) ∙ by-word t w c
 
   pub call-refused : (a : Answer) → x ≡ Refused a → call t c ≡ turnedDown a t
   unfolding call
-  call-refused a q = after-admitted t c (readOf (subject c)) ∙ ap (after t c) (sym e ∙ q)
+  call-refused a q = after-admitted t c (wordFor c) ∙ ap (after t c) (sym e ∙ q)
 
 -- the same for an edit
-pub edit-word : (t i : List ℕ) (d : Edit) (x : Read) → x ≡ admitted t (readOf i) → (w : ℕ) → x ≡ Word w → call t (asked d i) ≡ served t w (asked d [])
+pub edit-word : (t : List ℕ) (i : Token) (d : Edit) (x : Read) → x ≡ admitted t (readOf i) → (w : ℕ) → x ≡ Word w → call t (asked d i) ≡ served t w (asked d [])
 edit-word t i (Change q) x = call-word t (change i q) x
 edit-word t i Withdraw x = call-word t (withdraw i) x
 
-pub edit-refused : (t i : List ℕ) (d : Edit) (x : Read) → x ≡ admitted t (readOf i) → (a : Answer) → x ≡ Refused a → call t (asked d i) ≡ turnedDown a t
+pub edit-refused : (t : List ℕ) (i : Token) (d : Edit) (x : Read) → x ≡ admitted t (readOf i) → (a : Answer) → x ≡ Refused a → call t (asked d i) ≡ turnedDown a t
 edit-refused t i (Change q) x = call-refused t (change i q) x
 edit-refused t i Withdraw x = call-refused t (withdraw i) x
 

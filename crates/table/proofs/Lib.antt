@@ -1,5 +1,4 @@
 -- The laws of the crate.
-pub mod Opened
 pub mod Touched
 pub mod Places
 pub mod Calls

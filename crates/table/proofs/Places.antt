@@ -11,10 +11,11 @@ use Rattle.lists.proofs.Tests.{cond-true, cond-false}
 use Rattle.hash.specs.Mix.{mixOf}
 use Rattle.bucket.specs.declared.Bucket.{Bucket}
 use Rattle.bucket.specs.Bucket.{rowOf, lookup}
+use Rattle.bucket_words.specs.Words.{bucketWords}
 use Rattle.bucket.proofs.Laws.{live-row}
 use Rattle.settle.specs.Settle.{planOf}
 use Rattle.concrete.specs.Table.{index}
-use Rattle.concrete.specs.Layout.{header, bucketPlace}
+use Rattle.concrete.specs.Layout.{buckets1At, buckets2At, header, bucketPlace}
 use Rattle.concrete.specs.Calls.{rows, solutions, tableOf}
 use Rattle.concrete.proofs.Numbers.{ShapedTable, Laid}
 use Rattle.concrete.proofs.Calls.{sound-shaped, sound-laid}
@@ -35,13 +36,13 @@ module _ {t : List ℕ} (h : Ready t) where
   long = omega (arith, shape-of .size)
 
   module _ (v p : ℕ) where
-    pub first-end : p ≡ bucketPlace rows solutions (index mixOf (getD t 0 0) v) → p + 74 ≤ length t
-    first-end e = subst⁻¹ (λ (j : ℕ). j + 74 ≤ length t) e (first-in rows solutions t shape-of mixOf v)
+    pub first-end : p ≡ bucketPlace rows solutions (index mixOf (getD t buckets1At 0) v) → p + bucketWords rows solutions ≤ length t
+    first-end e = subst⁻¹ (λ (j : ℕ). j + bucketWords rows solutions ≤ length t) e (first-in rows solutions t shape-of mixOf v)
 
-    pub second-end : p ≡ bucketPlace rows solutions (getD t 0 0 + index mixOf (getD t 1 0) v) → p + 74 ≤ length t
-    second-end e = subst⁻¹ (λ (j : ℕ). j + 74 ≤ length t) e (second-in rows solutions t shape-of mixOf v)
+    pub second-end : p ≡ bucketPlace rows solutions (getD t buckets1At 0 + index mixOf (getD t buckets2At 0) v) → p + bucketWords rows solutions ≤ length t
+    second-end e = subst⁻¹ (λ (j : ℕ). j + bucketWords rows solutions ≤ length t) e (second-in rows solutions t shape-of mixOf v)
 
-  pub base-end : (p : ℕ) → p ≡ bucketPlace rows solutions (getD t 0 0 + getD t 1 0) → p ≤ length t
+  pub base-end : (p : ℕ) → p ≡ bucketPlace rows solutions (getD t buckets1At 0 + getD t buckets2At 0) → p ≤ length t
   base-end p e = omega (arith, shape-of .size)
 
 -- ---- one bucket

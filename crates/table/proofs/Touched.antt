@@ -8,34 +8,20 @@ use mathlib.Core.Bool.{true, false, cond}
 use mathlib.Core.List.{List, _++_, append-nil}
 use mathlib.Core.Option.{Option}
 use lib.ListN.{length, getD, set, take, drop, length-drop, drop-of-length-le}
-use lib.Seq.{length-take-le, take-all, drop-at, drop-set-lt}
+use lib.Seq.{take-all}
 use borrow.Rule.Slice.PartMut.{putMid, post-is}
 use Rattle.lists.specs.Entries.{Entry, find}
 use Rattle.lists.proofs.Parts.{stretch}
-use Rattle.lists.proofs.Tests.{cases, cond-true, cond-false}
+use Rattle.lists.proofs.Tests.{cond-true, cond-false}
 use Rattle.bucket.specs.declared.Bucket.{Bucket}
 use Rattle.bucket_words.specs.Words.{bucketWords, wordsOf, bucketFrom}
 use Rattle.settle.specs.Settle.{planOf}
 use Rattle.model.specs.Model.{baseLimit}
-use Rattle.concrete.specs.Table.{Table, second, index, put, bucketOf, holds, planIn, touch}
-use Rattle.concrete.specs.Layout.{basePairs, pairsFrom, numbersOf, tableFrom, bucketPlace}
-use Rattle.concrete.proofs.Numbers.{ShapedTable, Laid, write-count, header-read, from-part, write-first, write-second, write-base, forth}
+use Rattle.concrete.specs.Table.{Table, withSecond, withBase, second, index, put, bucketOf, holds, planIn, touch}
+use Rattle.concrete.specs.Layout.{buckets1At, buckets2At, baseCountAt, basePairs, pairsFrom, numbersOf, tableFrom, bucketPlace}
+use Rattle.concrete.proofs.Numbers.{ShapedTable, Laid, drop-base, header-read, from-part, write-first, write-second, write-base, forth}
 use Rattle.layout.proofs.Shape.{Shape, first-lt, second-lt, first-bucket, second-bucket}
 use Rattle.base.specs.Base.{Pairs}
-
--- ---- the live count
-
-module _ (n r : ℕ) (S : ℕ → ℕ) (T : Table) (w : ℕ) (f : ℕ → Bucket → Bucket) (g : ℕ → List Entry → List Entry) (c : ℕ) where
-  abbrev kept : Table
-  kept = touch n r S T w f g (T .count)
-
-  touch-at : touch n r S T w f g c ≡ record { level1 = kept .level1; level2 = kept .level2; base = kept .base; count = c }
-  touch-at =
-      cases (holds n r S (T .level1) w) (λ t. rw t refl)
-      (λ t. rw t (cases (holds n r S (T .level2) (second S w)) (λ u. rw u refl) (λ u. rw u refl)))
-
-  pub touch-count : numbersOf (touch n r S T w f g c) ≡ set (numbersOf kept) 3 c
-  touch-count = ap numbersOf touch-at ∙ write-count n r kept c
 
 -- ---- the parts of the numbers
 
@@ -44,13 +30,13 @@ module _ (n r : ℕ) (S : ℕ → ℕ) (xs : List ℕ) (s : Shape n r xs) where
   T = tableFrom n r xs
 
   abbrev b1 : ℕ
-  b1 = getD xs 0 0
+  b1 = getD xs buckets1At 0
 
   abbrev b2 : ℕ
-  b2 = getD xs 1 0
+  b2 = getD xs buckets2At 0
 
   abbrev k : ℕ
-  k = getD xs 2 0
+  k = getD xs baseCountAt 0
 
   abbrev W : ℕ
   W = bucketWords n r
@@ -101,15 +87,12 @@ module _ (n r : ℕ) (S : ℕ → ℕ) (xs : List ℕ) (s : Shape n r xs) where
     base-at : bucketPlace n r (length (T .level1) + length (T .level2)) ≡ bucketPlace n r (b1 + b2)
     base-at = ap₂ (λ (i j : ℕ). bucketPlace n r (i + j)) (header-read n r xs .0) (header-read n r xs .1)
 
-    based : (es : List Entry) → numbersOf (record { level1 = T .level1; level2 = T .level2; base = es; count = T .count }) ≡ set (take (bucketPlace n r (b1 + b2)) xs ++ basePairs es) 2 (length es)
+    based : (es : List Entry) → numbersOf (withBase T es) ≡ set (take (bucketPlace n r (b1 + b2)) xs ++ basePairs es) baseCountAt (length es)
     based es =
-        write-base n r T h es ∙ ap₂ (λ (j : ℕ) (l : List ℕ). set (take j l ++ basePairs es) 2 (length es)) base-at same
+        write-base n r T h es ∙ ap₂ (λ (j : ℕ) (l : List ℕ). set (take j l ++ basePairs es) baseCountAt (length es)) base-at same
 
     tail-pairs : drop (bucketPlace n r (b1 + b2)) xs ≡ basePairs (T .base)
-    tail-pairs =
-        let p : ℕ = bucketPlace n r (b1 + b2) in
-        ap (drop p) (sym same ∙ based (T .base)) ∙ drop-set-lt p (take p xs ++ basePairs (T .base)) 2 (length (T .base)) (omega arith)
-        ∙ drop-at (take p xs) (basePairs (T .base)) p (length-take-le p xs (omega (arith, s .size)))
+    tail-pairs = ap₂ (λ (j : ℕ) (l : List ℕ). drop j l) (sym base-at) (sym same) ∙ drop-base n r T h
 
     module _ (p : ℕ) (e : p ≡ bucketPlace n r (b1 + b2)) where
       tail-here : tail-at p ≡ drop (bucketPlace n r (b1 + b2)) xs
@@ -134,7 +117,7 @@ module _ (n r : ℕ) (S : ℕ → ℕ) (xs : List ℕ) (s : Shape n r xs) where
 
     module _ (w : ℕ) (f : ℕ → Bucket → Bucket) (g : ℕ → List Entry → List Entry) where
       abbrev touched : Table
-      touched = touch n r S T w f g (T .count)
+      touched = touch n r S T w f g
 
       -- the bucket of a stretch
       bucket-here : (p i : ℕ) → p ≡ bucketPlace n r i → bucketFrom n r (take (p + W - p) (drop p xs)) ≡ bucketFrom n r (drop (bucketPlace n r i) xs)
@@ -143,9 +126,7 @@ module _ (n r : ℕ) (S : ℕ → ℕ) (xs : List ℕ) (s : Shape n r xs) where
       -- where level 1 does not hold it
       abbrev passing : ℕ → Table
       passing v =
-          cond (holds n r S (T .level2) v)
-          (record { level1 = T .level1; level2 = put S (T .level2) v (f v (bucketOf n r S (T .level2) v)); base = T .base; count = T .count })
-          (record { level1 = T .level1; level2 = T .level2; base = g v (T .base); count = T .count })
+          cond (holds n r S (T .level2) v) (withSecond T (put S (T .level2) v (f v (bucketOf n r S (T .level2) v)))) (withBase T (g v (T .base)))
 
       pub touched-first : holds n r S (T .level1) w ≡ true → (p : ℕ) → p ≡ bucketPlace n r (index S b1 w)
           → (ys : List ℕ) → ys ≡ wordsOf (f w (bucketFrom n r (take (p + W - p) (drop p xs)))) → putMid p (p + W - p) xs ys ≡ numbersOf touched
@@ -177,9 +158,9 @@ module _ (n r : ℕ) (S : ℕ → ℕ) (xs : List ℕ) (s : Shape n r xs) where
           after = g v (pairsFrom k (tail-at p))
 
           -- the base list and its count
-          pub touched-base : (ys : List ℕ) (c : ℕ) → ys ≡ basePairs after → c ≡ length after → set (putMid p (length xs - p) xs ys) 2 c ≡ numbersOf touched
+          pub touched-base : (ys : List ℕ) (c : ℕ) → ys ≡ basePairs after → c ≡ length after → set (putMid p (length xs - p) xs ys) baseCountAt c ≡ numbersOf touched
           touched-base ys c q m =
               let own : after ≡ g v (T .base) = ap (λ (l : List ℕ). g v (pairsFrom k l)) (tail-here p e) ∙ ap (g v) (sym base-is) in
-              ap₂ (λ (l : List ℕ) (j : ℕ). set l 2 j) (put-tail p e ys) m
-              ∙ ap₂ (λ (l : List ℕ) (es : List Entry). set (take (bucketPlace n r (b1 + b2)) xs ++ l) 2 (length es)) (q ∙ ap basePairs own) own
+              ap₂ (λ (l : List ℕ) (j : ℕ). set l baseCountAt j) (put-tail p e ys) m
+              ∙ ap₂ (λ (l : List ℕ) (es : List Entry). set (take (bucketPlace n r (b1 + b2)) xs ++ l) baseCountAt (length es)) (q ∙ ap basePairs own) own
               ∙ sym (ap numbersOf (passing-is ∙ cond-false _ _ out) ∙ based (g v (T .base)))

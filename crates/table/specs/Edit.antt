@@ -7,6 +7,7 @@ use Rattle.hash.specs.Mix.{mixOf}
 use Rattle.bucket.specs.declared.Bucket.{Bucket}
 use Rattle.bucket.specs.Bucket as B
 use Rattle.model.specs.Model.{Call, change, withdraw}
+use Rattle.model.specs.Request.{Token}
 use Rattle.concrete.specs.Table.{Table, touch}
 use Rattle.concrete.specs.Calls.{rows, solutions}
 use Rattle.table.specs.declared.Edit.{Edit}
@@ -24,7 +25,7 @@ onBase Withdraw v es = remove v es
 
 -- the table after it, but for the live count
 abbrev pub touched : Edit → ℕ → Table → Table
-touched e w T = touch rows solutions mixOf T w (onBucket e) (onBase e) (T .count)
+touched e w T = touch rows solutions mixOf T w (onBucket e) (onBase e)
 
 -- how many words are live no more after it
 abbrev pub leaving : Edit → ℕ
@@ -32,6 +33,6 @@ leaving (Change p) = 0
 leaving Withdraw = 1
 
 -- the call for it
-abbrev pub asked : Edit → List ℕ → Call (List ℕ)
+abbrev pub asked : Edit → Token → Call Token
 asked (Change p) i = change i p
 asked Withdraw i = withdraw i

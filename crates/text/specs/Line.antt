@@ -6,6 +6,7 @@ use mathlib.Core.List.{List, [], _∷_}
 use lib.Dec.{eqb}
 use Rattle.codec.specs.Bytes.{eqList}
 use Rattle.model.specs.Model.{Call, add, change, withdraw, query}
+use Rattle.model.specs.Request.{Token}
 use Rattle.text.specs.declared.Number.{Number}
 use Rattle.text.specs.declared.Number.the-variants.{Of, Wrong}
 use Rattle.text.specs.Decimal.{numberTo}
@@ -36,7 +37,7 @@ parted b (x ∷ s) = cond (eqb x b) ([] ∷ parted b s) (before x (parted b s))
 -- what a line asks for: an opening, a call, or nothing that the program knows
 pub data Command : Type 0 where
   opening : (b1 b2 : ℕ) → Command
-  ask : (c : Call (List ℕ)) → Command
+  ask : (c : Call Token) → Command
   bad : Command
 
 -- B1 and B2 go to 999
@@ -54,7 +55,7 @@ openWith (Of b1) Wrong = bad
 openWith Wrong n = bad
 
 -- `add ID PLAN`, `set ID PLAN`: c is the call but for its plan
-abbrev pub planned : (ℕ → Call (List ℕ)) → Number → Command
+abbrev pub planned : (ℕ → Call Token) → Number → Command
 planned c (Of p) = ask (c p)
 planned c Wrong = bad
 

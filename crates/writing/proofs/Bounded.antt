@@ -1,6 +1,6 @@
 -- Every call keeps columns and solution words below 2 ^ n, of any table: so after a list of calls the solution words have 64 bits.
 -- Assumes nothing.
-use Prim.Native.Nat.{ℕ, zero, suc, _-_, _/_, _%_, _^_, _≤_, _<_}
+use Prim.Native.Nat.{ℕ, zero, suc, _/_, _%_, _^_, _≤_, _<_}
 use native.Mathlib.Nat.{le-trans}
 use native.Mathlib.Omega.{arith}
 use mathlib.Core.Path.{sym, ap, _∙_, subst, subst⁻¹}
@@ -21,7 +21,6 @@ use Rattle.gf2.proofs.Inverse as Inverse
 use Rattle.gf2.proofs.Inverse.{set-lt, flip-lt, colStep-lt, length-colStep}
 use Rattle.gf2.proofs.Loops.{length-solStep}
 use Rattle.hash.specs.Mix.{mixOf}
-use Rattle.identifier.specs.Identifier.{readOf}
 use Rattle.identifier.specs.declared.Read.{Read}
 use Rattle.identifier.specs.declared.Read.the-variants.{Word, Refused}
 use Rattle.bucket.specs.declared.Bucket.{Bucket}
@@ -30,13 +29,13 @@ use Rattle.bucket_words.specs.Words.{Shaped}
 use Rattle.bucket_words.proofs.Words.{empty-shaped}
 use Rattle.settle.specs.Settle.{Settlement, leaving, withdrawAll, lowered, settle}
 use Rattle.model.specs.Model.{baseLimit, Call, add, change, withdraw, query}
-use Rattle.model.specs.Request.{subject}
+use Rattle.model.specs.Request.{Token, wordFor, Request, ask}
 use Rattle.model.specs.Machine.{after}
 use Rattle.concrete.specs.Table as C
 use Rattle.concrete.specs.Table.{Table}
 use Rattle.concrete.specs.Layout.{numbersOf}
 use Rattle.concrete.specs.Calls.{rows, solutions, tableOf, planIn, shaped, sound, Outcome, joined, replaced, queried, served, callRead, call}
-use Rattle.concrete.specs.History.{Put, tables, Opened}
+use Rattle.concrete.specs.History.{Put, request, tables, Opened}
 use Rattle.concrete.proofs.Numbers.{ShapedTable, back}
 use Rattle.concrete.proofs.History.{open-cases}
 use Rattle.plane.specs.Fits.{Every}
@@ -145,15 +144,19 @@ module _ (n r : ℕ) where
     pub fits : length (T .base) ≤ baseLimit
 
   module _ (S : ℕ → ℕ) (T : Table) (h : BoundedTable T) where
-    pub touched : (w : ℕ) (f : ℕ → Bucket → Bucket) (g : ℕ → List Entry → List Entry) (c : ℕ) → ((v : ℕ) (b : Bucket) → Bounded b → Bounded (f v b))
-        → ((v : ℕ) → length (g v (T .base)) ≤ length (T .base)) → BoundedTable (C.touch n r S T w f g c)
-    touched w f g c k l =
+    pub touched : (w : ℕ) (f : ℕ → Bucket → Bucket) (g : ℕ → List Entry → List Entry) → ((v : ℕ) (b : Bucket) → Bounded b → Bounded (f v b))
+        → ((v : ℕ) → length (g v (T .base)) ≤ length (T .base)) → BoundedTable (C.touch n r S T w f g)
+    touched w f g k l =
         by-test BoundedTable (C.holds n r S (T .level1) w) (λ _. record { level1 = put (T .level1) _ (h .level1) (k _ _ (one (T .level1) _ (h .level1))); level2 = h .level2; fits = h .fits })
         (λ _. by-test BoundedTable (C.holds n r S (T .level2) (C.second S w)) (λ _. record { level1 = h .level1; level2 = put (T .level2) _ (h .level2) (k _ _ (one (T .level2) _ (h .level2))); fits = h .fits })
         (λ _. record { level1 = h .level1; level2 = h .level2; fits = le-trans (l (C.second S w)) (h .fits) }))
 
     joined-levels : (e : Entry) → length (C.addedTo n r S T e .base) ≤ baseLimit → BoundedTable (C.addedTo n r S T e)
     joined-levels e l = record { level1 = arrived S (T .level1) e (h .level1); level2 = all-arrived S (T .level2) (map (C.onSecond S) (C.arriveAt n r S (T .level1) e .out)) (h .level2); fits = l }
+
+  -- the live count plays no part
+  recounted : (T : Table) → BoundedTable T → (c : ℕ) → BoundedTable (C.withCount T c)
+  recounted T h c = record { level1 = h .level1; level2 = h .level2; fits = h .fits }
 
   -- its numbers give it back
   pub read-back : (T : Table) → BoundedTable T → ShapedTable n r T
@@ -179,7 +182,7 @@ module _ (t : List ℕ) (h : BoundedNumbers t) where
   replaced-bounded T k (some p) = numbers T k
   replaced-bounded T k none = h
 
-  served-bounded : (w : ℕ) (c : Call (List ℕ)) → Kept (served t w c)
+  served-bounded : (w : ℕ) (c : Call Token) → Kept (served t w c)
   unfolding served
   served-bounded w (add i p) = go (planIn t w)
     where
@@ -191,37 +194,40 @@ module _ (t : List ℕ) (h : BoundedNumbers t) where
       go none = by-test Kept (ltb baseLimit (length (T .base))) (λ _. h) (λ b. numbers T (joined-levels rows solutions mixOf (tableOf t) h (record { word = w; plan = p }) (ltb-false baseLimit _ b)))
   served-bounded w (change i p) =
       replaced-bounded (C.changedIn rows solutions mixOf (tableOf t) w p)
-      (touched rows solutions mixOf (tableOf t) h w (λ v b. B.change rows v p b .bucket) (λ v es. update (record { word = v; plan = p }) es) (tableOf t .count) (λ v b k. changed rows solutions b k v p)
+      (touched rows solutions mixOf (tableOf t) h w (λ v b. B.change rows v p b .bucket) (λ v es. update (record { word = v; plan = p }) es) (λ v b k. changed rows solutions b k v p)
       (λ v. let l = update-length (record { word = v; plan = p }) (tableOf t .base) in omega arith))
       (planIn t w)
   served-bounded w (withdraw i) =
       replaced-bounded (C.withdrawnFrom rows solutions mixOf (tableOf t) w)
-      (touched rows solutions mixOf (tableOf t) h w (λ v b. B.withdraw rows v b .bucket) remove (tableOf t .count - 1) (λ v b k. withdrawn rows solutions b k v) (λ v. remove-le v (tableOf t .base))) (planIn t w)
+      (recounted rows solutions _ (touched rows solutions mixOf (tableOf t) h w (λ v b. B.withdraw rows v b .bucket) remove (λ v b k. withdrawn rows solutions b k v) (λ v. remove-le v (tableOf t .base))) _) (planIn t w)
   served-bounded w (query i) = go (planIn t w)
     where
       go : (o : Option ℕ) → Kept (queried t o)
       go (some q) = h
       go none = h
 
-  call-bounded : (c : Call (List ℕ)) → Kept (call t c)
+  call-bounded : (c : Call Token) → Kept (call t c)
   unfolding call
-  call-bounded c = go (readOf (subject c))
+  call-bounded c = go (wordFor c)
     where
       go : (x : Read) → Kept (callRead t c x)
       go (Refused a) = h
       go (Word w) = by-test Kept (shaped t) (λ _. by-test Kept (sound t) (λ _. served-bounded w c) (λ _. h)) (λ _. h)
 
+  request-bounded : (q : Request) → Kept (request t q)
+  request-bounded (ask c) = call-bounded c
+
 all-bounded : (t : List ℕ) → BoundedNumbers t → (ps : List Put) → BoundedNumbers (after tables t ps)
 all-bounded t h [] = h
-all-bounded t h (p ∷ ps) = all-bounded _ (call-bounded t h (p .call)) ps
+all-bounded t h (p ∷ ps) = all-bounded _ (request-bounded t h (p .request)) ps
 
 -- after any list of calls since an accepted opening
 after-bounded : (t : List ℕ) → Opened t → (ps : List Put) → BoundedNumbers (after tables t ps)
 after-bounded t o =
-    let k = open-cases (o .buckets1) (o .buckets2) (o .before) (ap (λ (x : Outcome). x .answer) (o .accepted)) in
+    let k = open-cases (o .size .buckets1) (o .size .buckets2) (o .before) (ap (λ (x : Outcome). x .answer) (o .accepted)) in
     all-bounded t
     (subst BoundedNumbers (sym (k .1) ∙ ap (λ (x : Outcome). x .table) (o .accepted))
-    (numbers (C.openTable rows solutions (o .buckets1) (o .buckets2)) (record { level1 = opened rows solutions (o .buckets1); level2 = opened rows solutions (o .buckets2); fits = omega arith })))
+    (numbers (C.openTable rows solutions (o .size .buckets1) (o .size .buckets2)) (record { level1 = opened rows solutions (o .size .buckets1); level2 = opened rows solutions (o .size .buckets2); fits = omega arith })))
 
 pub level-sols : (bs : List Bucket) → Every (Bounded rows solutions) bs → Every Narrow bs
 level-sols [] h = tt

@@ -5,6 +5,7 @@ use mathlib.Core.Path.{_≡_, sym, subst⁻¹}
 use lib.ListN.{length, take, replicate, length-replicate}
 use lib.Seq.{length-take-le}
 use Rattle.hash.specs.Mix.{mixOf}
+use Rattle.concrete.specs.Layout.{longest}
 use Rattle.adding.proofs.Tables.{not-longer}
 use Rattle.adding.proofs.Passing.{pass-none, pass-one}
 use borrow.Author.Needs.{needs}
@@ -32,8 +33,8 @@ same-length c = search needs
 returns-2 : tie.Need-returns-2
 returns-2 c = pass-one 64 8 mixOf _ (c .before .before .before .before .before .before .before .before .before .before .pre .0) _ _ _ _ (c .before .before .before .before .before .before .before .if2 .taken) (c .before .before .before .second .ensures) (c .before .before .arrive-second .ensures)
 
-shortened : (s : tie.Start) → length {A = ℕ} (take (length (s .args .t .now)) (replicate 6052 0)) ≡ length (s .args .t .now)
-shortened s = length-take-le (length (s .args .t .now)) (replicate 6052 0) (subst⁻¹ (λ (k : ℕ). length (s .args .t .now) ≤ k) (length-replicate {A = ℕ} 6052 0) (not-longer 64 8 _ (s .pre .0)))
+shortened : (s : tie.Start) → length {A = ℕ} (take (length (s .args .t .now)) (replicate (longest 64 8) 0)) ≡ length (s .args .t .now)
+shortened s = length-take-le (length (s .args .t .now)) (replicate (longest 64 8) 0) (subst⁻¹ (λ (k : ℕ). length (s .args .t .now) ≤ k) (length-replicate {A = ℕ} (longest 64 8) 0) (not-longer 64 8 _ (s .pre .0)))
 
 array-borrow-prefix-draft : tie.Need-array-borrow-prefix-draft
 array-borrow-prefix-draft c = not-longer 64 8 _ (c .before .before .before .before .pre .0)

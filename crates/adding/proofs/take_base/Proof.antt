@@ -4,7 +4,7 @@ use Prim.Native.Nat.{ℕ, _+_, _≤_}
 use native.Mathlib.Omega.{arith}
 use mathlib.Core.Path.{_≡_, sym, ap₂, _∙_}
 use lib.ListN.{length, getD}
-use Rattle.concrete.specs.Layout.{bucketPlace}
+use Rattle.concrete.specs.Layout.{buckets1At, buckets2At, bucketPlace}
 use Rattle.arriving.proofs.Tables.{count0, shape, long, place-le, last-is, last-room, last-put}
 use Rattle.adding.proofs.Tables.{last-length}
 use borrow.Author.Needs.{needs}
@@ -15,7 +15,7 @@ base-place-requires : tie.Need-base-place-requires
 base-place-requires c κs = shape 64 8 _ (c .before .before .before .pre .one)
 
 -- the base list of either table starts here
-at : (c : tie.After-base-place) → c .base-place .result ≡ bucketPlace 64 8 (getD (c .before .before .before .before .args .from .now) 0 0 + getD (c .before .before .before .before .args .from .now) 1 0)
+at : (c : tie.After-base-place) → c .base-place .result ≡ bucketPlace 64 8 (getD (c .before .before .before .before .args .from .now) buckets1At 0 + getD (c .before .before .before .before .args .from .now) buckets2At 0)
 at c = let h = c .before .before .before .before .pre in c .base-place .ensures ∙ ap₂ (λ (a b : ℕ). bucketPlace 64 8 (a + b)) (h .buckets1) (h .buckets2)
 
 within : (c : tie.After-base-place) → c .base-place .result ≤ length (c .before .before .before .before .args .t .now)

@@ -7,6 +7,8 @@ use mathlib.Core.List.{List, _++_}
 use lib.ListN.{take}
 use borrow.Rule.Slice.PartMut.{post-is}
 use borrow.Author.Needs.{needs}
+use Rattle.bucket_words.specs.Words.{bucketWords}
+use Rattle.concrete.specs.Calls.{rows, solutions}
 use Rattle.arriving.proofs.store_at.Statement.{statement}
 use Rattle.arriving.proofs.store_at.Tie as tie
 
@@ -35,7 +37,7 @@ returns : tie.Need-returns
 returns c =
     let s = c .before .before .before .before .before .args in
     let t : List ℕ = s .t .now in
-    ap₂ (λ (ys zs : List ℕ). take (s .at) t ++ (ys ++ zs)) (c .before .before .store .ensures) (post-is (s .at) (s .at + 74) t (omega arith))
+    ap₂ (λ (ys zs : List ℕ). take (s .at) t ++ (ys ++ zs)) (c .before .before .store .ensures) (post-is (s .at) (s .at + bucketWords rows solutions) t (omega arith))
 
 pub store-at-spec : {M : Type 1} → statement M
 store-at-spec =

@@ -7,6 +7,7 @@ use lib.ListN.{length}
 use borrow.Author.Needs.{needs}
 use borrow.Rule.Slice.PartMut.{same-len-mid}
 use Rattle.hash.specs.Mix.{mixOf}
+use Rattle.bucket_words.specs.Words.{bucketWords}
 use Rattle.concrete.specs.Calls.{rows, solutions}
 use Rattle.table.specs.Edit.{onBucket, onBase}
 use Rattle.table.proofs.Places.{shape-of, laid-of, shaped-of, long, first-end, second-end, base-end}
@@ -15,12 +16,12 @@ use Rattle.table.proofs.touch.Statement.{statement}
 use Rattle.table.proofs.touch.Tie as tie
 
 -- the stretches end within the table
-end-1 : (c : tie.After-first-place) → c .first-place .result + 74 ≤ length (c .before .before .before .before .before .before .args .t .now)
+end-1 : (c : tie.After-first-place) → c .first-place .result + bucketWords rows solutions ≤ length (c .before .before .before .before .before .before .args .t .now)
 end-1 c =
     let s = c .before .before .before .before .before .before in
     first-end (s .pre) (s .args .w) (c .first-place .result) (c .first-place .ensures)
 
-end-2 : (c : tie.After-second-place) → c .second-place .result + 74 ≤ length (c .before .before .before .before .before .before .before .before .before .before .args .t .now)
+end-2 : (c : tie.After-second-place) → c .second-place .result + bucketWords rows solutions ≤ length (c .before .before .before .before .before .before .before .before .before .before .args .t .now)
 end-2 c =
     let v = c .before .before .before .before .before in
     second-end (v .before .before .before .before .before .pre) (v .second .result) (c .second-place .result) (c .second-place .ensures)

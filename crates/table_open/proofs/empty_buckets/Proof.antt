@@ -1,4 +1,4 @@
--- `table::empty_buckets` meets its contract: i buckets are stored.
+-- `table_open::empty_buckets` meets its contract: i buckets are stored.
 -- Assumes nothing.
 use mathlib.Core.Path.{_≡_, refl, sym, ap, _∙_}
 use Prim.Native.Nat.{ℕ, _+_, _-_, _*_, _≤_}
@@ -7,18 +7,18 @@ use lib.ListN.{length, take, replicate}
 use lib.Seq.{take-all}
 use borrow.Author.Needs.{needs}
 use borrow.Rule.Slice.PartMut.{same-len-mid}
-use Rattle.bucket_words.specs.Words.{wordsOf}
+use Rattle.bucket_words.specs.Words.{bucketWords, wordsOf}
 use Rattle.bucket.specs.Bucket.{emptyBucket}
 use Rattle.concrete.specs.Layout.{levelNumbers}
 use Rattle.concrete.specs.Calls.{rows, solutions}
 use Rattle.lists.proofs.Parts.{length-stretch}
-use Rattle.table.proofs.Opened.{level-more}
-use Rattle.table.proofs.empty_buckets.Statement.{statement}
-use Rattle.table.proofs.empty_buckets.Tie as tie
+use Rattle.table_open.proofs.Opened.{level-more}
+use Rattle.table_open.proofs.empty_buckets.Statement.{statement}
+use Rattle.table_open.proofs.empty_buckets.Tie as tie
 
 abbrev Inv-loop : tie.InvT-loop
 Inv-loop words₀ count empty at₀ i₀ words at i =
-    (i ≤ count) × (at ≡ i * 74) × (length words ≡ count * 74) × (take at words ≡ levelNumbers (replicate i (emptyBucket rows solutions)))
+    (i ≤ count) × (at ≡ i * bucketWords rows solutions) × (length words ≡ count * bucketWords rows solutions) × (take at words ≡ levelNumbers (replicate i (emptyBucket rows solutions)))
 
 abbrev μ-loop : tie.MeasureT-loop
 μ-loop words₀ count empty at₀ i₀ words at i = count - i
@@ -47,7 +47,7 @@ part-store-end c = search needs
 store-requires : tie.Need-store-requires Inv-loop μ-loop
 store-requires c κs =
     let l = c .before .before .loop in
-    length-stretch (l .at) 74 (l .words) (omega arith)
+    length-stretch (l .at) (bucketWords rows solutions) (l .words) (omega arith)
 
 add-i : tie.Need-add-i Inv-loop μ-loop
 add-i c = search needs
@@ -59,11 +59,11 @@ loop-again : tie.Need-loop-again Inv-loop μ-loop
 loop-again c =
     let b = c .before .before in
     let l = b .before .before .before .loop in
-    let h : l .at + 74 ≤ length (l .words) = omega arith in (
+    let h : l .at + bucketWords rows solutions ≤ length (l .words) = omega arith in (
       search needs,
       omega arith,
-      same-len-mid (l .at) (l .at + 74 - l .at) (l .words) (b .store .last .0) (b .store .kept .0) ∙ l .inv .2,
-      level-more rows solutions (l .i) (l .at) (l .words) (b .store .last .0) (l .at + 74 - l .at) h (b .store .ensures ∙ ap wordsOf (b .before .before .before .before .empty .ensures)) (l .inv .3),
+      same-len-mid (l .at) (l .at + bucketWords rows solutions - l .at) (l .words) (b .store .last .0) (b .store .kept .0) ∙ l .inv .2,
+      level-more rows solutions (l .i) (l .at) (l .words) (b .store .last .0) (l .at + bucketWords rows solutions - l .at) h (b .store .ensures ∙ ap wordsOf (b .before .before .before .before .empty .ensures)) (l .inv .3),
     )
 
 same-length : tie.Need-same-length Inv-loop μ-loop
