@@ -88,7 +88,7 @@ size-shape t h e = and-both (le-leb leading (length t) (omega (arith, e))) (and-
 pub numbers-stand : (T : Table) (s : State) → Stands rows solutions mixOf T s → inRange (s .size .buckets1) (s .size .buckets2) ≡ true → FlatStands (numbersOf T) s
 unfolding numbersOf
 numbers-stand T s st h =
-    let g = sound-shaped T (stands-sound rows solutions mixOf unmixOf keeps keepsU unmix-mix mix-unmix T s st) in
+    let g = sound-shaped T (stands-sound rows solutions mixOf unmixOf keeps keepsU unmix-mix mix-unmix refl T s st) in
     let k = laid rows solutions T g in
     record {
       shape = size-shape (numbersOf T) (ap₂ inRange (st .level1 .count) (st .level2 .count) ∙ h) (k .size);
@@ -106,7 +106,7 @@ module _ (t : List ℕ) (s : State) (h : FlatStands t s) where
       ap₂ inRange (sym (h .stands .level1 .count) ∙ k .0) (sym (h .stands .level2 .count) ∙ k .1) ∙ shape-range t (h .shape)
 
   pub stands-flat : FlatSound t
-  stands-flat = record { table = stands-sound rows solutions mixOf unmixOf keeps keepsU unmix-mix mix-unmix T₀ s (h .stands); unused = h .unused }
+  stands-flat = record { table = stands-sound rows solutions mixOf unmixOf keeps keepsU unmix-mix mix-unmix refl T₀ s (h .stands); unused = h .unused }
 
   pub stands-test : sound t ≡ true
   stands-test = sound-test rows solutions mixOf unmixOf t stands-flat
@@ -205,7 +205,7 @@ open-stands-flat z h =
     numbers-stand (T.openTable rows solutions (z .buckets1) (z .buckets2)) (opened z) (open-stands rows solutions mixOf z (g .0) (g .1)) h
 
 pub sound-stands-flat : (t : List ℕ) → shaped t ≡ true → FlatSound t → FlatStands t (flatState t)
-sound-stands-flat t k h = record { shape = k; unused = h .unused; stands = sound-stands rows solutions mixOf unmixOf keeps keepsU unmix-mix mix-unmix (tableOf t) (h .table) }
+sound-stands-flat t k h = record { shape = k; unused = h .unused; stands = sound-stands rows solutions mixOf unmixOf keeps keepsU unmix-mix mix-unmix refl (tableOf t) (h .table) }
 
 pub sound-laid : (t : List ℕ) → shaped t ≡ true → FlatSound t → Laid rows solutions t
 sound-laid t k h = record {

@@ -9,7 +9,7 @@ use mathlib.Core.Option.{Option, none, some}
 use mathlib.Core.List.{List, List·Permᴰ}
 use lib.Dec.{eqb, ltb}
 use lib.ListN.{length, getD}
-use Rattle.lists.specs.Entries.{Entry, words, find}
+use Rattle.lists.specs.Entries.{Entry, planLimit, words, find}
 use Rattle.lists.proofs.Tests.{by-test, cond-true}
 use Rattle.gf2.specs.Bound.{Largest}
 use Rattle.hash.specs.Mix.{mixOf, unmixOf}
@@ -181,7 +181,7 @@ module _ (t : List ℕ) (k : shaped t ≡ true) (h : FlatSound t) where
   query-is i w e =
       by-word t (query i) w e k (stands-test t s st) ∙ ap (queried t) (sound-look w (word-small (query i) w e))
 
-  module _ (i : Token) (p : ℕ) (l : p < 2 ^ solutions) where
+  module _ (i : Token) (p : ℕ) (l : p < planLimit) where
     abbrev t′ : List ℕ
     t′ = call t (add i p) .table
 

@@ -12,7 +12,7 @@ use lib.Dec.{eqb, ltb}
 use lib.ListN.{length, getD}
 use borrow.Author.Tests.{eqb-true, eq-eqb, ltb-true, lt-ltb, not-true}
 use Rattle.lists.specs.Lists.{keep, countFrom}
-use Rattle.lists.specs.Entries.{Entry, words, sort, Ascending, Distinct}
+use Rattle.lists.specs.Entries.{Entry, words, sort, Ascending, Distinct, planLimit}
 use Rattle.lists.proofs.Keep.{keep-in, keep-out, count-in, count-lt}
 use Rattle.lists.proofs.Entries.{ascending-ext}
 use Rattle.lists.proofs.Sorts.{mem-perm, sort-mem, mem-sort, sort-ascending, sort-length, keep-distinct, ascending-distinct, distinct-ext}
@@ -172,7 +172,7 @@ module _ (n r : ℕ) (S U : ℕ → ℕ) (keeps : (x : ℕ) → x < 2 ^ n → S 
 
   -- ---- a sound table stands for what it shows
 
-  module _ (T : Table) (h : SoundTable n r S U T) where
+  module _ (bytes : 2 ^ r ≡ planLimit) (T : Table) (h : SoundTable n r S U T) where
     abbrev s : State
     s = stateOf n U T
 
@@ -191,7 +191,7 @@ module _ (n r : ℕ) (S U : ℕ → ℕ) (keeps : (x : ℕ) → x < 2 ^ n → S 
 
     small2 : Small n r E2
     small2 e m =
-        ⊎-elim {C = Fits n r e} (level-small n r S (T .level2) (h .level2) e) (λ b. (h .base-words e b .0, h .base-plans e b)) (List·Memᴰ·append-cases (allRows n (T .level2)) m)
+        ⊎-elim {C = Fits n r e} (level-small n r S (T .level2) (h .level2) e) (λ b. (h .base-words e b .0, subst⁻¹ (λ (k : ℕ). e .plan < k) bytes (h .base-plans e b))) (List·Memᴰ·append-cases (allRows n (T .level2)) m)
 
     distinct-rows : Distinct (entriesOf n U T)
     distinct-rows =
@@ -315,7 +315,7 @@ module _ (n r : ℕ) (S U : ℕ → ℕ) (keeps : (x : ℕ) → x < 2 ^ n → S 
 
   -- ---- and a table that stands for a state is sound
 
-  module _ (T : Table) (s : State) (st : Stands n r S T s) where
+  module _ (bytes : 2 ^ r ≡ planLimit) (T : Table) (s : State) (st : Stands n r S T s) where
     abbrev q1 : Entry → Bool
     q1 e = not (within S (s .size .buckets1) (s .bounds1) (e .word))
 
@@ -347,6 +347,6 @@ module _ (n r : ℕ) (S U : ℕ → ℕ) (keeps : (x : ℕ) → x < 2 ^ n → S 
           let k = last-of e m in
           let c = came e (k .0) in
           (c .0 .0, test2 n r S keeps one-to-one T s st (e .word) ∙ not-true _ (k .1), c .1);
-      base-plans = λ e m. came e (last-of e m .0) .0 .1;
+      base-plans = λ e m. subst (λ (k : ℕ). e .plan < k) bytes (came e (last-of e m .0) .0 .1);
       ascending = subst⁻¹ Ascending (st .based) (sort-ascending (last S s) (distinct-last n r S keeps one-to-one s (st .valid) (st .small)));
     }

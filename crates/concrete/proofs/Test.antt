@@ -12,7 +12,7 @@ use lib.ListN.{length, getD, take, drop, length-drop}
 use lib.Pow.{pow-pos}
 use lib.Seq.{getD-drop}
 use borrow.Author.Tests.{eqb-true, eq-eqb, ltb-true, lt-ltb, leb-true, le-leb, not-true}
-use Rattle.lists.specs.Entries.{Entry, Above, Ascending}
+use Rattle.lists.specs.Entries.{Entry, Above, Ascending, planLimit}
 use Rattle.lists.proofs.Tests.{true→T, T→true, and-one, and-two, and-both, or-l, or-r, or-cases}
 use Rattle.lists.proofs.Entries.{above-up}
 use Rattle.gf2.specs.Select.{elem, chosen}
@@ -183,9 +183,9 @@ module _ (n r : ℕ) (S U : ℕ → ℕ) (T : Table) where
           };
           passed = λ i v q. not-true _ (and-two (ltb (thr S v) (b2 i .bound)) _ (and-two (eqb (index S (length (T .level2)) v) (0 + i)) _ (q2 i v q)));
           base-words = λ e m.
-              let p = and-two (ltb (e .plan) (2 ^ r)) _ (q0 e m) in
+              let p = and-two (ltb (e .plan) planLimit) _ (q0 e m) in
               (words e m, not-true _ (and-one (not (holds n r S (T .level2) (e .word))) _ p), not-true _ (and-two (not (holds n r S (T .level2) (e .word))) _ p));
-          base-plans = λ e m. ltb-true _ _ (and-one (ltb (e .plan) (2 ^ r)) _ (q0 e m));
+          base-plans = λ e m. ltb-true _ _ (and-one (ltb (e .plan) planLimit) _ (q0 e m));
           ascending = ascends-out (T .base) (and-two (allOf (row0 n r S U T) (T .base)) _ t4);
         }
 

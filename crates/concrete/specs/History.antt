@@ -1,8 +1,9 @@
 -- Lists of requests put to a table; document 01, "A list of calls".
 -- Assumes nothing.
-use Prim.Native.Nat.{ℕ, _^_, _<_}
+use Prim.Native.Nat.{ℕ, _<_}
 use mathlib.Core.Path.{_≡_}
 use mathlib.Core.List.{List}
+use Rattle.lists.specs.Entries.{planLimit}
 use Rattle.hash.specs.Mix.{unmixOf}
 use Rattle.answer.specs.declared.Answer.the-variants.{Accepted}
 use Rattle.model.specs.Model.{Size, State, Call, add, change, withdraw, query}
@@ -11,12 +12,12 @@ use Rattle.model.specs.Request.{Token, Request, ask, respond}
 use Rattle.model.specs.Machine.{Machine, acceptedOf}
 use Rattle.model.specs.History.{callsIn}
 use Rattle.concrete.specs.Content.{stateOf}
-use Rattle.concrete.specs.Calls.{rows, solutions, tableOf, Outcome, openCall, call}
+use Rattle.concrete.specs.Calls.{rows, tableOf, Outcome, openCall, call}
 
 -- the plan of a call is a byte, 0 to 255
 abbrev pub PlanFits : Call Token → Type 0
-PlanFits (add i p) = p < 2 ^ solutions
-PlanFits (change i p) = p < 2 ^ solutions
+PlanFits (add i p) = p < planLimit
+PlanFits (change i p) = p < planLimit
 PlanFits (withdraw i) = Unit {0}
 PlanFits (query i) = Unit {0}
 

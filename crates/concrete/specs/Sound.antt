@@ -5,7 +5,7 @@ use mathlib.Core.Path.{_≡_}
 use mathlib.Core.Bool.{true, false}
 use mathlib.Core.List.{List, List·Memᴰ}
 use lib.ListN.{length, getD}
-use Rattle.lists.specs.Entries.{Entry, Ascending}
+use Rattle.lists.specs.Entries.{Entry, Ascending, planLimit}
 use Rattle.bucket.specs.declared.Bucket.{Bucket}
 use Rattle.bucket.specs.Bucket.{live}
 use Rattle.settle.specs.Settle.{SoundBucket}
@@ -39,7 +39,7 @@ module _ (n r : ℕ) (S U : ℕ → ℕ) where
     pub passed : (i v : ℕ) → Row n r (T .level2) i v → holds n r S (T .level1) (U (U v)) ≡ false
     -- a base word is held by neither level
     pub base-words : (e : Entry) → List·Memᴰ e (T .base) → (e .word < 2 ^ n) × (holds n r S (T .level2) (e .word) ≡ false) × (holds n r S (T .level1) (U (U (e .word))) ≡ false)
-    pub base-plans : (e : Entry) → List·Memᴰ e (T .base) → e .plan < 2 ^ r
+    pub base-plans : (e : Entry) → List·Memᴰ e (T .base) → e .plan < planLimit
     pub ascending : Ascending (T .base)
 
   -- numbers that hold a sound table, unused pairs 0

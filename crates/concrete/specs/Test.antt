@@ -1,11 +1,11 @@
 -- Document 01's tests of a table that is handed in, as they are computed: the shape (cause 4), and whether it is sound (cause 5).
 -- Assumes nothing.
-use Prim.Native.Nat.{ℕ, suc, _+_, _^_}
+use Prim.Native.Nat.{ℕ, suc, _+_}
 use mathlib.Core.Bool.{Bool, true, not, _&&_}
 use mathlib.Core.List.{List, [], _∷_}
 use lib.Dec.{eqb, ltb, leb}
 use lib.ListN.{length, getD}
-use Rattle.lists.specs.Entries.{Entry}
+use Rattle.lists.specs.Entries.{Entry, planLimit}
 use Rattle.gf2.specs.Select.{chosen}
 use Rattle.eliminate.specs.Elimination.{soundRows}
 use Rattle.bucket.specs.declared.Bucket.{Bucket}
@@ -63,7 +63,7 @@ module _ (n r : ℕ) (S U : ℕ → ℕ) (T : Table) where
 
   -- in the base list, where its plan is at most 255
   abbrev pub row0 : Entry → Bool
-  row0 e = ltb (e .plan) (2 ^ r) && (not (holds n r S (T .level2) (e .word)) && passes1 (e .word))
+  row0 e = ltb (e .plan) planLimit && (not (holds n r S (T .level2) (e .word)) && passes1 (e .word))
 
   -- the table is sound, but for the unused pairs
   abbrev pub tableTest : Bool

@@ -36,7 +36,7 @@ module _ (t : List ℕ) (w : Sols (tableOf t)) (k : shaped t ≡ true) (h : Flat
   in-range = both (inRange (getD t 0 0) (getD t 1 0)) _ (both (leb header (length t)) _ k .1) .0
 
   pub fits : Fits format1 (planeOf (tableOf t))
-  fits = plane-fits rows format1 t w unmixOf (lit≤ tt) (lit≤ tt) in-range (h .table)
+  fits = plane-fits rows format1 t w unmixOf (lit≤ tt) in-range (h .table)
 
   -- the plane of a sound table, read again, gives for each identifier, live or not, the answer of the table's own XOR words or base list
   pub shows : (id : List ℕ) → lookupCall id (planeBytes format1 (planeOf (tableOf t))) ≡ shownTo (tableOf t) (readOf id)

@@ -120,14 +120,14 @@ module _ (n : ℕ) (F : Format) where
     level-narrow (getD xs 1 0) (drop (bucketPlace n r (getD xs 0 0)) xs) (words-drop (bucketPlace n r (getD xs 0 0)) xs w),
   )
 
-  pub plane-fits : (xs : List ℕ) → Sols (tableFrom n r xs) → (U : ℕ → ℕ) → 2 ^ n ≤ 256 ^ wordBytes → 2 ^ r ≤ 256 ^ 1 → inRange (getD xs 0 0) (getD xs 1 0) ≡ true
+  pub plane-fits : (xs : List ℕ) → Sols (tableFrom n r xs) → (U : ℕ → ℕ) → 2 ^ n ≤ 256 ^ wordBytes → inRange (getD xs 0 0) (getD xs 1 0) ≡ true
       → SoundTable n r mixOf U (tableFrom n r xs) → Fits F (planeOf (tableFrom n r xs))
-  plane-fits xs w U hn hr g h =
+  plane-fits xs w U hn g h =
       let t : Table = tableFrom n r xs in
       record {
         range = rw (length-map (t .level1) seenOf, length-map (t .level2) seenOf, header-read n r xs .0, header-read n r xs .1) g;
         few = h .fits;
         buckets = every-append (FitsBucket F) (map seenOf (t .level1)) (map seenOf (t .level2)) (level-fits (t .level1) (h .level1 .buckets) (w .0)) (level-fits (t .level2) (h .level2 .buckets) (w .1));
-        entries = mem-every FitsEntry (t .base) (λ e m. record { word = lt-of-lt-of-le (h .base-words e m .0) hn; plan = lt-of-lt-of-le (h .base-plans e m) hr });
+        entries = mem-every FitsEntry (t .base) (λ e m. record { word = lt-of-lt-of-le (h .base-words e m .0) hn; plan = h .base-plans e m });
         ascending = h .ascending;
       }
