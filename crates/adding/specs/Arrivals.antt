@@ -31,7 +31,7 @@ module _ (n r : ℕ) (S : ℕ → ℕ) where
   takeOver D (v ∷ vs) T = takeOver D vs (withSecond T (put S (T .level2) v (bucketOf n r S (D .level2) v)))
 
 module _ (n r : ℕ) where
-  -- words went on to the table U on a draft, which is of no use where the base list is too long
+  -- words went on to the table U on a draft; where the base list is too long, nothing is said of the draft, which nobody reads then
   pub record Drafted (U : Table) (done : Bool) (after : List ℕ) : Type 0 where
     pub says : done ≡ fits U
     pub kept : done ≡ true → Kept n r U

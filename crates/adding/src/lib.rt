@@ -25,7 +25,8 @@ ghost use Rattle.table.specs.Ready.{Ready};
 ghost use Rattle.arriving.specs.Arrival.{Passed, FlatKept};
 ghost use Rattle.adding.specs.Arrivals.{seconds, allToSecond, takeOver, Drafted, Alike, entering};
 
-// The words that leave level 1 arrive at level 2 one after the other. False as soon as the base list has no room.
+// The words that leave level 1 arrive at level 2 one after the other, on a draft. False as soon as the base list has no room: then nothing is
+// said of the draft.
 pub(crate) fn carry(t: &mut [u64], out: Outgoing) -> bool
     requires { do ⌜ FlatKept rows solutions (now t) × (out .count ≤ (← ⟦Outgoing::MOST⟧)) ⌝ }
     ensures { λ r. ⌜ Drafted rows solutions (allToSecond rows solutions mixOf (tableOf (now (t .entry))) (seconds mixOf out)) r (now (t .exit)) ⌝ }

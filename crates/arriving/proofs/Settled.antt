@@ -40,23 +40,35 @@ module _ (n r : ℕ) (thr : ℕ → ℕ) (e : Entry) (xs : List ℕ) where
   abbrev pub Step : Bool → List ℕ → Type 0
   Step done ys = (done ≡ goesIn n r thr e xs) × (ys ≡ cond done (addedIn n r e xs) xs)
 
-  goes-as : (b : Bucket) {c : Bool} → b ≡ bucketFrom n r xs → (ltb (thr (e .word)) (b .bound) && add n (e .word) (e .plan) b .done) ≡ c → goesIn n r thr e xs ≡ c
-  goes-as b {c} q g = subst (λ (b : Bucket). (ltb (thr (e .word)) (b .bound) && add n (e .word) (e .plan) b .done) ≡ c) q g
+  -- the bound as it lies in the stretch
+  abbrev bound : ℕ
+  bound = getD xs (n + 1 + r) 0
 
-  -- the bucket b is read, x is the threshold, a the add, ys the stretch once its bucket is stored
-  pub step-in : (b : Bucket) (x : ℕ) (a : Tried) (ys : List ℕ) → b ≡ bucketFrom n r xs → x ≡ thr (e .word) → x < b .bound → a ≡ add n (e .word) (e .plan) b → a .done ≡ true
-      → ys ≡ wordsOf (a .bucket) → Step true ys
-  step-in b x a ys q y h p d w = (
-    sym (goes-as b q (and-both (lt-ltb (thr (e .word)) (b .bound) (subst (λ (k : ℕ). k < b .bound) y h)) (ap (λ (z : Tried). z .done) (sym p) ∙ d))),
-    w ∙ ap (λ (z : Tried). wordsOf (z .bucket)) p ∙ ap (λ (c : Bucket). wordsOf (add n (e .word) (e .plan) c .bucket)) q,
-  )
+  goes-is : goesIn n r thr e xs ≡ (ltb (thr (e .word)) bound && add n (e .word) (e .plan) (bucketFrom n r xs) .done)
+  unfolding bucketFrom
+  goes-is = refl
 
-  -- it does not go in: the threshold is not below the bound, or it depends
-  pub step-past : (b : Bucket) (x : ℕ) → b ≡ bucketFrom n r xs → x ≡ thr (e .word) → b .bound ≤ x → Step false xs
-  step-past b x q y h = (sym (goes-as b q (ap (λ (c : Bool). c && add n (e .word) (e .plan) b .done) (le-ltb (thr (e .word)) (b .bound) (subst (λ (k : ℕ). b .bound ≤ k) y h)))), refl)
+  -- the bucket b is read and a is the add to it
+  module _ (b : Bucket) (a : Tried) (q : b ≡ bucketFrom n r xs) (p : a ≡ add n (e .word) (e .plan) b) where
+    tried : a ≡ add n (e .word) (e .plan) (bucketFrom n r xs)
+    tried = p ∙ ap (add n (e .word) (e .plan)) q
 
-  pub step-depends : (b : Bucket) (a : Tried) → b ≡ bucketFrom n r xs → a ≡ add n (e .word) (e .plan) b → a .done ≡ false → Step false xs
-  step-depends b a q p d = (sym (goes-as b q (ap (λ (c : Bool). ltb (thr (e .word)) (b .bound) && c) (ap (λ (z : Tried). z .done) (sym p) ∙ d) ∙ and-false (ltb (thr (e .word)) (b .bound)))), refl)
+    done-is : {c : Bool} → a .done ≡ c → add n (e .word) (e .plan) (bucketFrom n r xs) .done ≡ c
+    done-is d = ap (λ (z : Tried). z .done) (sym tried) ∙ d
+
+    -- x is the threshold, ys the stretch once the bucket is stored
+    pub step-in : (x : ℕ) (ys : List ℕ) → x ≡ thr (e .word) → x < bound → a .done ≡ true → ys ≡ wordsOf (a .bucket) → Step true ys
+    step-in x ys y h d w =
+        (sym (goes-is ∙ and-both (lt-ltb (thr (e .word)) bound (subst (λ (k : ℕ). k < bound) y h)) (done-is d)), w ∙ ap (λ (z : Tried). wordsOf (z .bucket)) tried)
+
+    -- it depends
+    pub step-depends : a .done ≡ false → Step false xs
+    step-depends d = (sym (goes-is ∙ ap (λ (c : Bool). ltb (thr (e .word)) bound && c) (done-is d) ∙ and-false (ltb (thr (e .word)) bound)), refl)
+
+  -- its threshold is not below the bound
+  pub step-past : (x : ℕ) → x ≡ thr (e .word) → bound ≤ x → Step false xs
+  step-past x y h =
+      (sym (goes-is ∙ ap (λ (c : Bool). c && add n (e .word) (e .plan) (bucketFrom n r xs) .done) (le-ltb (thr (e .word)) bound (subst (λ (k : ℕ). bound ≤ k) y h))), refl)
 
 module _ (n r : ℕ) (thr : ℕ → ℕ) (at : ℕ) (e : Entry) (t : List ℕ) where
   -- where it goes in it settles there, and no word leaves

@@ -48,8 +48,8 @@ pub(crate) fn add_in(part: &mut [u64], v: u64, plan: u64) -> bool
     requires { do ⌜ length (now part) ≡ (← ⟦Bucket::WORDS⟧) ⌝ }
     ensures { λ r. ⌜ (r ≡ goesIn rows solutions thresholdOf (record { word = v; plan = plan }) (now (part .entry))) × (now (part .exit) ≡ cond r (addedIn rows solutions (record { word = v; plan = plan }) (now (part .entry))) (now (part .entry))) ⌝ }
 {
-    let b = bucket_words::load(part);
-    if identifier::threshold(v) < b.bound {
+    if identifier::threshold(v) < part[Bucket::BOUND_AT] {
+        let b = bucket_words::load(part);
         let tried = b.add(v, plan);
         if tried.done {
             let next = tried.bucket;

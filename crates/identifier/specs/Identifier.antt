@@ -59,9 +59,13 @@ hashed s = map folded s
 unfoldable pub wordOf : List ℕ → ℕ
 wordOf s = mixOf (fnvOf (hashed s))
 
--- an identifier has 1 to 20 bytes
+-- an identifier has at most this many bytes
+abbrev pub mostBytes : ℕ
+mostBytes = 20
+
+-- and at least 1
 abbrev pub sized : ℕ → Bool
-sized n = between 1 20 n
+sized n = between 1 mostBytes n
 
 -- the index of the first byte that is not allowed, or the length if each is
 unfoldable pub firstRefused : List ℕ → ℕ

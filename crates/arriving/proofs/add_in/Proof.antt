@@ -10,11 +10,14 @@ use Rattle.arriving.proofs.add_in.Tie as tie
 abbrev word : tie.Start → Entry
 word s = record { word = s .args .v; plan = s .args .plan }
 
-load-requires : tie.Need-load-requires
-load-requires c κs = search needs
-
 threshold-requires : tie.Need-threshold-requires
 threshold-requires c κs = search needs
+
+slice-read-if1 : tie.Need-slice-read-if1
+slice-read-if1 c = search needs
+
+load-requires : tie.Need-load-requires
+load-requires c κs = search needs
 
 add-requires : tie.Need-add-requires
 add-requires c κs = search needs
@@ -28,10 +31,10 @@ same-length c = search needs
 returns : tie.Need-returns
 returns c =
     let a = c .before .before .before .before .before .before in
-    let r = a .before .before .before .before in
-    let s = r .before .before .before in
-    step-in 64 8 thresholdOf (word s) (s .args .part .now) (r .load .result) _ (a .add .result) _
-    (r .load .ensures) (a .before .before .before .threshold .ensures) (a .before .if1 .taken) (a .add .ensures) (c .before .before .before .before .before .if2 .taken) (c .before .before .store .ensures)
+    let t = a .before .before .before in
+    let s = t .before .before .before .before in
+    step-in 64 8 thresholdOf (word s) (s .args .part .now) (a .before .load .result) (a .add .result) (a .before .load .ensures) (a .add .ensures) _ _
+    (t .before .before .threshold .ensures) (t .if1 .taken) (c .before .before .before .before .before .if2 .taken) (c .before .before .store .ensures)
 
 same-length-2 : tie.Need-same-length-2
 same-length-2 c = search needs
@@ -39,30 +42,25 @@ same-length-2 c = search needs
 returns-2 : tie.Need-returns-2
 returns-2 c =
     let a = c .before in
-    let r = a .before .before .before .before in
-    let s = r .before .before .before in
-    step-depends 64 8 thresholdOf (word s) (s .args .part .now) (r .load .result) (a .add .result) (r .load .ensures) (a .add .ensures) (c .if2 .left)
-
-same-length-3 : tie.Need-same-length-3
-same-length-3 c = search needs
+    let s = a .before .before .before .before .before .before .before in
+    step-depends 64 8 thresholdOf (word s) (s .args .part .now) (a .before .load .result) (a .add .result) (a .before .load .ensures) (a .add .ensures) (c .if2 .left)
 
 returns-3 : tie.Need-returns-3
 returns-3 c =
-    let r = c .before .before .before in
-    let s = r .before .before .before in
-    step-past 64 8 thresholdOf (word s) (s .args .part .now) (r .load .result) _ (r .load .ensures) (c .before .before .threshold .ensures) (c .if1 .left)
+    let s = c .before .before .before .before in
+    step-past 64 8 thresholdOf (word s) (s .args .part .now) _ (c .before .before .threshold .ensures) (c .if1 .left)
 
 pub add-in-spec : {M : Type 1} → statement M
 add-in-spec =
     tie.close
     (tie.spec
-    load-requires
     threshold-requires
+    slice-read-if1
+    load-requires
     add-requires
     store-requires
     same-length
     returns
     same-length-2
     returns-2
-    same-length-3
     returns-3)

@@ -6,6 +6,7 @@ use native.Mathlib.Omega.{arith}
 use borrow.Author.Tests.{le-leb, lt-leb}
 use borrow.Author.Needs.{needs}
 use Rattle.bucket.specs.declared.Bucket.{Bucket}
+use Rattle.bucket.specs.Bucket.{largestBound}
 use Rattle.concrete.specs.Test.{bucketTest}
 use Rattle.concrete.specs.Calls.{rows}
 use Rattle.sound.specs.Held.{rowOf}
@@ -21,7 +22,7 @@ returns c =
     let b = c .before .before in
     let a = b .before .before .args in
     let x = b .bucket-at .result in
-    let over : 8 < x .bound = omega (arith, c .if1 .taken) in
+    let over : largestBound < x .bound = omega (arith, c .if1 .taken) in
     sym (bucket-over rows (rowOf (a .t .now) (a .second) (a .m) (a .i) x) x (lt-leb _ _ over))
     ∙ ap (λ (y : Bucket). bucketTest rows (rowOf (a .t .now) (a .second) (a .m) (a .i) y) y) (b .bucket-at .ensures)
 
@@ -38,7 +39,7 @@ returns-2 c =
     let b = i .before .before in
     let a = b .before .before .args in
     let x = b .bucket-at .result in
-    let under : x .bound ≤ 8 = omega (arith, i .if1 .left) in
+    let under : x .bound ≤ largestBound = omega (arith, i .if1 .left) in
     c .rows-held .ensures
     ∙ sym (bucket-rows rows (rowOf (a .t .now) (a .second) (a .m) (a .i) x) x (le-leb _ _ under) (r .rows-of .result) (r .rows-of .ensures) (c .before .before .if2 .taken))
     ∙ ap (λ (y : Bucket). bucketTest rows (rowOf (a .t .now) (a .second) (a .m) (a .i) y) y) (b .bucket-at .ensures)
@@ -50,7 +51,7 @@ returns-3 c =
     let b = i .before .before in
     let a = b .before .before .args in
     let x = b .bucket-at .result in
-    let under : x .bound ≤ 8 = omega (arith, i .if1 .left) in
+    let under : x .bound ≤ largestBound = omega (arith, i .if1 .left) in
     sym (bucket-broken rows (rowOf (a .t .now) (a .second) (a .m) (a .i) x) x (le-leb _ _ under) (r .rows-of .result) (r .rows-of .ensures) (c .if2 .left))
     ∙ ap (λ (y : Bucket). bucketTest rows (rowOf (a .t .now) (a .second) (a .m) (a .i) y) y) (b .bucket-at .ensures)
 

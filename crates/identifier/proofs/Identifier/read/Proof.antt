@@ -7,7 +7,7 @@ use native.Mathlib.Numerals.{add-one}
 use native.Mathlib.Omega.{arith}
 use lib.ListN.{length, drop, getD, drop-of-length-le}
 use borrow.Author.Tests.{le-leb, lt-leb}
-use Rattle.identifier.specs.Identifier.{foldOf, readOf}
+use Rattle.identifier.specs.Identifier.{foldOf, mostBytes, readOf}
 use Rattle.identifier.specs.declared.Read.the-variants.{Word}
 use Rattle.identifier.proofs.Scan.{scan, scan-read, scan-refused, scan-more, scan-end}
 use Rattle.identifier.proofs.Identifier.read.Statement.{statement}
@@ -26,7 +26,7 @@ returns c = simp (lt-leb _ _ (c .if1 .taken))
 returns-2 : tie.Need-returns-2 Inv-loop μ-loop
 unfolding readOf
 returns-2 c =
-    let long : 20 < length (c .before .before .before .args .s .now) = omega arith in
+    let long : mostBytes < length (c .before .before .before .args .s .now) = omega arith in
     simp (le-leb _ _ (c .before .if1 .left), lt-leb _ _ long)
 
 table-requires : tie.Need-table-requires Inv-loop μ-loop
@@ -36,7 +36,7 @@ loop-holds : tie.Need-loop-holds Inv-loop μ-loop
 loop-holds c =
     let s = c .before .before .before .before .args .s .now in
     let one : 1 ≤ length s = omega arith in
-    let few : length s ≤ 20 = omega arith in
+    let few : length s ≤ mostBytes = omega arith in
     (search needs, scan-read s (rw (le-leb _ _ one, le-leb _ _ few)))
 
 shared-slice-read-b : tie.Need-shared-slice-read-b Inv-loop μ-loop
