@@ -4,9 +4,12 @@ ghost use mathlib.Core.Path.{_≡_};
 ghost use Prim.Native.Nat.{_^_, _<_};
 ghost use Rattle.gf2.specs.Vectors.{flipIf, units};
 
+// The bits of a word, and so the rows and columns of a matrix of bits.
+pub const WIDTH: usize = 64;
+
 // 2^i.
 pub fn power(i: usize) -> u64
-    requires { ⌜ i < 64 ⌝ }
+    requires { do ⌜ i < (← ⟦WIDTH⟧) ⌝ }
     ensures { λ r. ⌜ r ≡ 2 ^ i ⌝ }
 {
     1 << i
@@ -20,12 +23,12 @@ pub fn flip_if(d: u64, u: u64, a: u64) -> u64
 }
 
 // The unit vectors.
-pub fn unit_rows() -> [u64; 64]
-    ensures { λ r. ⌜ r ≡ units 64 ⌝ }
+pub fn unit_rows() -> [u64; WIDTH]
+    ensures { λ r. do ⌜ r ≡ units (← ⟦WIDTH⟧ .entry) ⌝ }
 {
-    let mut out = [0u64; 64];
+    let mut out = [0u64; WIDTH];
     let mut i: usize = 0;
-    while i < 64 {
+    while i < WIDTH {
         out[i] = power(i);
         i += 1;
     }

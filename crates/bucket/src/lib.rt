@@ -105,7 +105,7 @@ pub(crate) fn lowest(x: u64) -> usize
 
 impl Bucket {
     // Rows and columns.
-    pub const ROWS: usize = 64;
+    pub const ROWS: usize = bits::WIDTH;
 
     // Solution words, one for each bit of a plan.
     pub const SOLUTIONS: usize = 8;

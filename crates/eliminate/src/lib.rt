@@ -1,7 +1,8 @@
-// K's rows from the 64 columns of its inverse, or the fact that there are none: elimination without counting ones.
+// K's rows from the columns of its inverse, or the fact that there are none: elimination without counting ones.
 // The rows that the mark does not name must be units; their columns need no pass, and an empty bucket none at all.
 // The contract is an equation (`soundRows`); proofs/Exact.antt says that it is exact both ways.
 // Cites gf2 and bits. settle and sound cite it.
+use bits::WIDTH;
 ghost use mathlib.Core.Path.{_≡_};
 ghost use mathlib.Core.Bool.{true};
 ghost use Prim.Native.Nat.{_/_, _%_, _^_, _<_};
@@ -12,16 +13,16 @@ ghost use Rattle.eliminate.specs.Elimination.{clearFrom, passed, pick, o
 
 pub struct Rows {
     pub ok: bool,
-    pub rows: [u64; 64],
+    pub rows: [u64; WIDTH],
 }
 
 // `w` is XORed into each number from `j` on that has bit `p`.
-fn clear_from(t: &mut [u64; 64], j: usize, p: usize, w: u64)
-    requires { ⌜ (p < 64) × (length (now t) ≡ 64) ⌝ }
+fn clear_from(t: &mut [u64; WIDTH], j: usize, p: usize, w: u64)
+    requires { do ⌜ (p < (← ⟦WIDTH⟧)) × (length (now t) ≡ (← ⟦WIDTH⟧)) ⌝ }
     ensures { λ _. ⌜ now (t .exit) ≡ clearFrom j p w (now (t .entry)) ⌝ }
 {
     let mut k = j;
-    while k < 64 {
+    while k < WIDTH {
         let a = t[k];
         t[k] = bits::flip_if((a >> p) % 2, w, a);
         k += 1;
@@ -29,8 +30,8 @@ fn clear_from(t: &mut [u64; 64], j: usize, p: usize, w: u64)
 }
 
 // The same; where row `j` is free, only `y` at `j`.
-fn pass(t: &mut [u64; 64], occupied: u64, j: usize, p: usize, w: u64, y: u64)
-    requires { ⌜ (j < 64) × (p < 64) × (length (now t) ≡ 64) ⌝ }
+fn pass(t: &mut [u64; WIDTH], occupied: u64, j: usize, p: usize, w: u64, y: u64)
+    requires { do ⌜ (j < (← ⟦WIDTH⟧)) × (p < (← ⟦WIDTH⟧)) × (length (now t) ≡ (← ⟦WIDTH⟧)) ⌝ }
     ensures { λ _. ⌜ now (t .exit) ≡ passed (occupied / 2 ^ j % 2) j p w y (now (t .entry)) ⌝ }
 {
     if (occupied >> j) % 2 == 0 {
@@ -41,8 +42,8 @@ fn pass(t: &mut [u64; 64], occupied: u64, j: usize, p: usize, w: u64, y: u64)
 }
 
 // `u` is XORed into each number whose bit of `d` is set.
-fn flip_all(t: &mut [u64; 64], u: u64, d: u64)
-    requires { ⌜ length (now t) ≡ 64 ⌝ }
+fn flip_all(t: &mut [u64; WIDTH], u: u64, d: u64)
+    requires { do ⌜ length (now t) ≡ (← ⟦WIDTH⟧) ⌝ }
     ensures { λ _. ⌜ now (t .exit) ≡ solStep u d (now (t .entry)) ⌝ }
 {
     let mut left = d;
@@ -53,10 +54,10 @@ fn flip_all(t: &mut [u64; 64], u: u64, d: u64)
     }
 }
 
-// `j` if `f` has bit `j`, else the lowest bit of `f`, else 64.
+// `j` if `f` has bit `j`, else the lowest bit of `f`, else WIDTH.
 fn pick_of(j: usize, f: u64) -> usize
-    requires { ⌜ j < 64 ⌝ }
-    ensures { λ r. ⌜ r ≡ pick 64 j f ⌝ }
+    requires { do ⌜ j < (← ⟦WIDTH⟧) ⌝ }
+    ensures { λ r. do ⌜ r ≡ pick (← ⟦WIDTH⟧ .entry) j f ⌝ }
 {
     if (f >> j) % 2 == 0 {
         return u64::trailing_zeros(f) as usize;
@@ -64,38 +65,38 @@ fn pick_of(j: usize, f: u64) -> usize
     j
 }
 
-fn dual_at(ds: &[u64; 64], x: u64) -> u64
-    requires { ⌜ length (now ds) ≡ 64 ⌝ }
-    ensures { λ r. ⌜ r ≡ getD (now (ds .entry)) (trailingZeros 64 x) 0 ⌝ }
+fn dual_at(ds: &[u64; WIDTH], x: u64) -> u64
+    requires { do ⌜ length (now ds) ≡ (← ⟦WIDTH⟧) ⌝ }
+    ensures { λ r. do ⌜ r ≡ getD (now (ds .entry)) (trailingZeros (← ⟦WIDTH⟧ .entry) x) 0 ⌝ }
 {
     let a = u64::trailing_zeros(x) as usize;
-    if a < 64 { ds[a] } else { 0 }
+    if a < WIDTH { ds[a] } else { 0 }
 }
 
-fn in_order(ds: &[u64; 64], t: &mut [u64; 64])
-    requires { ⌜ (length (now ds) ≡ 64) × (length (now t) ≡ 64) ⌝ }
-    ensures { λ _. ⌜ now (t .exit) ≡ ordered 64 (now (ds .entry)) (now (t .entry)) ⌝ }
+fn in_order(ds: &[u64; WIDTH], t: &mut [u64; WIDTH])
+    requires { do ⌜ (length (now ds) ≡ (← ⟦WIDTH⟧)) × (length (now t) ≡ (← ⟦WIDTH⟧)) ⌝ }
+    ensures { λ _. do ⌜ now (t .exit) ≡ ordered (← ⟦WIDTH⟧ .entry) (now (ds .entry)) (now (t .entry)) ⌝ }
 {
     let mut i: usize = 0;
-    while i < 64 {
+    while i < WIDTH {
         t[i] = dual_at(ds, t[i]);
         i += 1;
     }
 }
 
 // The elimination. Outside `occupied` each column has its own bit alone, so the column of a free row needs no pass.
-fn eliminate(cols: [u64; 64], occupied: u64) -> Rows
+fn eliminate(cols: [u64; WIDTH], occupied: u64) -> Rows
     requires { ⌜ freeCols 0 occupied cols ≡ true ⌝ }
-    ensures { λ r. ⌜ r ≡ eliminated 64 cols ⌝ }
+    ensures { λ r. do ⌜ r ≡ eliminated (← ⟦WIDTH⟧ .entry) cols ⌝ }
 {
     let mut prods = cols;
     let mut duals = bits::unit_rows();
     let mut mark: u64 = 0;
     let mut j: usize = 0;
-    while j < 64 {
+    while j < WIDTH {
         let x = prods[j];
         let p = pick_of(j, x ^ (x & mark));
-        if 64 <= p {
+        if WIDTH <= p {
             return Rows {
                 ok: false,
                 rows: cols,
@@ -119,12 +120,12 @@ fn eliminate(cols: [u64; 64], occupied: u64) -> Rows
 }
 
 // Each column has, outside `mark`, its own bit alone.
-fn free_cols(cols: &[u64; 64], mark: u64) -> bool
-    requires { ⌜ length (now cols) ≡ 64 ⌝ }
+fn free_cols(cols: &[u64; WIDTH], mark: u64) -> bool
+    requires { do ⌜ length (now cols) ≡ (← ⟦WIDTH⟧) ⌝ }
     ensures { λ r. ⌜ r ≡ freeCols 0 mark (now (cols .entry)) ⌝ }
 {
     let mut i: usize = 0;
-    while i < 64 {
+    while i < WIDTH {
         let c = cols[i];
         let u = bits::power(i);
         if c ^ (c & mark) != u ^ (u & mark) {
@@ -136,8 +137,8 @@ fn free_cols(cols: &[u64; 64], mark: u64) -> bool
 }
 
 // K's rows, if there are any and those outside `mark` are units. Else `ok` is false, and `rows` are the columns as they came.
-pub fn rows_of(cols: [u64; 64], mark: u64) -> Rows
-    ensures { λ r. ⌜ r ≡ soundRows 64 mark cols ⌝ }
+pub fn rows_of(cols: [u64; WIDTH], mark: u64) -> Rows
+    ensures { λ r. do ⌜ r ≡ soundRows (← ⟦WIDTH⟧ .entry) mark cols ⌝ }
 {
     if free_cols(&cols, mark) {
         if mark == 0 {
