@@ -63,10 +63,10 @@ pub const MOST_PRINTED: usize = 3 + Number::MOST_DIGITS + 1;
 
 // One digit more.
 pub(crate) fn push_digit(n: u64, b: u8) -> u64
-    requires { ⌜ (n ≤ mostBuckets) × (48 ≤ b) ⌝ }
+    requires { ⌜ (n ≤ mostBuckets) × (digitOf 0 ≤ b) ⌝ }
     ensures { λ r. ⌜ r ≡ grown n b ⌝ }
 {
-    10 * n + (b - 48) as u64
+    10 * n + (b - b'0') as u64
 }
 
 // The number that the field says, to limit.
@@ -77,7 +77,7 @@ pub(crate) fn read_number(s: &[u8], limit: u64) -> Number
     if s.len() == 0 {
         return Number::Wrong;
     }
-    if s[0] == 48 {
+    if s[0] == b'0' {
         if s.len() == 1 {
             return Number::Of(0);
         }
@@ -87,10 +87,10 @@ pub(crate) fn read_number(s: &[u8], limit: u64) -> Number
     let mut i: usize = 0;
     while i < s.len() {
         let b = s[i];
-        if b < 48 {
+        if b < b'0' {
             return Number::Wrong;
         }
-        if 57 < b {
+        if b'9' < b {
             return Number::Wrong;
         }
         n = push_digit(n, b);
@@ -226,15 +226,15 @@ pub(crate) fn three_fields(s: &[u8], a: usize, b: usize) -> Parsed
 pub fn parse(s: &[u8]) -> Parsed
     ensures { λ r. ⌜ (meant (now (s .entry)) r ≡ commandOf (now (s .entry))) × Within (length (now (s .entry))) r ⌝ }
 {
-    let a = place(s, 32, 0);
+    let a = place(s, b' ', 0);
     if s.len() <= a {
         return Parsed::Bad;
     }
-    let b = place(s, 32, a + 1);
+    let b = place(s, b' ', a + 1);
     if s.len() <= b {
         return two_fields(s, a);
     }
-    if place(s, 32, b + 1) < s.len() {
+    if place(s, b' ', b + 1) < s.len() {
         return Parsed::Bad;
     }
     three_fields(s, a, b)

@@ -25,12 +25,12 @@ shared-slice-read-if2 c = search needs
 returns-2 : tie.Need-returns-2 Inv-loop μ-loop
 returns-2 c =
     let args = c .before .before .before .before .before .args in
-    sym (number-zero (args .limit) (args .s .now) (c .before .if2 .taken) (c .if3 .taken))
+    sym (number-zero (args .limit) (args .s .now) (c .before .if2 .taken) (omega arith))
 
 returns-3 : tie.Need-returns-3 Inv-loop μ-loop
 returns-3 c =
     let args = c .before .before .before .before .before .args in
-    sym (number-leading (args .limit) (args .s .now) (c .before .if2 .taken) (c .if3 .left))
+    sym (number-leading (args .limit) (args .s .now) (c .before .if2 .taken) (λ e. omega arith))
 
 loop-holds : tie.Need-loop-holds Inv-loop μ-loop
 loop-holds c =
