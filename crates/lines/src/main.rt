@@ -35,11 +35,18 @@ fn read_input(buffer: &mut [u8]) -> Input
     Input::Bytes(n)
 }
 
-// Zeros for the longest output: 24 bytes for each byte of the input.
-fn output_buffer() -> [u8; 1572864]
-    ensures { λ r. ⌜ 1572864 ≡ length r ⌝ }
+// Zeros for the bytes of the input that count.
+fn input_buffer() -> [u8; session::INPUT_LIMIT]
+    ensures { λ r. do ⌜ (← ⟦session::INPUT_LIMIT⟧ .entry) ≡ length r ⌝ }
 {
-    [0; 1572864]
+    [0; session::INPUT_LIMIT]
+}
+
+// Zeros for the longest output.
+fn output_buffer() -> [u8; session::MOST_OUTPUT]
+    ensures { λ r. do ⌜ (← ⟦session::MOST_OUTPUT⟧ .entry) ≡ length r ⌝ }
+{
+    [0; session::MOST_OUTPUT]
 }
 
 // Writes what is printed for the input.
@@ -55,7 +62,7 @@ fn write_output(input: &[u8]) {
 }
 
 fn main() {
-    let mut buffer = io::large_buffer();
+    let mut buffer = input_buffer();
     let read = read_input(&mut buffer);
     match read {
         Input::Bytes(n) => write_output(&buffer[..n]),

@@ -14,8 +14,9 @@ ghost use Rattle.hash.specs.Fnv.{fnvOf};
 ghost use Rattle.identifier.specs.Identifier.{readOf};
 ghost use Rattle.bucket.specs.Bucket.{add, withdraw};
 ghost use Prim.Native.Nat.{_*_};
+ghost use lib.ListN.{length};
 ghost use Rattle.text.specs.Printed.{mostPrinted};
-ghost use Rattle.session.specs.Run.{inputLimit, output};
+ghost use Rattle.session.specs.Run.{counted, output};
 ghost use Rattle.session.specs.Buffer.{Printed};
 ghost use Rattle.probe.specs.Steps.{probed, probedRow, probedMatrix};
 ghost use Rattle.model.specs.Machine.{accepted};
@@ -188,7 +189,7 @@ pub extern "C" fn probe_fill(t: &mut [u64], b1: u64, b2: u64, words: &[u64]) -> 
 // The line program on an input: what it prints goes to out, as much as fits. The number of bytes printed.
 #[no_mangle]
 pub extern "C" fn probe_lines(input: &[u8], out: &mut [u8]) -> usize
-    ensures { λ r. ⌜ Printed (output (now (input .entry))) (mostPrinted * inputLimit) (now (out .entry)) r (now (out .exit)) ⌝ }
+    ensures { λ r. ⌜ Printed (output (now (input .entry))) (mostPrinted * length (counted (now (input .entry)))) (now (out .entry)) r (now (out .exit)) ⌝ }
 {
     session::run(input, out)
 }

@@ -7,7 +7,7 @@ use mathlib.Core.Option.{Option, none, some}
 use Prim.Native.Nat.{ℕ, suc, _≤_}
 use native.Mathlib.Omega.{arith}
 use lib.Dec.{leb}
-use lib.ListN.{length, take, replicate, length-replicate}
+use lib.ListN.{length, replicate, length-replicate}
 use borrow.Author.Tests.{eq-eqb}
 use Rattle.lists.proofs.Tests.{cases}
 use Rattle.codec.specs.Bytes.{eqList}
@@ -28,7 +28,7 @@ use Rattle.text.specs.Parsed.{AtMost}
 use Rattle.text.specs.Printed.{printed}
 use Rattle.text.proofs.Decimal.{number-most}
 use Rattle.session.specs.Buffer.{AllReady}
-use Rattle.session.specs.Run.{inputLimit, lineLimit, Turn, obey, refuse, turn, outputFrom, outputOf, tables, output, states}
+use Rattle.session.specs.Run.{counted, lineLimit, Turn, obey, refuse, turn, outputFrom, outputOf, tables, output, states}
 
 -- ---- the plan of a command is a byte
 
@@ -130,7 +130,7 @@ from-alike m k h (s ∷ r ∷ rs) =
 -- "so statement 3 covers what the program answers"
 pub as-model : (s : List ℕ) → output s ≡ outputOf states s
 unfolding output
-as-model s = from-alike none none tt (parted lf (take inputLimit s))
+as-model s = from-alike none none tt (parted lf (counted s))
 
 -- ---- the table is sound at each line
 

@@ -6,14 +6,14 @@ use mathlib.Core.Option.{Option, none}
 use Prim.Native.Nat.{ℕ, _+_, _*_, _≤_, _<_}
 use native.Mathlib.Nat.{zero-add}
 use native.Mathlib.Omega.{arith}
-use lib.ListN.{length, take, drop, length-append, length-take}
+use lib.ListN.{length, drop, length-append, length-take}
 use Rattle.codec.specs.Parts.{written}
 use Rattle.codec.proofs.Part.{written-append, written-none}
 use Rattle.text.specs.Line.{lf, placeOf, parted}
 use Rattle.text.specs.Parsed.{between}
 use Rattle.text.specs.Printed.{mostPrinted, badLine}
 use Rattle.session.specs.declared.Progress.{Progress}
-use Rattle.session.specs.Run.{inputLimit, turn, outputFrom, tables, output}
+use Rattle.session.specs.Run.{inputLimit, counted, turn, outputFrom, tables, output}
 use Rattle.session.specs.Buffer.{heldIn, AllReady, Holds, Did, Printed}
 use Rattle.session.proofs.Agree.{ready-next}
 use Rattle.session.proofs.Lines.{turn-most, from-line, from-unfinished, from-end}
@@ -78,13 +78,16 @@ module _ (s o₀ t o : List ℕ) (held at start end : ℕ) (h : Running s o₀ t
         fits = let f = h .few in let q = h .starts in omega arith;
       }
 
-pub short : (s : List ℕ) → length (take inputLimit s) ≤ inputLimit
-short s = rw length-take (omega arith)
+-- the bytes that count are not more than the limit
+pub counted-most : (s : List ℕ) → length (counted s) ≤ inputLimit
+counted-most s = rw length-take (omega arith)
 
 -- x are the bytes of the input s that count
-pub run-printed : (s x : List ℕ) → x ≡ take inputLimit s → (o o' : List ℕ) (k : ℕ) → Printed (outputFrom tables none (parted lf x)) (mostPrinted * length x) o k o'
-    → Printed (output s) (mostPrinted * inputLimit) o k o'
+pub run-printed : (s x : List ℕ) → x ≡ counted s → (o o' : List ℕ) (k : ℕ) → Printed (outputFrom tables none (parted lf x)) (mostPrinted * length x) o k o'
+    → Printed (output s) (mostPrinted * length (counted s)) o k o'
 unfolding output
-run-printed s x e o o' k p =
-    let f : length x ≤ inputLimit = rw e (short s) in
-    record { count = rw (← e) (p .count); bytes = rw (← e) (p .bytes); fits = let q = p .fits in omega arith }
+run-printed s x e o o' k p = rw (← e) p
+
+-- the longest output of all
+pub run-most : (s : List ℕ) (k : ℕ) → k ≤ mostPrinted * length (counted s) → k ≤ mostPrinted * inputLimit
+run-most s k h = omega (arith, counted-most s)

@@ -21,6 +21,10 @@ use Rattle.text.specs.Printed.{badLine, printed}
 abbrev pub inputLimit : ℕ
 inputLimit = 65536
 
+-- the bytes of an input that count
+abbrev pub counted : List ℕ → List ℕ
+counted s = take inputLimit s
+
 -- a line has at most 64 bytes with its LF
 abbrev pub lineLimit : ℕ
 lineLimit = 64
@@ -65,7 +69,7 @@ module _ {T : Type 0} (D : Desk T) where
 
   -- what is printed for an input
   abbrev pub outputOf : List ℕ → List ℕ
-  outputOf s = outputFrom none (parted lf (take inputLimit s))
+  outputOf s = outputFrom none (parted lf (counted s))
 
 -- the table. An opening gets one of the length that its numbers give
 abbrev pub tables : Desk (List ℕ)

@@ -21,7 +21,7 @@ ghost use Rattle.table.specs.Ready.{Ready};
 ghost use Rattle.text.specs.Line.{lf, parted, opening, ask};
 ghost use Rattle.text.specs.Parsed.{callOf, meant, Within};
 ghost use Rattle.text.specs.Printed.{mostPrinted};
-ghost use Rattle.session.specs.Run.{inputLimit, obey, turn, outputFrom, tables, output};
+ghost use Rattle.session.specs.Run.{inputLimit, counted, obey, turn, outputFrom, tables, output};
 ghost use Rattle.session.specs.Buffer.{heldIn, Holds, Did, Printed};
 
 // The first bytes of an input that count.
@@ -165,13 +165,13 @@ pub(crate) fn run_lines(t: &mut [u64], s: &[u8], out: &mut [u8]) -> usize
     let mut held: usize = 0;
     let mut at: usize = 0;
     let mut start: usize = 0;
-    let mut end = text::place(s, 10, 0);
+    let mut end = text::place(s, b'\n', 0);
     while end < s.len() {
         let next = turn(t, held, &s[start..end], out, at);
         held = next.held;
         at = next.printed;
         start = end + 1;
-        end = text::place(s, 10, start);
+        end = text::place(s, b'\n', start);
     }
     if start < s.len() {
         return text::put_bad(out, at);
@@ -179,10 +179,10 @@ pub(crate) fn run_lines(t: &mut [u64], s: &[u8], out: &mut [u8]) -> usize
     at
 }
 
-// The line program: what it prints for an input goes to out, as much as fits. The number of bytes printed, at most 24 for each byte that
-// is read.
+// The line program: what it prints for an input goes to out, as much as fits. The number of bytes printed, at most MOST_PRINTED for each
+// byte that counts.
 pub fn run(input: &[u8], out: &mut [u8]) -> usize
-    ensures { λ r. ⌜ Printed (output (now (input .entry))) (mostPrinted * inputLimit) (now (out .entry)) r (now (out .exit)) ⌝ }
+    ensures { λ r. ⌜ Printed (output (now (input .entry))) (mostPrinted * length (counted (now (input .entry)))) (now (out .entry)) r (now (out .exit)) ⌝ }
 {
     let mut t = [0u64; Table::LONGEST];
     if input.len() <= INPUT_LIMIT {

@@ -13,8 +13,8 @@ use Rattle.lines.proofs.main.Tie as tie
 in-buffer : (c : tie.After-read) → let r = c .before .before .before .read-input in c .read .given .0 .0 ≤ length (r .last .0)
 in-buffer c = let r = c .before .before .before .read-input in subst (Within (length (r .last .0))) (c .read .given .1) (r .ensures)
 
-large-buffer-requires : tie.Need-large-buffer-requires
-large-buffer-requires c κs = search needs
+input-buffer-requires : tie.Need-input-buffer-requires
+input-buffer-requires c κs = search needs
 
 slice-aggregate-read-input : tie.Need-slice-aggregate-read-input
 slice-aggregate-read-input c = search needs
@@ -53,7 +53,7 @@ pub main-spec : {M : Type 1} → statement M
 main-spec =
     tie.close
     (tie.spec
-    large-buffer-requires
+    input-buffer-requires
     slice-aggregate-read-input
     read-input-requires
     enum-known-read

@@ -7,7 +7,7 @@ use Rattle.lines.proofs.output_buffer.Statement.{statement}
 use Rattle.lines.proofs.output_buffer.Tie as tie
 
 returns : tie.Need-returns
-returns c = sym (length-replicate {A = ℕ} 1572864 0)
+returns c = sym (length-replicate {A = ℕ} _ 0)
 
 pub output-buffer-spec : {M : Type 1} → statement M
 output-buffer-spec = tie.close (tie.spec returns)

@@ -2,6 +2,7 @@
 -- Assumes nothing.
 use mathlib.Core.Path.{sym}
 use lib.Seq.{length-take-le}
+use Rattle.session.proofs.Running.{run-most}
 use borrow.Author.Needs.{needs}
 use Rattle.lines.proofs.write_output.Statement.{statement}
 use Rattle.lines.proofs.write_output.Tie as tie
@@ -16,10 +17,17 @@ run-requires : tie.Need-run-requires
 run-requires c κs = search needs
 
 array-share-prefix-out : tie.Need-array-share-prefix-out
-array-share-prefix-out c = search needs
+array-share-prefix-out c =
+    let input = c .before .before .before .before .before .args .input .now in
+    let m = run-most input (c .before .run .result) (c .before .run .ensures .fits) in
+    search needs
 
 slice-aggregate-write-all : tie.Need-slice-aggregate-write-all
-slice-aggregate-write-all c = let r = c .before .before .run in sym (length-take-le (r .result) (r .last .1 .0) (search needs))
+slice-aggregate-write-all c =
+    let r = c .before .before .run in
+    let input = c .before .before .before .before .before .before .args .input .now in
+    let m = run-most input (r .result) (r .ensures .fits) in
+    sym (length-take-le (r .result) (r .last .1 .0) (search needs))
 
 write-all-requires : tie.Need-write-all-requires
 write-all-requires c κs = search needs

@@ -1,9 +1,9 @@
 -- `session::run` meets its contract.
 -- Assumes nothing.
 use mathlib.Core.Path.{refl, sym}
-use lib.ListN.{take}
 use lib.Seq.{take-all, length-take-le}
-use Rattle.session.proofs.Running.{short, run-printed}
+use Rattle.session.specs.Run.{inputLimit, counted}
+use Rattle.session.proofs.Running.{counted-most, run-printed}
 use borrow.Author.Needs.{needs}
 use Rattle.session.proofs.run.Statement.{statement}
 use Rattle.session.proofs.run.Tie as tie
@@ -21,16 +21,16 @@ returns : tie.Need-returns
 returns c =
     let done = c .before .before .before in
     let a = done .before .before .before .before .before .before .args in
-    run-printed (a .input .now) (a .input .now) (sym (take-all 65536 (a .input .now) (search needs))) (a .out .now) _ _ (done .run-lines .ensures)
+    run-printed (a .input .now) (a .input .now) (sym (take-all inputLimit (a .input .now) (search needs))) (a .out .now) _ _ (done .run-lines .ensures)
 
 slice-aggregate-run-lines-2 : tie.Need-slice-aggregate-run-lines-2
 slice-aggregate-run-lines-2 c = search needs
 
 slice-aggregate-run-lines-3 : tie.Need-slice-aggregate-run-lines-3
-slice-aggregate-run-lines-3 c = let a = c .before .before .before .before .before .args in sym (length-take-le 65536 (a .input .now) (search needs))
+slice-aggregate-run-lines-3 c = let a = c .before .before .before .before .before .args in sym (length-take-le inputLimit (a .input .now) (search needs))
 
 run-lines-requires-2 : tie.Need-run-lines-requires-2
-run-lines-requires-2 c κs = let a = c .before .before .before .before .before .before .args in (refl, short (a .input .now))
+run-lines-requires-2 c κs = let a = c .before .before .before .before .before .before .args in (refl, counted-most (a .input .now))
 
 same-length-2 : tie.Need-same-length-2
 same-length-2 c = search needs
@@ -39,7 +39,7 @@ returns-2 : tie.Need-returns-2
 returns-2 c =
     let done = c .before .before .before in
     let a = done .before .before .before .before .before .before .before .args in
-    run-printed (a .input .now) (take 65536 (a .input .now)) refl (a .out .now) _ _ (done .run-lines2 .ensures)
+    run-printed (a .input .now) (counted (a .input .now)) refl (a .out .now) _ _ (done .run-lines2 .ensures)
 
 pub run-spec : {M : Type 1} → statement M
 run-spec =
