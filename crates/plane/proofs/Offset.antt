@@ -42,11 +42,11 @@ module _ (p : List ℕ) (d : Expected) where
       let e : getD q 0 0 ≡ getD p (d .at) 0 = getD-drop (d .at) p 0 0 ∙ ap (λ (i : ℕ). getD p i 0) (add-zero (d .at)) in
       (λ f h. eqb-false (getD q 0 0) (d .kind) f (e ∙ h), λ n. ne-eqb (getD q 0 0) (d .kind) (λ h. n (sym e ∙ h)))
 
-  pub wrong-exactly : (rightTest ≡ false) ↔ WrongRecord p d
-  wrong-exactly = and-fails (whole (d .kind) (d .body) q) (d .allowed) (and-fails (leb (1 + d .body) (length q)) _ cut-exactly kind-exactly) (λ e. e, λ e. e)
+  pub wrong-record : (rightTest ≡ false) ↔ WrongRecord p d
+  wrong-record = and-fails (whole (d .kind) (d .body) q) (d .allowed) (and-fails (leb (1 + d .body) (length q)) _ cut-exactly kind-exactly) (λ e. e, λ e. e)
 
   pub right-record : rightTest ≡ true → WrongRecord p d → ⊥
-  right-record e w = true≢false (sym e ∙ wrong-exactly .1 w)
+  right-record e w = true≢false (sym e ∙ wrong-record .1 w)
 
 -- ---- the first of some records that is wrong
 
@@ -83,11 +83,11 @@ module _ (p : List ℕ) (end at : ℕ) where
           there : FirstWrong p (d ∷ ds) end at → found p ds (more p end) ≡ At at
           there (inl w) = absurd (right-record p d e (w .0))
           there (inr r) = i .1 (r .1)
-      go false e i = (λ f. inl (wrong-exactly p d .0 e, sym (at-one f)), there)
+      go false e i = (λ f. inl (wrong-record p d .0 e, sym (at-one f)), there)
         where
           there : FirstWrong p (d ∷ ds) end at → At (d .at) ≡ At at
           there (inl w) = ap At (sym (w .1))
-          there (inr r) = absurd (r .0 (wrong-exactly p d .0 e))
+          there (inr r) = absurd (r .0 (wrong-record p d .0 e))
 
 -- nothing is found exactly if none is wrong
 pub found-nowhere : (p : List ℕ) (end : ℕ) (ds : List Expected) → (found p ds (more p end) ≡ Nowhere) ↔ NoneWrong p ds end
@@ -101,7 +101,7 @@ found-nowhere p end (d ∷ ds) = go (rightTest p d) refl (found-nowhere p end ds
     go : (b : Bool) → rightTest p d ≡ b → (found p ds (more p end) ≡ Nowhere) ↔ NoneWrong p ds end
         → (cond b (found p ds (more p end)) (At (d .at)) ≡ Nowhere) ↔ NoneWrong p (d ∷ ds) end
     go true e i = (λ f. (right-record p d e, i .0 f), λ n. i .1 (n .1))
-    go false e i = (λ f. absurd (at-nowhere f), λ n. absurd (n .0 (wrong-exactly p d .0 e)))
+    go false e i = (λ f. absurd (at-nowhere f), λ n. absurd (n .0 (wrong-record p d .0 e)))
 
 -- m records of one kind, then the others
 module _ {A S : Type 0} (k : Kind A) (allowed : S → A → Bool) (next : S → A → S) where

@@ -1,7 +1,8 @@
 // The plane: the small file that every post reads to find the plan of an identifier. Its records, its reader and the lookup, for any bytes.
-// Definitions, in document 01's words: specs/Record.antt and specs/Plane.antt (the bytes, which planes are wrong, what the bytes say),
-// specs/Lookup.antt (the call), specs/Fits.antt (its limits). Laws: proofs/Round.antt and proofs/Exact.antt (just the planes within
-// the limits have bytes that are wrong nowhere); the statements stand with the writer.
+// Definitions, in document 01's words: specs/Record.antt and specs/Plane.antt (the bytes in each format, which planes are wrong, what the
+// bytes say), specs/Lookup.antt (the call), specs/Fits.antt (its limits), specs/Offset.antt (the offset of what is wrong, without the
+// scan), specs/Causes.antt. Laws: proofs/Scan.antt (a scan of records of any kind), proofs/Round.antt and proofs/Exact.antt (just the
+// planes within the limits have bytes that are wrong nowhere), proofs/Offset.antt, proofs/Causes.antt; the statements stand with the writer.
 // Cites codec, identifier, bucket, concrete and layout (the numbers of buckets). The writer and the library for C cite it.
 use answer::Answer;
 use bucket::Bucket;
