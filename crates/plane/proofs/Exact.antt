@@ -20,7 +20,7 @@ use Rattle.model.specs.Model.{baseLimit}
 use Rattle.concrete.specs.Layout.{inRange}
 use Rattle.plane.specs.declared.Wrong.the-variants.{Nowhere}
 use Rattle.plane.specs.Record.{Format, bucketBytes, entryBytes, endLength, Kind, sizeOf, recordOf, bucketRecords, entryRecords, bytesOf, readAll, wordBytes, wordFrom, headerKind, headerBody, headerRecord, bucketBody, bucketRecord, bucketFrom, entryBody, entryRecord, entryFrom, endKind, endBody, endBytes, endRecord, bucketLength, entryLength}
-use Rattle.plane.specs.Plane.{endFits, fits, wrongIn, allAllowed, boundAllowed, entryAllowed, exceeding, bucketCount, baseCount, planeBytes, planeFrom, bucketsAt, whole, bucketsWrong, entriesWrong, wrongAt}
+use Rattle.plane.specs.Plane.{endFits, fits, wrongIn, allAllowed, boundAllowed, entryAllowed, exceeding, buckets1, buckets2, bucketCount, baseCount, planeBytes, planeFrom, bucketsAt, whole, bucketsWrong, entriesWrong, wrongAt}
 use Rattle.plane.specs.Fits.{Every, Below, FitsBucket, FitsEntry, Fits}
 use Rattle.plane.proofs.Scan.{both, right, whole-length, Right, parts, entriesIn, endIn}
 use Rattle.plane.proofs.Read.{length-readAll, read-add}
@@ -101,7 +101,7 @@ module _ (F : Format) (p : List ℕ) (there : bucketBody F < length p) (b : AllB
 module _ (p : List ℕ) (there : entryBody < length p) (b : AllBytes p) where
   pub entry-body : entryBytes (entryFrom p) ++ drop entryLength p ≡ drop 1 p
   entry-body =
-      let plan : getD p 9 0 ∷ drop 10 p ≡ drop wordBytes (drop 1 p) = sym (drop-cons p 9 0 there) ∙ sym (drop-drop wordBytes 1 p) in
+      let plan : getD p entryBody 0 ∷ drop entryLength p ≡ drop wordBytes (drop 1 p) = sym (drop-cons p entryBody 0 there) ∙ sym (drop-drop wordBytes 1 p) in
       rw (append-assoc, plan) (word-bytes (drop 1 p) (rw length-drop (omega arith)) (bytes-drop 1 p b))
 
   pub entry-fit : FitsEntry (entryFrom p)
@@ -203,18 +203,18 @@ module _ (F : Format) (p : List ℕ) (e : wrongAt F p ≡ Nowhere) (b : AllBytes
   h : Right F p
   h = parts F p e
 
-  head-bytes : headerRecord F (getD p 2 0) (getD p 3 0) (getD p 4 0) ++ drop bucketsAt p ≡ p
+  head-bytes : headerRecord F (buckets1 p) (buckets2 p) (baseCount p) ++ drop bucketsAt p ≡ p
   head-bytes =
       let a = both (whole headerKind headerBody p) _ (h .header) in
       let there : headerBody < length p = whole-length headerKind headerBody p (a .0) in
       let f : getD p 1 0 ≡ F .number = eqb-true (getD p 1 0) (F .number) (both (eqb (getD p 1 0) (F .number)) _ (a .1) .0) in
-      let tail : getD p 1 0 ∷ getD p 2 0 ∷ getD p 3 0 ∷ getD p 4 0 ∷ drop 5 p ≡ drop 1 p =
+      let tail : getD p 1 0 ∷ buckets1 p ∷ buckets2 p ∷ baseCount p ∷ drop bucketsAt p ≡ drop 1 p =
       rw (← drop-cons p 4 0 (omega arith), ← drop-cons p 3 0 (omega arith), ← drop-cons p 2 0 (omega arith), ← drop-cons p 1 0 (omega arith)) in
-      ap (λ (x : ℕ). headerKind ∷ x ∷ getD p 2 0 ∷ getD p 3 0 ∷ getD p 4 0 ∷ drop 5 p) (sym f) ∙ ap (λ (q : List ℕ). headerKind ∷ q) tail ∙ front headerKind headerBody p (a .0)
+      ap (λ (x : ℕ). headerKind ∷ x ∷ buckets1 p ∷ buckets2 p ∷ baseCount p ∷ drop bucketsAt p) (sym f) ∙ ap (λ (q : List ℕ). headerKind ∷ q) tail ∙ front headerKind headerBody p (a .0)
 
   two : planeFrom F p .level1 ++ planeFrom F p .level2 ≡ readAll s (bucketFrom F) (bucketCount p) (drop bucketsAt p)
   unfolding planeFrom
-  two = sym (read-add s (bucketFrom F) (getD p 2 0) (getD p 3 0) (drop bucketsAt p) ∙ rw drop-drop refl)
+  two = sym (read-add s (bucketFrom F) (buckets1 p) (buckets2 p) (drop bucketsAt p) ∙ rw drop-drop refl)
 
   base-bytes : bytesOf entryRecord (planeFrom F p .base) ++ endRecord ≡ drop (entriesIn F p) p
   unfolding planeFrom
@@ -222,13 +222,13 @@ module _ (F : Format) (p : List ℕ) (e : wrongAt F p ≡ Nowhere) (b : AllBytes
       rw (end-bytes (drop (endIn F p) p) (h .end) (h .nothing), ← drop-drop (baseCount p * entryLength) (entriesIn F p) p)
       (entries-bytes 0 (baseCount p) (entriesIn F p) (drop (entriesIn F p) p) (h .entries) (bytes-drop (entriesIn F p) p b))
 
-  pub length1 : length (planeFrom F p .level1) ≡ getD p 2 0
+  pub length1 : length (planeFrom F p .level1) ≡ buckets1 p
   unfolding planeFrom
-  length1 = length-readAll s (bucketFrom F) (getD p 2 0) _
+  length1 = length-readAll s (bucketFrom F) (buckets1 p) _
 
-  pub length2 : length (planeFrom F p .level2) ≡ getD p 3 0
+  pub length2 : length (planeFrom F p .level2) ≡ buckets2 p
   unfolding planeFrom
-  length2 = length-readAll s (bucketFrom F) (getD p 3 0) _
+  length2 = length-readAll s (bucketFrom F) (buckets2 p) _
 
   length0 : length (planeFrom F p .base) ≡ baseCount p
   unfolding planeFrom
@@ -246,7 +246,7 @@ module _ (F : Format) (p : List ℕ) (e : wrongAt F p ≡ Nowhere) (b : AllBytes
   unfolding planeFrom
   read-fits =
       let a = both (whole headerKind headerBody p) _ (h .header) in
-      let c = both (inRange (getD p 2 0) (getD p 3 0)) _ (both (eqb (getD p 1 0) (F .number)) _ (a .1) .1) in
+      let c = both (inRange (buckets1 p) (buckets2 p)) _ (both (eqb (getD p 1 0) (F .number)) _ (a .1) .1) in
       record {
         range = rw (length1, length2) (c .0);
         few = rw length0 (leb-true (baseCount p) baseLimit (c .1));

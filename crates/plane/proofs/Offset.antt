@@ -1,24 +1,25 @@
 -- The scan finds just the offset that document 01 means: first for records of any kind (`scan-found`, `found-exactly`, `found-nowhere`), then
 -- for the plane.
 -- Assumes nothing.
-use Prim.Native.Nat.{ℕ, zero, suc, _+_, _-_, _≤_, _<_}
-use native.Mathlib.Nat.{add-zero}
+use Prim.Native.Nat.{ℕ, zero, suc, _+_, _-_, _*_, _≤_, _<_}
+use native.Mathlib.Nat.{add-zero, zero-mul, suc-mul}
 use native.Mathlib.Omega.{arith}
 use mathlib.Core.Path.{_≡_, refl, sym, ap, _∙_}
 use mathlib.Core.Logic.{_⊎_, inl, inr, _↔_}
 use mathlib.Core.Bool.{Bool, true, false, true≢false, cond, _&&_}
-use mathlib.Core.List.{List, [], _∷_, _++_}
+use mathlib.Core.List.{List, [], _∷_, _++_, map}
 use borrow.Author.Tests.{leb-true, leb-false, le-leb, lt-leb, eqb-false, ne-eqb, eq-eqb}
-use lib.Dec.{leb, eqb}
+use lib.Dec.{leb, eqb, leb·zero}
 use lib.ListN.{length, getD, drop, length-drop}
 use lib.Seq.{getD-drop, drop-drop}
+use Rattle.lists.specs.Lists.{countFrom}
 use Rattle.lists.proofs.Tests.{cases}
 use Rattle.concrete.proofs.Causes.{and-fails}
 use Rattle.plane.specs.declared.Wrong.{Wrong}
 use Rattle.plane.specs.declared.Wrong.the-variants.{Nowhere, At}
-use Rattle.plane.specs.Record.{Format, Kind, sizeOf, bucketRecords, entryRecords, endKind, endBody, endLength}
+use Rattle.plane.specs.Record.{Format, Kind, sizeOf, bucketRecords, entryKind, entryBody, entryRecords, endKind, endBody, endLength}
 use Rattle.plane.specs.Plane.{whole, fits, wrongIn, orNext, bucketCount, baseCount, bucketsAt, entriesAt, endAt, planeLength, boundAllowed, entryAllowed, exceeding, headerFits, bucketsWrong, entriesWrong, endFits, endWrong, wrongAt}
-use Rattle.plane.specs.Offset.{Expected, WrongRecord, FirstWrong, NoneWrong, expectedIn, expectedEnd, expected, WrongOffset, RightPlane}
+use Rattle.plane.specs.Offset.{Expected, WrongRecord, FirstWrong, NoneWrong, expectedBucket, entryAt, entryWord, expectedEntry, expectedEnd, expected, WrongOffset, RightPlane}
 use Rattle.plane.proofs.Scan.{both, at-nowhere, whole-length}
 
 -- ---- one record
@@ -42,11 +43,11 @@ module _ (p : List ℕ) (d : Expected) where
       let e : getD q 0 0 ≡ getD p (d .at) 0 = getD-drop (d .at) p 0 0 ∙ ap (λ (i : ℕ). getD p i 0) (add-zero (d .at)) in
       (λ f h. eqb-false (getD q 0 0) (d .kind) f (e ∙ h), λ n. ne-eqb (getD q 0 0) (d .kind) (λ h. n (sym e ∙ h)))
 
-  pub wrong-exactly : (rightTest ≡ false) ↔ WrongRecord p d
-  wrong-exactly = and-fails (whole (d .kind) (d .body) q) (d .allowed) (and-fails (leb (1 + d .body) (length q)) _ cut-exactly kind-exactly) (λ e. e, λ e. e)
+  pub wrong-record : (rightTest ≡ false) ↔ WrongRecord p d
+  wrong-record = and-fails (whole (d .kind) (d .body) q) (d .allowed) (and-fails (leb (1 + d .body) (length q)) _ cut-exactly kind-exactly) (λ e. e, λ e. e)
 
   pub right-record : rightTest ≡ true → WrongRecord p d → ⊥
-  right-record e w = true≢false (sym e ∙ wrong-exactly .1 w)
+  right-record e w = true≢false (sym e ∙ wrong-record .1 w)
 
 -- ---- the first of some records that is wrong
 
@@ -83,11 +84,11 @@ module _ (p : List ℕ) (end at : ℕ) where
           there : FirstWrong p (d ∷ ds) end at → found p ds (more p end) ≡ At at
           there (inl w) = absurd (right-record p d e (w .0))
           there (inr r) = i .1 (r .1)
-      go false e i = (λ f. inl (wrong-exactly p d .0 e, sym (at-one f)), there)
+      go false e i = (λ f. inl (wrong-record p d .0 e, sym (at-one f)), there)
         where
           there : FirstWrong p (d ∷ ds) end at → At (d .at) ≡ At at
           there (inl w) = ap At (sym (w .1))
-          there (inr r) = absurd (r .0 (wrong-exactly p d .0 e))
+          there (inr r) = absurd (r .0 (wrong-record p d .0 e))
 
 -- nothing is found exactly if none is wrong
 pub found-nowhere : (p : List ℕ) (end : ℕ) (ds : List Expected) → (found p ds (more p end) ≡ Nowhere) ↔ NoneWrong p ds end
@@ -101,62 +102,87 @@ found-nowhere p end (d ∷ ds) = go (rightTest p d) refl (found-nowhere p end ds
     go : (b : Bool) → rightTest p d ≡ b → (found p ds (more p end) ≡ Nowhere) ↔ NoneWrong p ds end
         → (cond b (found p ds (more p end)) (At (d .at)) ≡ Nowhere) ↔ NoneWrong p (d ∷ ds) end
     go true e i = (λ f. (right-record p d e, i .0 f), λ n. i .1 (n .1))
-    go false e i = (λ f. absurd (at-nowhere f), λ n. absurd (n .0 (wrong-exactly p d .0 e)))
+    go false e i = (λ f. absurd (at-nowhere f), λ n. absurd (n .0 (wrong-record p d .0 e)))
 
--- m records of one kind, then the others
-module _ {A S : Type 0} (k : Kind A) (allowed : S → A → Bool) (next : S → A → S) where
-  pub scan-found : (s : S) (m at : ℕ) (p : List ℕ) (o : Wrong) → orNext (wrongIn k allowed next s m at (drop at p)) o ≡ found p (expectedIn k allowed next s m at p) o
-  scan-found s zero at p o = refl
-  scan-found s (suc m) at p o =
-      let t : S = next s (k .read (drop at p)) in
-      let e : orNext (wrongIn k allowed next t m (at + sizeOf k) (drop (sizeOf k) (drop at p))) o ≡ found p (expectedIn k allowed next t m (at + sizeOf k) p) o =
-      rw (drop-drop (sizeOf k) at p) (scan-found t m (at + sizeOf k) p o) in
-      cases (fits k allowed s (drop at p)) (λ f. rw f e) (λ f. rw f)
+-- records of one kind, the first at the offset `first`
+module _ {A S : Type 0} (k : Kind A) (allowed : S → A → Bool) (next : S → A → S) (s : S) (first : ℕ) (p : List ℕ) where
+  -- where record i starts, and what the records before it leave
+  abbrev pub placeOf : ℕ → ℕ
+  placeOf i = first + i * sizeOf k
+
+  abbrev pub leftBy : ℕ → S
+  leftBy zero = s
+  leftBy (suc i) = next (leftBy i) (k .read (drop (placeOf i) p))
+
+  abbrev pub expectedAt : ℕ → Expected
+  expectedAt i = record { at = placeOf i; kind = k .number; body = k .body; allowed = allowed (leftBy i) (k .read (drop (placeOf i) p)) }
+
+  module _ (f : ℕ → Expected) (same : (i : ℕ) → expectedAt i ≡ f i) (o : Wrong) where
+    -- m records from record i on, then the others
+    from-found : (i m : ℕ) → orNext (wrongIn k allowed next (leftBy i) m (placeOf i) (drop (placeOf i) p)) o ≡ found p (map f (countFrom i m)) o
+    from-found i zero = refl
+    from-found i (suc m) =
+        let there : placeOf i + sizeOf k ≡ placeOf (suc i) = rw (suc-mul i (sizeOf k)) (omega arith) in
+        let e : orNext (wrongIn k allowed next (leftBy (suc i)) m (placeOf i + sizeOf k) (drop (sizeOf k) (drop (placeOf i) p))) o ≡ found p (map f (countFrom (suc i) m)) o =
+        rw (drop-drop (sizeOf k) (placeOf i) p, there) (from-found (suc i) m) in
+        let one : orNext (wrongIn k allowed next (leftBy i) (suc m) (placeOf i) (drop (placeOf i) p)) o ≡ cond (rightTest p (expectedAt i)) (found p (map f (countFrom (suc i) m)) o) (At (placeOf i)) =
+        cases (fits k allowed (leftBy i) (drop (placeOf i) p)) (λ t. rw t e) (λ t. rw t) in
+        one ∙ ap (λ (d : Expected). cond (rightTest p d) (found p (map f (countFrom (suc i) m)) o) (At (d .at))) (same i)
+
+    pub scan-found : (m : ℕ) → orNext (wrongIn k allowed next s m first (drop first p)) o ≡ found p (map f (countFrom 0 m)) o
+    scan-found m =
+        let start : placeOf 0 ≡ first = rw (zero-mul (sizeOf k)) (omega arith) in
+        rw start at (from-found 0 m)
 
 -- ---- the plane
 
--- the end, and nothing after it
-end-found : (at : ℕ) (p : List ℕ) → endWrong at (drop at p) ≡ found p (expectedEnd at p ∷ []) (more p (at + endLength))
-end-found at p =
-    cases (endFits q)
-    (λ e.
-    let l : endBody < length q = whole-length endKind endBody q (both (whole endKind endBody q) _ e .0) in
-    ap (λ (b : Bool). cond (endFits q) (cond b Nowhere (At (at + endLength))) (At at)) (same (rw length-drop at l)))
-    (λ e. rw e)
-  where
-    q : List ℕ
-    q = drop at p
+-- the end is all that is left exactly if nothing follows it
+nothing-after : (at : ℕ) (p : List ℕ) → endBody < length (drop at p) → eqb (length (drop at p)) endLength ≡ leb (length p) (at + endLength)
+nothing-after at p h =
+    let l : endBody < length p - at = rw length-drop at h in
+    cases (leb (length p) (at + endLength))
+    (λ t. let n : length p ≤ at + endLength = leb-true _ _ t in eq-eqb (length (drop at p)) endLength (rw length-drop (omega arith)) ∙ sym t)
+    (λ t. let n : at + endLength < length p = leb-false _ _ t in ne-eqb (length (drop at p)) endLength (λ x. let y : length p - at ≡ endLength = rw length-drop at x in omega arith) ∙ sym t)
 
-    same : endBody < length p - at → eqb (length q) endLength ≡ leb (length p) (at + endLength)
-    same l =
-        cases (leb (length p) (at + endLength))
-        (λ t. let n : length p ≤ at + endLength = leb-true _ _ t in eq-eqb (length q) endLength (rw length-drop (omega arith)) ∙ sym t)
-        (λ t. let n : at + endLength < length p = leb-false _ _ t in ne-eqb (length q) endLength (λ x. let y : length p - at ≡ endLength = rw length-drop at x in omega arith) ∙ sym t)
-
-pub wrong-found : (F : Format) (p : List ℕ)
-    → wrongAt F p ≡ found p (expected F p) (more p (planeLength F (bucketCount p) (baseCount p)))
-unfolding wrongAt bucketsWrong entriesWrong
-wrong-found F p =
-    let m : ℕ = bucketCount p in
-    let k : ℕ = baseCount p in
-    let bs : List Expected = expectedIn (bucketRecords F) boundAllowed (λ s b. s) tt m bucketsAt p in
-    let es : List Expected = expectedIn entryRecords entryAllowed exceeding 0 k (entriesAt F m) p in
-    let end : List Expected = expectedEnd (endAt F m k) p ∷ [] in
-    let o : Wrong = more p (planeLength F m k) in
-    ap (λ (x : Wrong). cond (headerFits F p) x (At 0))
-    (ap (λ (x : Wrong). orNext (bucketsWrong F m bucketsAt (drop bucketsAt p)) (orNext (entriesWrong 0 k (entriesAt F m) (drop (entriesAt F m) p)) x)) (end-found (endAt F m k) p)
-    ∙ ap (orNext (bucketsWrong F m bucketsAt (drop bucketsAt p))) (scan-found entryRecords entryAllowed exceeding 0 k (entriesAt F m) p (found p end o))
-    ∙ scan-found (bucketRecords F) boundAllowed (λ s b. s) tt m bucketsAt p (found p es (found p end o))
-    ∙ sym (found-append p bs (es ++ end) o ∙ ap (found p bs) (found-append p es end o)))
-
--- cause 10's offset, and none
 module _ (F : Format) (p : List ℕ) where
+  abbrev m : ℕ
+  m = bucketCount p
+
+  abbrev k : ℕ
+  k = baseCount p
+
+  entry-same : (i : ℕ) → expectedAt entryRecords entryAllowed exceeding 0 (entriesAt F m) p i ≡ expectedEntry F p i
+  entry-same zero = ap (λ (b : Bool). record { at = entryAt F p 0; kind = entryKind; body = entryBody; allowed = b }) (leb·zero (entryWord F p 0))
+  entry-same (suc i) = refl
+
+  end-found : endWrong (endAt F m k) (drop (endAt F m k) p) ≡ found p (expectedEnd F p ∷ []) (more p (planeLength F m k))
+  end-found =
+      let q : List ℕ = drop (endAt F m k) p in
+      cases (endFits q)
+      (λ e. ap (λ (b : Bool). cond (endFits q) (cond b Nowhere (At (planeLength F m k))) (At (endAt F m k)))
+      (nothing-after (endAt F m k) p (whole-length endKind endBody q (both (whole endKind endBody q) _ e .0))))
+      (λ e. rw e)
+
+  pub wrong-found : wrongAt F p ≡ found p (expected F p) (more p (planeLength F m k))
+  unfolding wrongAt bucketsWrong entriesWrong
+  wrong-found =
+      let bs : List Expected = map (expectedBucket F p) (countFrom 0 m) in
+      let es : List Expected = map (expectedEntry F p) (countFrom 0 k) in
+      let end : List Expected = expectedEnd F p ∷ [] in
+      let o : Wrong = more p (planeLength F m k) in
+      ap (λ (x : Wrong). cond (headerFits F p) x (At 0))
+      (ap (λ (x : Wrong). orNext (bucketsWrong F m bucketsAt (drop bucketsAt p)) (orNext (entriesWrong 0 k (entriesAt F m) (drop (entriesAt F m) p)) x)) end-found
+      ∙ ap (orNext (bucketsWrong F m bucketsAt (drop bucketsAt p))) (scan-found entryRecords entryAllowed exceeding 0 (entriesAt F m) p (expectedEntry F p) entry-same (found p end o) k)
+      ∙ scan-found (bucketRecords F) boundAllowed (λ s b. s) tt bucketsAt p (expectedBucket F p) (λ i. refl) (found p es (found p end o)) m
+      ∙ sym (found-append p bs (es ++ end) o ∙ ap (found p bs) (found-append p es end o)))
+
+  -- cause 10's offset, and none
   pub offset-exactly : (at : ℕ) → (wrongAt F p ≡ At at) ↔ WrongOffset F p at
   offset-exactly at =
-      let e = found-exactly p (planeLength F (bucketCount p) (baseCount p)) at (expected F p) in
-      (λ f. e .0 (sym (wrong-found F p) ∙ f), λ w. wrong-found F p ∙ e .1 w)
+      let e = found-exactly p (planeLength F m k) at (expected F p) in
+      (λ f. e .0 (sym wrong-found ∙ f), λ w. wrong-found ∙ e .1 w)
 
   pub nowhere-exactly : (wrongAt F p ≡ Nowhere) ↔ RightPlane F p
   nowhere-exactly =
-      let e = found-nowhere p (planeLength F (bucketCount p) (baseCount p)) (expected F p) in
-      (λ f. e .0 (sym (wrong-found F p) ∙ f), λ w. wrong-found F p ∙ e .1 w)
+      let e = found-nowhere p (planeLength F m k) (expected F p) in
+      (λ f. e .0 (sym wrong-found ∙ f), λ w. wrong-found ∙ e .1 w)

@@ -17,7 +17,7 @@ use Rattle.gf2.specs.Vectors.{product}
 use Rattle.hash.specs.Mix.{mixOf}
 use Rattle.identifier.specs.Place.{thresholdAt, bucketAt}
 use Rattle.plane.specs.declared.Held.the-variants.{Plan, Passed}
-use Rattle.plane.specs.Record.{Format, readAll, wordBytes, wordFrom, bucketFrom, entryFrom, bucketLength, entryLength}
+use Rattle.plane.specs.Record.{Format, readAll, wordBytes, wordFrom, bucketFrom, entryFrom, entryBody, bucketLength, entryLength}
 use Rattle.plane.specs.Lookup.{bucketOf, levelPlan}
 
 module _ {A : Type 0} (size : ℕ) (read : List ℕ → A) where
@@ -61,7 +61,7 @@ entry-part at p =
   where
     go : (q : List ℕ) → entryFrom (take entryLength q) ≡ entryFrom q
     go [] = refl
-    go (x ∷ q) = rw (take-take 8 9 q (lit≤ tt), getD-take 9 q 8 0 (lit< tt))
+    go (x ∷ q) = rw (take-take wordBytes entryBody q (lit≤ tt), getD-take entryBody q wordBytes 0 (lit< tt))
 
 -- solution word i of a bucket
 pub word-at : (F : Format) (i : ℕ) (p : List ℕ) → i < F .words → wordFrom (drop (2 + i * wordBytes) p) ≡ getD (bucketFrom F p .sols) i 0

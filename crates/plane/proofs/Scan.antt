@@ -17,7 +17,7 @@ use Rattle.concrete.specs.Layout.{inRange, mostBuckets1, mostBuckets2}
 use Rattle.plane.specs.declared.Wrong.{Wrong}
 use Rattle.plane.specs.declared.Wrong.the-variants.{Nowhere, At}
 use Rattle.plane.specs.Record.{Format, Kind, sizeOf, bucketRecords, entryRecords, headerKind, headerBody, entryKind, entryBody, entryFrom, bucketLength, entryLength, endLength}
-use Rattle.plane.specs.Plane.{fits, wrongIn, boundAllowed, entryAllowed, exceeding, bucketCount, baseCount, whole, headerFits, bucketFits, bucketsWrong, entryFits, entriesWrong, endFits, endWrong, orNext, recordsWrong, wrongAt, bucketsAt, entriesAt, endAt, planeLength}
+use Rattle.plane.specs.Plane.{fits, wrongIn, boundAllowed, entryAllowed, exceeding, buckets1, buckets2, bucketCount, baseCount, whole, headerFits, bucketFits, bucketsWrong, entryFits, entriesWrong, endFits, endWrong, orNext, recordsWrong, wrongAt, bucketsAt, entriesAt, endAt, planeLength}
 
 -- two tests that hold
 pub both : (a b : Bool) → (a && b) ≡ true → (a ≡ true) × (b ≡ true)
@@ -154,20 +154,20 @@ module _ (at : ℕ) (p : List ℕ) where
 -- what a header that fits says
 pub record Header (p : List ℕ) : Type 0 where
   pub there : headerBody < length p
-  pub some1 : 1 ≤ getD p 2 0
-  pub most1 : getD p 2 0 ≤ mostBuckets1
-  pub some2 : 1 ≤ getD p 3 0
-  pub most2 : getD p 3 0 ≤ mostBuckets2
-  pub entries : getD p 4 0 ≤ baseLimit
+  pub some1 : 1 ≤ buckets1 p
+  pub most1 : buckets1 p ≤ mostBuckets1
+  pub some2 : 1 ≤ buckets2 p
+  pub most2 : buckets2 p ≤ mostBuckets2
+  pub entries : baseCount p ≤ baseLimit
 
 pub header : (F : Format) (p : List ℕ) → headerFits F p ≡ true → Header p
 header F p e =
     let a = both (whole headerKind headerBody p) _ e in
     let b = both (eqb (getD p 1 0) (F .number)) _ (a .1) in
-    let c = both (inRange (getD p 2 0) (getD p 3 0)) _ (b .1) in
-    let d = both (leb 1 (getD p 2 0) && leb (getD p 2 0) mostBuckets1) _ (c .0) in
-    let d1 = both (leb 1 (getD p 2 0)) _ (d .0) in
-    let d2 = both (leb 1 (getD p 3 0)) _ (d .1) in
+    let c = both (inRange (buckets1 p) (buckets2 p)) _ (b .1) in
+    let d = both (leb 1 (buckets1 p) && leb (buckets1 p) mostBuckets1) _ (c .0) in
+    let d1 = both (leb 1 (buckets1 p)) _ (d .0) in
+    let d2 = both (leb 1 (buckets2 p)) _ (d .1) in
     record {
       there = whole-length headerKind headerBody p (a .0);
       some1 = leb-true 1 _ (d1 .0);

@@ -2,18 +2,20 @@
 -- kind 4", without the scan: the records that the bytes must have, each with its offset, and what is wrong with one. `wrongAt` finds just this
 -- offset: proofs/Offset.antt.
 -- Assumes nothing.
-use Prim.Native.Nat.{ℕ, zero, suc, _+_, _<_}
+use Prim.Native.Nat.{ℕ, zero, suc, _+_, _*_, _<_}
 use mathlib.Core.Path.{_≡_}
 use mathlib.Core.Logic.{_⊎_}
-use mathlib.Core.Bool.{Bool, false, _&&_}
-use mathlib.Core.List.{List, [], _∷_, _++_}
-use lib.Dec.{eqb, leb}
+use mathlib.Core.Bool.{Bool, true, false, _&&_}
+use mathlib.Core.List.{List, [], _∷_, _++_, map}
+use lib.Dec.{eqb, leb, ltb}
 use lib.ListN.{length, getD, take, drop}
+use Rattle.lists.specs.Lists.{countFrom}
 use Rattle.codec.specs.Bytes.{eqList}
+use Rattle.bucket.specs.Bucket.{largestBound}
 use Rattle.model.specs.Model.{baseLimit}
 use Rattle.concrete.specs.Layout.{inRange}
-use Rattle.plane.specs.Record.{Format, Kind, sizeOf, headerKind, headerBody, bucketRecords, entryRecords, endKind, endBody, endBytes}
-use Rattle.plane.specs.Plane.{buckets1, buckets2, bucketCount, baseCount, bucketsAt, entriesAt, endAt, planeLength, boundAllowed, entryAllowed, exceeding}
+use Rattle.plane.specs.Record.{Format, headerKind, headerBody, bucketBody, bucketLength, bucketFrom, entryKind, entryBody, entryLength, entryFrom, endKind, endBody, endBytes}
+use Rattle.plane.specs.Plane.{buckets1, buckets2, bucketCount, baseCount, bucketsAt, entriesAt, endAt, planeLength}
 
 -- a record that the bytes must have: the offset of its first byte, its kind, how many bytes follow the kind byte, whether its value is allowed
 pub record Expected : Type 0 where
@@ -37,32 +39,45 @@ abbrev pub NoneWrong : List ℕ → List Expected → ℕ → Type 0
 NoneWrong p [] end = end < length p → ⊥
 NoneWrong p (d ∷ ds) end = (WrongRecord p d → ⊥) × NoneWrong p ds end
 
--- ---- the records of a plane
-
--- m records of the kind k, the first at the offset at; s is what the records before leave
-abbrev pub expectedIn : {A S : Type 0} → Kind A → (S → A → Bool) → (S → A → S) → S → ℕ → ℕ → List ℕ → List Expected
-expectedIn k allowed next s zero at p = []
-expectedIn k allowed next s (suc m) at p =
-    record { at = at; kind = k .number; body = k .body; allowed = allowed s (k .read (drop at p)) }
-    ∷ expectedIn k allowed next (next s (k .read (drop at p))) m (at + sizeOf k) p
+-- ---- the records of a plane, as many as its header says
 
 -- "formats other than 1, bucket numbers out of range and over 64 entries are not allowed"
 abbrev pub expectedHeader : Format → List ℕ → Expected
 expectedHeader F p =
     record { at = 0; kind = headerKind; body = headerBody; allowed = eqb (getD p 1 0) (F .number) && (inRange (buckets1 p) (buckets2 p) && leb (baseCount p) baseLimit) }
 
--- kind 4, whose body is the fixed byte string
-abbrev pub expectedEnd : ℕ → List ℕ → Expected
-expectedEnd at p = record { at = at; kind = endKind; body = endBody; allowed = eqList (take endBody (drop 1 (drop at p))) endBytes }
+-- bucket i: "nor is a bound over 8"
+abbrev pub expectedBucket : Format → List ℕ → ℕ → Expected
+expectedBucket F p i =
+    let at : ℕ = bucketsAt + i * bucketLength F in
+    record { at = at; kind = F .bucketKind; body = bucketBody F; allowed = leb (bucketFrom F (drop at p) .bound) largestBound }
 
--- the records of a plane, as many as its header says: the header; each bucket, "nor is a bound over 8"; each base entry, which "must exceed the
--- one before"; the end
+-- where base entry i starts, and its word
+abbrev pub entryAt : Format → List ℕ → ℕ → ℕ
+entryAt F p i = entriesAt F (bucketCount p) + i * entryLength
+
+abbrev pub entryWord : Format → List ℕ → ℕ → ℕ
+entryWord F p i = entryFrom (drop (entryAt F p i) p) .word
+
+-- "a base record must exceed the one before"
+abbrev pub exceedsBefore : Format → List ℕ → ℕ → Bool
+exceedsBefore F p zero = true
+exceedsBefore F p (suc i) = ltb (entryWord F p i) (entryWord F p (suc i))
+
+abbrev pub expectedEntry : Format → List ℕ → ℕ → Expected
+expectedEntry F p i = record { at = entryAt F p i; kind = entryKind; body = entryBody; allowed = exceedsBefore F p i }
+
+-- "Kind 4 closes": its body is the fixed byte string
+abbrev pub expectedEnd : Format → List ℕ → Expected
+expectedEnd F p =
+    let at : ℕ = endAt F (bucketCount p) (baseCount p) in
+    record { at = at; kind = endKind; body = endBody; allowed = eqList (take endBody (drop 1 (drop at p))) endBytes }
+
+-- in order
 abbrev pub expected : Format → List ℕ → List Expected
 expected F p =
     expectedHeader F p
-    ∷ (expectedIn (bucketRecords F) boundAllowed (λ s b. s) tt (bucketCount p) bucketsAt p
-    ++ (expectedIn entryRecords entryAllowed exceeding 0 (baseCount p) (entriesAt F (bucketCount p)) p
-    ++ (expectedEnd (endAt F (bucketCount p) (baseCount p)) p ∷ [])))
+    ∷ (map (expectedBucket F p) (countFrom 0 (bucketCount p)) ++ (map (expectedEntry F p) (countFrom 0 (baseCount p)) ++ (expectedEnd F p ∷ [])))
 
 -- at is the offset that cause 10 returns
 abbrev pub WrongOffset : Format → List ℕ → ℕ → Type 0

@@ -1,7 +1,8 @@
 // The plane: the small file that every post reads to find the plan of an identifier. Its records, its reader and the lookup, for any bytes.
-// Definitions, in document 01's words: specs/Record.antt and specs/Plane.antt (the bytes, which planes are wrong, what the bytes say),
-// specs/Lookup.antt (the call), specs/Fits.antt (its limits). Laws: proofs/Round.antt and proofs/Exact.antt (just the planes within
-// the limits have bytes that are wrong nowhere); the statements stand with the writer.
+// Definitions, in document 01's words: specs/Record.antt and specs/Plane.antt (the bytes in each format, which planes are wrong, what the
+// bytes say), specs/Lookup.antt (the call), specs/Fits.antt (its limits), specs/Offset.antt (the offset of what is wrong, without the
+// scan), specs/Causes.antt. Laws: proofs/Scan.antt (a scan of records of any kind), proofs/Round.antt and proofs/Exact.antt (just the
+// planes within the limits have bytes that are wrong nowhere), proofs/Offset.antt, proofs/Causes.antt; the statements stand with the writer.
 // Cites codec, identifier, bucket, concrete and layout (the numbers of buckets). The writer and the library for C cite it.
 use answer::Answer;
 use bucket::Bucket;
@@ -40,17 +41,20 @@ pub enum Held {
 pub struct Record {}
 
 impl Record {
+    // The bytes of a 64-bit number.
+    pub const WORD_LEN: usize = 8;
+
     pub const HEADER: u8 = 1;
 
     pub const HEADER_BODY: usize = 4;
 
     pub const BUCKET: u8 = 2;
 
-    pub const BUCKET_BODY: usize = 1 + 8 * Bucket::SOLUTIONS;
+    pub const BUCKET_BODY: usize = 1 + Record::WORD_LEN * Bucket::SOLUTIONS;
 
     pub const ENTRY: u8 = 3;
 
-    pub const ENTRY_BODY: usize = 9;
+    pub const ENTRY_BODY: usize = Record::WORD_LEN + 1;
 
     pub const END: u8 = 4;
 
@@ -58,6 +62,20 @@ impl Record {
 
     // The format of the planes.
     pub const FORMAT: u8 = 1;
+
+    // Where the numbers of a header stand.
+    pub const FORMAT_AT: usize = 1;
+
+    pub const BUCKETS_1_AT: usize = 2;
+
+    pub const BUCKETS_2_AT: usize = 3;
+
+    pub const BASE_COUNT_AT: usize = 4;
+
+    // Where the bound of a bucket stands in its record, and its solution words.
+    pub const BOUND_AT: usize = 1;
+
+    pub const SOLUTIONS_AT: usize = 2;
 
     // Where the buckets start.
     pub const BUCKETS_AT: usize = 1 + Record::HEADER_BODY;
@@ -103,13 +121,13 @@ pub(crate) fn header_fits(p: &[u8]) -> bool
     if !whole(p, Record::HEADER, Record::HEADER_BODY) {
         return false;
     }
-    if p[1] != Record::FORMAT {
+    if p[Record::FORMAT_AT] != Record::FORMAT {
         return false;
     }
-    if !layout::in_range(wide(p[2]), wide(p[3])) {
+    if !layout::in_range(wide(p[Record::BUCKETS_1_AT]), wide(p[Record::BUCKETS_2_AT])) {
         return false;
     }
-    wide(p[4]) <= Table::BASE_ENTRIES
+    wide(p[Record::BASE_COUNT_AT]) <= Table::BASE_ENTRIES
 }
 
 // A bucket in front, with a bound of at most 8.
@@ -119,7 +137,7 @@ pub(crate) fn bucket_fits(p: &[u8]) -> bool
     if !whole(p, Record::BUCKET, Record::BUCKET_BODY) {
         return false;
     }
-    wide(p[1]) <= Bucket::LARGEST_BOUND
+    wide(p[Record::BOUND_AT]) <= Bucket::LARGEST_BOUND
 }
 
 // m buckets from the offset first on.
@@ -254,7 +272,11 @@ pub fn wrong_at(plane: &[u8]) -> Wrong
     if !header_fits(plane) {
         return Wrong::At(0);
     }
-    records_wrong(plane, size(plane[2]) + size(plane[3]), size(plane[4]))
+    records_wrong(
+        plane,
+        size(plane[Record::BUCKETS_1_AT]) + size(plane[Record::BUCKETS_2_AT]),
+        size(plane[Record::BASE_COUNT_AT]),
+    )
 }
 
 // Solution word i of the bucket in front.
@@ -262,7 +284,7 @@ pub(crate) fn solution(p: &[u8], i: usize) -> u64
     requires { ⌜ i < solutions ⌝ }
     ensures { λ r. ⌜ r ≡ getD (bucketFrom format1 (now (p .entry)) .sols) i 0 ⌝ }
 {
-    codec::get_u64(p, 2 + i * 8)
+    codec::get_u64(p, Record::SOLUTIONS_AT + i * Record::WORD_LEN)
 }
 
 // The plan that the bucket in front gives for the vector v.
@@ -306,7 +328,7 @@ pub(crate) fn level_plan(p: &[u8], m: u8, v: u64) -> Held
     let at = i * Record::BUCKET_LEN;
     let next = at + Record::BUCKET_LEN;
     let b = &p[at..next];
-    if identifier::threshold(v) < wide(b[1]) {
+    if identifier::threshold(v) < wide(b[Record::BOUND_AT]) {
         return Held::Plan(bucket_plan(b, v));
     }
     Held::Passed
@@ -317,13 +339,13 @@ pub(crate) fn second_plan(plane: &[u8], v: u64) -> u64
     requires { ⌜ wrongAt format1 (now plane) ≡ Nowhere ⌝ }
     ensures { λ r. ⌜ r ≡ secondPlan (planeFrom format1 (now (plane .entry))) v ⌝ }
 {
-    let at = Record::BUCKETS_AT + size(plane[2]) * Record::BUCKET_LEN;
-    let held = level_plan(&plane[at..], plane[3], v);
+    let at = Record::BUCKETS_AT + size(plane[Record::BUCKETS_1_AT]) * Record::BUCKET_LEN;
+    let held = level_plan(&plane[at..], plane[Record::BUCKETS_2_AT], v);
     match held {
         Held::Plan(plan) => plan,
         Held::Passed => {
-            let entries_at = at + size(plane[3]) * Record::BUCKET_LEN;
-            base_plan(&plane[entries_at..], size(plane[4]), v)
+            let entries_at = at + size(plane[Record::BUCKETS_2_AT]) * Record::BUCKET_LEN;
+            base_plan(&plane[entries_at..], size(plane[Record::BASE_COUNT_AT]), v)
         }
     }
 }
@@ -333,7 +355,7 @@ pub(crate) fn plan_in(plane: &[u8], w: u64) -> u64
     requires { ⌜ wrongAt format1 (now plane) ≡ Nowhere ⌝ }
     ensures { λ r. ⌜ r ≡ planFrom (planeFrom format1 (now (plane .entry))) w ⌝ }
 {
-    let held = level_plan(&plane[Record::BUCKETS_AT..], plane[2], w);
+    let held = level_plan(&plane[Record::BUCKETS_AT..], plane[Record::BUCKETS_1_AT], w);
     match held {
         Held::Plan(plan) => plan,
         Held::Passed => second_plan(plane, identifier::second(w)),

@@ -1,25 +1,24 @@
 -- The writer gives each number if and only if its cause is the first met, and where it is turned down the output stays as it was.
 -- Assumes nothing.
-use Prim.Native.Nat.{ℕ}
+use Prim.Native.Nat.{ℕ, _^_, _<_}
 use mathlib.Core.Path.{_≡_, refl}
 use mathlib.Core.Bool.{false, true≢false}
 use mathlib.Core.List.{List, [], _∷_}
 use lib.Dec.{ltb, lit<}
-use lib.ListN.{length}
+use lib.ListN.{length, getD}
 use borrow.Author.Tests.{ltb-true, lt-ltb}
 use Rattle.lists.proofs.Tests.{by-test}
 use Rattle.answer.specs.declared.Answer.{Answer}
+use Rattle.answer.specs.declared.Answer.the-variants.{WrongTable, NotSound}
 use Rattle.answer.specs.Causes.{InOrder, Exactly}
-use Rattle.answer.proofs.Causes.{one-value, one-if, Given, exactly, unless-met, if-met}
+use Rattle.answer.proofs.Causes.{one-value, one-if, Given, exactly, if-met}
 use Rattle.model.specs.Machine.{accepted}
-use Rattle.concrete.specs.Calls.{tableOf, shaped, sound}
-use Rattle.concrete.specs.Causes.{notSound}
-use Rattle.concrete.proofs.Causes.{shape-exactly, unsound-exactly}
+use Rattle.concrete.specs.Calls.{rows, tableOf, shaped, sound}
+use Rattle.concrete.proofs.Causes.{table-given}
 use Rattle.plane.specs.Record.{format1}
 use Rattle.plane.specs.Plane.{planeBytes}
-use Rattle.writing.specs.Write.{planeOf, Written, putFront, writeCall}
+use Rattle.writing.specs.Write.{planeOf, Written, turnedDown, putFront, writeCall}
 use Rattle.writing.specs.Causes.{lengthNeeded, shortOutput, writeCauses, writeReturns}
-use Rattle.writing.proofs.Shown.{Words}
 
 abbrev answerOf : Written → Answer
 answerOf o = o .answer
@@ -37,12 +36,11 @@ module _ (t out : List ℕ) where
       if-met answerOf 9 _ (lengthNeeded t) [] (writeReturns t) (ltb (length out) (length bytes)) _ _ (ltb-true (length out) (length bytes), lt-ltb (length out) (length bytes)) (refl, refl)
       (λ f. (refl, refl))
 
-  pub write-exactly : Words t → Exactly (writeCauses t out) (writeReturns t) (writeCall t out .answer)
+  pub write-exactly : ((i : ℕ) → getD t i 0 < 2 ^ rows) → Exactly (writeCauses t out) (writeReturns t) (writeCall t out .answer)
   unfolding writeCall
-  write-exactly w =
+  write-exactly b =
       exactly (writeCauses t out) (writeReturns t) (writeCall t out .answer) (one-if 4 _ (length t), (one-if 5 _ 0, (one-if 9 _ (lengthNeeded t), one-value (lengthNeeded t))))
-      (unless-met answerOf 4 _ (length t) (notSound t ∷ shortOutput t out ∷ []) (writeReturns t) (shaped t) _ _ (shape-exactly t) (refl, refl)
-      (λ k. unless-met answerOf 5 _ 0 (shortOutput t out ∷ []) (writeReturns t) (sound t) _ _ (unsound-exactly t k w) (refl, refl) (λ h. room-given)))
+      (table-given t b answerOf (putFront bytes out) (turnedDown NotSound out) (turnedDown (WrongTable (length t)) out) refl refl (shortOutput t out ∷ []) (writeReturns t) (λ k h. room-given))
 
   -- where 4 and 5 are not met
   pub room-exactly : Exactly (shortOutput t out ∷ []) (writeReturns t) (putFront bytes out .answer)

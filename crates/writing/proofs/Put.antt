@@ -15,7 +15,7 @@ use Rattle.codec.proofs.Round.{length-toBytes}
 use Rattle.bucket_words.specs.Words.{bucketWords, bucketFrom}
 use Rattle.concrete.specs.Layout.{header, bucketPlace}
 use Rattle.concrete.proofs.Numbers.{from-part}
-use Rattle.plane.specs.Record.{Format, bytesOf, readAll, wordBytes, bucketRecord, entryKind, entryRecord, endRecord, bucketLength, entryLength}
+use Rattle.plane.specs.Record.{Format, bytesOf, readAll, wordBytes, bucketRecord, entryKind, entryBody, entryRecord, endRecord, bucketLength, entryLength}
 use Rattle.plane.specs.Plane.{bucketsAt, entriesAt, endAt}
 use Rattle.plane.proofs.Read.{length-readAll, read-add}
 use Rattle.writing.specs.Steps.{seenFrom, pairFrom, recordsOf}
@@ -24,9 +24,9 @@ use Rattle.plane.proofs.Round.{Sized, bytes-append, length-bytes}
 
 -- the record of a base entry, once the byte of its kind and its word are there
 pub entry-put : (a w plan : ℕ) (t l : List ℕ) → l ≡ written (a + 1) (toBytes wordBytes w) (set t a entryKind)
-    → set l (a + 9) plan ≡ written a (entryRecord (record { word = w; plan = plan })) t
+    → set l (a + entryBody) plan ≡ written a (entryRecord (record { word = w; plan = plan })) t
 entry-put a w plan t l e =
-    let n : a + 9 ≡ a + 1 + length (toBytes wordBytes w) = omega (arith, length-toBytes wordBytes w) in
+    let n : a + entryBody ≡ a + 1 + length (toBytes wordBytes w) = omega (arith, length-toBytes wordBytes w) in
     rw (e, n) (sym (written-more (a + 1) plan (toBytes wordBytes w) (set t a entryKind)) ∙ written-cons a entryKind (toBytes wordBytes w ++ (plan ∷ [])) t)
 
 -- one more thing after xs

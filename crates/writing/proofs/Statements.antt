@@ -5,9 +5,9 @@ use mathlib.Core.Path.{_≡_, refl, ap, _∙_}
 use mathlib.Core.Bool.{false}
 use mathlib.Core.List.{List, [], _∷_}
 use mathlib.Core.Option.{some}
-use Prim.Native.Nat.{ℕ, _+_, _*_, _<_}
+use Prim.Native.Nat.{ℕ, _+_, _*_, _^_, _<_}
 use native.Mathlib.Omega.{arith}
-use lib.ListN.{length, take}
+use lib.ListN.{length, getD, take}
 use Rattle.answer.specs.declared.Answer.the-variants.{Accepted}
 use Rattle.answer.specs.Numbers.{numberOf, valueOf}
 use Rattle.answer.specs.Causes.{NoneMet, InOrder, Exactly}
@@ -36,7 +36,7 @@ use Rattle.writing.specs.Write.{planeOf, putFront, writeCall, shownTo}
 use Rattle.writing.specs.Causes.{lengthNeeded, shortOutput, writeCauses, writeReturns}
 use Rattle.plane.proofs.Round.{plane-length, written-right, written-read}
 use Rattle.plane.proofs.Exact.{AllBytes, read-written, read-fits}
-use Rattle.plane.proofs.Offset.{offset-exactly, nowhere-exactly}
+use Rattle.plane.proofs.Offset as Offset
 use Rattle.plane.proofs.Causes as PlaneCauses
 use Rattle.writing.proofs.Causes as Causes
 use Rattle.writing.proofs.Accepted.{shows, was-shaped, was-sound, was-written}
@@ -54,12 +54,12 @@ right-exactly F p b = (
 
 -- it is found wrong at an offset exactly if that is "the first byte of the first record that is cut, of a wrong kind, or with a value not
 -- allowed; or the first byte after kind 4"
-pub wrong-exactly : (F : Format) (p : List ℕ) (at : ℕ) → (wrongAt F p ≡ At at) ↔ WrongOffset F p at
-wrong-exactly = offset-exactly
+pub offset-exactly : (F : Format) (p : List ℕ) (at : ℕ) → (wrongAt F p ≡ At at) ↔ WrongOffset F p at
+offset-exactly = Offset.offset-exactly
 
 -- and nowhere exactly if no record is wrong and nothing follows
-pub none-wrong : (F : Format) (p : List ℕ) → (wrongAt F p ≡ Nowhere) ↔ RightPlane F p
-none-wrong = nowhere-exactly
+pub nowhere-exactly : (F : Format) (p : List ℕ) → (wrongAt F p ≡ Nowhere) ↔ RightPlane F p
+nowhere-exactly = Offset.nowhere-exactly
 
 -- the plane that was written is read
 pub read-back : (F : Format) (P : Plane) → Fits F P → planeFrom F (planeBytes F P) ≡ P
@@ -83,7 +83,7 @@ pub lookup-causes : (id p : List ℕ) → Exactly (lookupCauses id p) (lookupRet
 lookup-causes = PlaneCauses.lookup-exactly
 
 -- the writer, 4, 5 and 9; the numbers of a table have 64 bits
-pub write-causes : (t out : List ℕ) → Words t → Exactly (writeCauses t out) (writeReturns t) (writeCall t out .answer)
+pub write-causes : (t out : List ℕ) → ((i : ℕ) → getD t i 0 < 2 ^ 64) → Exactly (writeCauses t out) (writeReturns t) (writeCall t out .answer)
 write-causes = Causes.write-exactly
 
 -- "Order is the table's order"
@@ -98,9 +98,9 @@ pub cause-10 : (id p : List ℕ) (at : ℕ)
     → ((numberOf (lookupCall id p) ≡ 10) × (valueOf (lookupCall id p) ≡ at)) ↔ (NoneMet (wrongLength id ∷ wrongByte id ∷ []) × WrongOffset format1 p at)
 cause-10 id p = number-exactly (wrongLength id ∷ wrongByte id ∷ []) (wrongPlane format1 p) [] (lookupReturns id p) (lookupCall id p) (lookup-order id p) (lookup-causes id p)
 
-pub cause-9 : (t out : List ℕ) → Words t → (v : ℕ)
+pub cause-9 : (t out : List ℕ) → ((i : ℕ) → getD t i 0 < 2 ^ 64) → (v : ℕ)
     → ((numberOf (writeCall t out .answer) ≡ 9) × (valueOf (writeCall t out .answer) ≡ v)) ↔ (NoneMet (wrongTable t ∷ notSound t ∷ []) × ((length out < lengthNeeded t) × (v ≡ lengthNeeded t)))
-cause-9 t out w = number-exactly (wrongTable t ∷ notSound t ∷ []) (shortOutput t out) [] (writeReturns t) (writeCall t out .answer) (write-order t out) (write-causes t out w)
+cause-9 t out b = number-exactly (wrongTable t ∷ notSound t ∷ []) (shortOutput t out) [] (writeReturns t) (writeCall t out .answer) (write-order t out) (write-causes t out b)
 
 -- "Kept as it was": the output
 pub refused-keeps : (t out : List ℕ) → accepted (writeCall t out .answer) ≡ false → writeCall t out .output ≡ out

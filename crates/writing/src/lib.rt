@@ -1,6 +1,6 @@
 // The writer of planes: the plane of a table of any numbers, to the front of the output.
-// Definitions: specs/Write.antt (the call, in document 01's words, and what the plane of a table gives); specs/Steps.antt is for the
-// inner steps alone. Statements of the plane: proofs/Statements.antt.
+// Definitions: specs/Write.antt (the call, in document 01's words, and what the plane of a table gives), specs/Causes.antt; specs/Steps.antt
+// is for the inner steps alone. Statements of the plane: proofs/Statements.antt.
 // Cites codec, bucket, concrete (the table), layout and sound (its tests) and plane (the records). The library for C cites it.
 use answer::Answer;
 use bucket::Bucket;
@@ -15,7 +15,7 @@ ghost use Rattle.codec.specs.Parts.{written};
 ghost use Rattle.bucket_words.specs.Words.{bucketWords};
 ghost use Rattle.model.specs.Model.{baseLimit};
 ghost use Rattle.concrete.specs.Layout.{mostBuckets1, mostBuckets2, header, bucketPlace};
-ghost use Rattle.plane.specs.Record.{format1, bytesOf, readAll, bucketLength, entryLength, endLength, headerRecord, bucketRecord, entryRecord, endRecord};
+ghost use Rattle.plane.specs.Record.{format1, wordBytes, bytesOf, readAll, bucketLength, entryLength, endLength, headerRecord, bucketRecord, entryRecord, endRecord};
 ghost use Rattle.plane.specs.Plane.{planeBytes, bucketsAt, planeLength};
 ghost use Rattle.concrete.specs.Calls.{rows, solutions, tableOf, shaped, sound};
 ghost use Rattle.writing.specs.Write.{planeOf, inFront, putFront, writeCall};
@@ -23,12 +23,12 @@ ghost use Rattle.writing.specs.Steps.{seenFrom, pairFrom, recordsOf};
 
 // Writes the words from the offset at on, 8 bytes each.
 pub(crate) fn put_words(out: &mut [u8], at: usize, words: &[u64])
-    requires { ⌜ at + length (now words) * 8 ≤ length (now out) ⌝ }
-    ensures { λ _. ⌜ now (out .exit) ≡ written at (bytesOf (toBytes 8) (now (words .entry))) (now (out .entry)) ⌝ }
+    requires { ⌜ at + length (now words) * wordBytes ≤ length (now out) ⌝ }
+    ensures { λ _. ⌜ now (out .exit) ≡ written at (bytesOf (toBytes wordBytes) (now (words .entry))) (now (out .entry)) ⌝ }
 {
     let mut i = 0;
     while i < words.len() {
-        codec::put_u64(out, at + i * 8, words[i]);
+        codec::put_u64(out, at + i * Record::WORD_LEN, words[i]);
         i += 1;
     }
 }
@@ -39,8 +39,12 @@ pub(crate) fn put_bucket(out: &mut [u8], at: usize, b: &[u64])
     ensures { λ _. ⌜ now (out .exit) ≡ written at (bucketRecord format1 (seenFrom rows solutions (now (b .entry)))) (now (out .entry)) ⌝ }
 {
     out[at] = Record::BUCKET;
-    out[at + 1] = b[Bucket::BOUND_AT] as u8;
-    put_words(out, at + 2, &b[Bucket::SOLUTIONS_AT..Bucket::BOUND_AT]);
+    out[at + Record::BOUND_AT] = b[Bucket::BOUND_AT] as u8;
+    put_words(
+        out,
+        at + Record::SOLUTIONS_AT,
+        &b[Bucket::SOLUTIONS_AT..Bucket::BOUND_AT],
+    );
 }
 
 // Writes the record of a base entry at the offset at.

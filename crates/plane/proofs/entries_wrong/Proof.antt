@@ -50,7 +50,7 @@ entry-word-requires c κs = search needs
 entries-after-requires : tie.Need-entries-after-requires
 entries-after-requires c κs =
     let a = c .before .before .before .before .before .before .args in
-    whole-next 3 9 (a .first) (a .plane .now) (there (c .before))
+    whole-next entryKind entryBody (a .first) (a .plane .now) (there (c .before))
 
 returns-3 : tie.Need-returns-3
 returns-3 c =
