@@ -56,10 +56,8 @@ map-put f [] (suc i) e = refl
 map-put f (x ∷ es) (suc i) e = ap (λ l. f x ∷ l) (map-put f es i e)
 
 -- a turn of the loops: the element at i is carried on
-pub carry-up : (l : List ℕ) (i c : ℕ) → i < length l → putAt (suc i) (getD l i 0) (set l i c) ≡ putAt i c l
-carry-up [] i c h = absurd (not-suc-le-zero h)
-carry-up (y ∷ l) zero c h = refl
-carry-up (y ∷ l) (suc i) c h = ap {B = List ℕ} (λ r. y ∷ r) (carry-up l i c (le-of-suc-le-suc h))
+pub carry-up : (l : List ℕ) (i c : ℕ) → i < length l → putAt (i + 1) (getD l i 0) (set l i c) ≡ putAt i c l
+carry-up l i c h = front-step (λ r. c ∷ r) (λ r. getD l i 0 ∷ r) l i c h (λ r. refl)
 
 pub carry-down : (l : List ℕ) (i c : ℕ) → i < length l → putAt i (getD l i 0) (set l i c) ≡ putAt (suc i) c l
 carry-down [] i c h = absurd (not-suc-le-zero h)

@@ -6,21 +6,18 @@ use native.Mathlib.Omega.{arith}
 use mathlib.Core.Path.{_≡_, refl, sym, ap, ap₂, _∙_}
 use mathlib.Core.List.{List, [], _∷_, _++_, map, map-append, append-assoc}
 use lib.Dec.{ltb}
-use lib.ListN.{length, getD, take, drop, set, replicate, length-append, length-map, length-replicate, replicate-append-replicate}
+use lib.ListN.{length, getD, take, drop, replicate, length-append, length-map, length-replicate, replicate-append-replicate}
 use lib.Seq.{take-at, take-all, drop-append-add, take-append-seam, take-append-le, drop-append-le, take-length, drop-length, paste}
 use borrow.Author.Tests.{lt-ltb, le-ltb}
 use Rattle.lists.specs.Entries.{Entry, words, insert}
 use Rattle.lists.proofs.Tests.{by-test, cases, cond-true, cond-false}
 use Rattle.lists.proofs.Parts.{first-next, first-past, drop-zeros}
-use Rattle.lists.proofs.Loops.{front-step, length-put, map-put}
+use Rattle.lists.proofs.Loops.{length-put, map-put}
 use Rattle.settle.specs.declared.Outgoing.{Outgoing}
 use Rattle.settle.specs.Outgoing.{padded, plans, outgoing}
 use Rattle.settle.specs.Steps.{putIn, putAt, positionOf, inserted, joined}
 
 -- ---- one element more: the loop carries the element that the one before it took the place of
-
-pub carry-step : (l : List ℕ) (i c : ℕ) → i < length l → take (i + 1) (set l i c) ++ getD l i 0 ∷ drop (i + 1) (set l i c) ≡ take i l ++ c ∷ drop i l
-carry-step l i c h = front-step (λ r. c ∷ r) (λ r. getD l i 0 ∷ r) l i c h (λ r. refl)
 
 pub carry-end : (l xs : List ℕ) (at c i x : ℕ) → length l ≤ at → length l ≡ length xs → take at l ++ c ∷ drop at l ≡ take i xs ++ x ∷ drop i xs → l ≡ putIn i x xs
 unfolding putIn

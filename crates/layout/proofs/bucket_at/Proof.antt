@@ -1,10 +1,9 @@
 -- `layout::bucket_at` meets its contract.
 -- Assumes nothing.
-use mathlib.Core.Path.{_≡_, ap, _∙_}
-use Prim.Native.Nat.{ℕ, _+_, _-_}
-use native.Mathlib.Omega.{arith}
-use lib.ListN.{take, drop}
+use mathlib.Core.Path.{ap, _∙_}
+use lib.ListN.{drop}
 use borrow.Author.Needs.{needs}
+use Rattle.lists.proofs.Parts.{stretch}
 use Rattle.bucket_words.specs.Words.{bucketWords, bucketFrom}
 use Rattle.concrete.proofs.Numbers.{from-part}
 use Rattle.concrete.specs.Calls.{rows, solutions}
@@ -32,8 +31,7 @@ load-requires c κs = search needs
 returns : tie.Need-returns
 returns c =
     let a = c .before .before .before .args in
-    let e : a .place + bucketWords rows solutions - a .place ≡ bucketWords rows solutions = omega arith in
-    c .load .ensures ∙ ap (λ (k : ℕ). bucketFrom rows solutions (take k (drop (a .place) (a .t .now)))) e ∙ from-part rows solutions (drop (a .place) (a .t .now))
+    c .load .ensures ∙ ap (bucketFrom rows solutions) (stretch (a .place) (bucketWords rows solutions) (a .t .now)) ∙ from-part rows solutions (drop (a .place) (a .t .now))
 
 pub bucket-at-spec : {M : Type 1} → statement M
 bucket-at-spec =

@@ -3,7 +3,6 @@
 use native.Mathlib.Omega.{arith}
 use borrow.Author.Needs.{needs}
 use Rattle.hash.specs.Mix.{mixOf}
-use Rattle.concrete.specs.Calls.{rows, solutions}
 use Rattle.layout.proofs.Shape.{shape, first-lt, first-bucket}
 use Rattle.layout.proofs.holds_first.Statement.{statement}
 use Rattle.layout.proofs.holds_first.Tie as tie
@@ -15,18 +14,12 @@ first-index-requires : tie.Need-first-index-requires
 first-index-requires c κs = search needs
 
 bound-at-requires : tie.Need-bound-at-requires
-bound-at-requires c κs =
-    let a = c .before .before .before .args in
-    let p = c .before .before .before .pre in
-    let s = shape p in
-    let l = first-lt rows solutions (a .t .now) s mixOf (a .v) in
-    (p, omega arith)
+bound-at-requires c κs = let s = c .before .before .before in (s .pre, omega (arith, first-lt _ _ _ (shape (s .pre)) mixOf (s .args .v)))
 
 returns : tie.Need-returns
 returns c =
-    let a = c .before .before .before .before .args in
-    let s = shape (c .before .before .before .before .pre) in
-    rw (first-bucket rows solutions (a .t .now) s mixOf (a .v), c .before .before .threshold .ensures, c .bound-at .ensures, c .before .first-index .ensures)
+    let s = c .before .before .before .before in
+    rw (first-bucket _ _ _ (shape (s .pre)) mixOf (s .args .v), c .before .before .threshold .ensures, c .bound-at .ensures, c .before .first-index .ensures)
 
 pub holds-first-spec : {M : Type 1} → statement M
 holds-first-spec = tie.close (tie.spec threshold-requires first-index-requires bound-at-requires returns)

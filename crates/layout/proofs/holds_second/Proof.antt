@@ -3,7 +3,6 @@
 use native.Mathlib.Omega.{arith}
 use borrow.Author.Needs.{needs}
 use Rattle.hash.specs.Mix.{mixOf}
-use Rattle.concrete.specs.Calls.{rows, solutions}
 use Rattle.layout.proofs.Shape.{shape, second-lt, second-bucket}
 use Rattle.layout.proofs.holds_second.Statement.{statement}
 use Rattle.layout.proofs.holds_second.Tie as tie
@@ -15,18 +14,12 @@ second-index-requires : tie.Need-second-index-requires
 second-index-requires c κs = search needs
 
 bound-at-requires : tie.Need-bound-at-requires
-bound-at-requires c κs =
-    let a = c .before .before .before .args in
-    let p = c .before .before .before .pre in
-    let s = shape p in
-    let l = second-lt rows solutions (a .t .now) s mixOf (a .v) in
-    (p, omega arith)
+bound-at-requires c κs = let s = c .before .before .before in (s .pre, omega (arith, second-lt _ _ _ (shape (s .pre)) mixOf (s .args .v)))
 
 returns : tie.Need-returns
 returns c =
-    let a = c .before .before .before .before .args in
-    let s = shape (c .before .before .before .before .pre) in
-    rw (second-bucket rows solutions (a .t .now) s mixOf (a .v), c .before .before .threshold .ensures, c .bound-at .ensures, c .before .second-index .ensures)
+    let s = c .before .before .before .before in
+    rw (second-bucket _ _ _ (shape (s .pre)) mixOf (s .args .v), c .before .before .threshold .ensures, c .bound-at .ensures, c .before .second-index .ensures)
 
 pub holds-second-spec : {M : Type 1} → statement M
 holds-second-spec = tie.close (tie.spec threshold-requires second-index-requires bound-at-requires returns)

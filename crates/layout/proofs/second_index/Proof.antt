@@ -3,7 +3,6 @@
 use native.Mathlib.Omega.{arith}
 use borrow.Author.Needs.{needs}
 use Rattle.hash.specs.Mix.{mixOf}
-use Rattle.concrete.specs.Calls.{rows, solutions}
 use Rattle.layout.proofs.Shape.{shape, second-lt}
 use Rattle.layout.proofs.second_index.Statement.{statement}
 use Rattle.layout.proofs.second_index.Tie as tie
@@ -18,11 +17,7 @@ bucket-requires : tie.Need-bucket-requires
 bucket-requires c κs = search needs
 
 add-result : tie.Need-add-result
-add-result c =
-    let a = c .before .before .before .before .args in
-    let s = shape (c .before .before .before .before .pre) in
-    let l = second-lt rows solutions (a .t .now) s mixOf (a .v) in
-    omega arith
+add-result c = let s = c .before .before .before .before in let h = shape (s .pre) in omega (arith, second-lt _ _ _ h mixOf (s .args .v))
 
 returns : tie.Need-returns
 returns c = search needs

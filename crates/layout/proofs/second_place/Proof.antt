@@ -3,7 +3,6 @@
 use native.Mathlib.Omega.{arith}
 use borrow.Author.Needs.{needs}
 use Rattle.hash.specs.Mix.{mixOf}
-use Rattle.concrete.specs.Calls.{rows, solutions}
 use Rattle.layout.proofs.Shape.{shape, second-lt}
 use Rattle.layout.proofs.second_place.Statement.{statement}
 use Rattle.layout.proofs.second_place.Tie as tie
@@ -12,11 +11,7 @@ second-index-requires : tie.Need-second-index-requires
 second-index-requires c κs = search needs
 
 bucket-place-requires : tie.Need-bucket-place-requires
-bucket-place-requires c κs =
-    let a = c .before .before .args in
-    let s = shape (c .before .before .pre) in
-    let l = second-lt rows solutions (a .t .now) s mixOf (a .v) in
-    omega arith
+bucket-place-requires c κs = let s = c .before .before in let h = shape (s .pre) in omega (arith, second-lt _ _ _ h mixOf (s .args .v))
 
 returns : tie.Need-returns
 returns c = search needs

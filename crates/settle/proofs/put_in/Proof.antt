@@ -5,7 +5,8 @@ use mathlib.Core.List.{_∷_, _++_}
 use Prim.Native.Nat.{_-_, _≤_, _<_}
 use native.Mathlib.Omega.{arith}
 use lib.ListN.{length, take, drop, length-set}
-use Rattle.settle.proofs.Arrays.{carry-step, carry-end}
+use Rattle.lists.proofs.Loops.{carry-up}
+use Rattle.settle.proofs.Arrays.{carry-end}
 use borrow.Author.Needs.{needs}
 use Rattle.settle.proofs.put_in.Statement.{statement}
 use Rattle.settle.proofs.put_in.Tie as tie
@@ -41,7 +42,7 @@ loop-again : tie.Need-loop-again Inv-loop μ-loop
 loop-again c =
     let l = c .before .loop in
     let h : l .at < length (l .out) = omega arith in
-    (simp length-set (l .inv .0), carry-step _ _ _ h ∙ l .inv .1)
+    (simp length-set (l .inv .0), carry-up _ _ _ h ∙ l .inv .1)
 
 returns : tie.Need-returns Inv-loop μ-loop
 returns c =
