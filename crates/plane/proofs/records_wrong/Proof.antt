@@ -1,7 +1,6 @@
 -- `plane::records_wrong` meets its contract: each part is looked at where nothing before it is wrong.
 -- Assumes nothing.
 use mathlib.Core.Path.{_≡_, sym, _∙_}
-use Prim.Native.Nat.{_+_, _*_}
 use native.Mathlib.Omega.{arith}
 use borrow.Author.Needs.{needs}
 use lib.ListN.{drop, length-drop}

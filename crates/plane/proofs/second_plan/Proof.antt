@@ -4,7 +4,7 @@ use mathlib.Core.Path.{_≡_, sym, _∙_}
 use Prim.Native.Nat.{_+_, _*_}
 use native.Mathlib.Omega.{arith}
 use borrow.Author.Needs.{needs}
-use lib.ListN.{getD, length-drop}
+use lib.ListN.{length-drop}
 use Rattle.lists.proofs.Parts.{rest}
 use Rattle.plane.specs.Record.{format1, bucketLength}
 use Rattle.plane.specs.Plane.{bucketCount, entriesAt, planeFrom}
