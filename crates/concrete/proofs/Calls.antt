@@ -21,7 +21,7 @@ use Rattle.bucket.specs.declared.Bucket.{Bucket}
 use Rattle.model.specs.Levels.{firstLevel, secondLevel}
 use Rattle.model.specs.Model as M
 use Rattle.model.specs.Model.{baseLimit, State, Call, add, change, withdraw, query, opened, withLive, wouldLeave, base, stepAdd, stepLive, step}
-use Rattle.model.specs.Request.{Token, wordFor, askOf, serveRead, serve}
+use Rattle.model.specs.Request.{Token, wordFor, askOf, serveRead, serve, Request, ask, respond}
 use Rattle.model.proofs.Requests.{word-small}
 use Rattle.concrete.specs.Table as T
 use Rattle.concrete.specs.Table.{Table}
@@ -30,7 +30,7 @@ use Rattle.concrete.specs.Content.{entriesOf}
 use Rattle.concrete.specs.Sound.{SoundLevel, SoundTable}
 use Rattle.concrete.specs.Test.{shapeTest}
 use Rattle.concrete.specs.Calls.{rows, solutions, tableOf, planIn, shaped, sound, FlatSound, Outcome, turnedDown, joined, replaced, queried, served, callRead, call}
-use Rattle.concrete.specs.History.{PlanFits, flatState}
+use Rattle.concrete.specs.History.{PlanFits, PlansFit, request, flatState}
 use Rattle.concrete.proofs.Numbers.{AllShaped, ShapedTable, Laid, header-read, back, laid}
 use Rattle.concrete.proofs.Stand.{Stands, open-stands, look, change-stands, withdraw-stands, based-length, add-stands}
 use Rattle.concrete.proofs.Content.{table-entries, table-live}
@@ -189,6 +189,10 @@ module _ (t : List ℕ) (s : State) (h : FlatStands t s) where
       go (Word w) e =
           subst⁻¹ (λ (o : Outcome). Match o (step firstLevel secondLevel s (askOf w c))) (cond-true _ _ (h .shape) ∙ cond-true _ _ stands-test)
           (served-match w (word-small c w e) c k)
+
+  -- and so does each request
+  pub request-match : (q : Request) → PlansFit q → Match (request t q) (respond s q)
+  request-match (ask c) k = call-match c k
 
 -- ---- opening, and sound numbers
 

@@ -1,4 +1,4 @@
--- Lists of calls put to the numbers of a table: they refine the model, so its laws hold of them. The two rules for adds, of every sound table.
+-- Lists of requests put to the numbers of a table: they refine the model, so its laws hold of them. The two rules for adds, of every sound table.
 -- Assumes nothing.
 use Prim.Native.Nat.{ℕ, _+_, _^_, _<_}
 use native.Mathlib.Omega.{arith}
@@ -6,7 +6,7 @@ use mathlib.Core.Path.{_≡_, refl, sym, ap, _∙_, subst, subst⁻¹}
 use mathlib.Core.Bool.{true, false, true≢false}
 use mathlib.Core.Logic.{⊎-elim, _↔_}
 use mathlib.Core.Option.{Option, none, some}
-use mathlib.Core.List.{List, map, List·Permᴰ}
+use mathlib.Core.List.{List, List·Permᴰ}
 use lib.Dec.{eqb, ltb}
 use lib.ListN.{length, getD}
 use Rattle.lists.specs.Entries.{Entry, words, find}
@@ -22,26 +22,26 @@ use Rattle.identifier.specs.declared.Read.the-variants.{Word, Refused}
 use Rattle.model.specs.Levels.{firstLevel, secondLevel, passed, due}
 use Rattle.model.specs.Model as M
 use Rattle.model.specs.Model.{baseLimit, State, Call, add, change, withdraw, query, opened, wouldLeave, base, step}
-use Rattle.model.specs.Request.{Token, wordFor, byWord, serveRead, serve}
+use Rattle.model.specs.Request.{Token, wordFor, serveRead, serve, Request, ask}
 use Rattle.model.specs.Machine.{accepted, after, acceptedOf, Refines, Compares}
-use Rattle.model.specs.History.{addsIn, withdrawalsIn, told}
+use Rattle.model.specs.History.{callsIn, addsIn, withdrawalsIn, told}
 use Rattle.model.proofs.Valid.{valid-opened}
 use Rattle.model.proofs.Refine.{stands-after, accepted-after}
-use Rattle.model.proofs.Calls.{count-after, told-after}
-use Rattle.model.proofs.Requests.{word-small, serve-each, serve-never}
+use Rattle.model.proofs.Calls.{StandsFor, count-after, told-after}
+use Rattle.model.proofs.Requests.{word-small, serve-each, stands-for, respond-never}
 use Rattle.model.proofs.Statements as Model
 use Rattle.concrete.specs.Table as T
 use Rattle.concrete.specs.Table.{Table}
 use Rattle.concrete.specs.Layout.{liveCountAt, inRange, numbersOf, tableFrom, lengthOf}
 use Rattle.concrete.specs.Content.{entriesOf}
 use Rattle.concrete.specs.Calls.{rows, solutions, tableOf, planIn, shaped, sound, FlatSound, Outcome, openCall, joined, replaced, queried, served, callRead, call}
-use Rattle.concrete.specs.History.{Put, tables, states, Opened, acceptedCalls, flatState, Same}
-use Rattle.concrete.proofs.Calls.{FlatStands, Match, stands-test, stands-shows, stands-look, call-match, open-stands-flat, sound-stands-flat, stands-flat, stands-entries}
+use Rattle.concrete.specs.History.{Put, request, tables, states, callsOf, Opened, acceptedCalls, flatState, Same}
+use Rattle.concrete.proofs.Calls.{FlatStands, Match, stands-test, stands-shows, stands-look, call-match, request-match, open-stands-flat, sound-stands-flat, stands-flat, stands-entries}
 
 -- ---- the table refines the model
 
 pub refines : Refines tables states FlatStands
-refines = record { says = λ t s p h. call-match t s h (p .call) (p .fits) .says; goes = λ t s p h. call-match t s h (p .call) (p .fits) .stands }
+refines = record { says = λ t s p h. request-match t s h (p .request) (p .fits) .says; goes = λ t s p h. request-match t s h (p .request) (p .fits) .stands }
 
 pub compares : Compares FlatStands Same
 compares = record { one = λ t u s q e h g. sym (stands-shows t s h) ∙ e ∙ stands-shows u q g; same = λ t u s h g. stands-shows t s h ∙ sym (stands-shows u s g) }
@@ -103,7 +103,7 @@ module _ (t : List ℕ) where
       go (some q) = λ r. refl
       go none = λ r. refl
 
-  pub call-refused : (c : Call Token) → accepted (call t c .answer) ≡ false → call t c .table ≡ t
+  call-refused : (c : Call Token) → accepted (call t c .answer) ≡ false → call t c .table ≡ t
   unfolding call
   call-refused c = go (wordFor c)
     where
@@ -111,7 +111,13 @@ module _ (t : List ℕ) where
       go (Refused a) = λ r. refl
       go (Word w) = by-test Kept (shaped t) (λ k. by-test Kept (sound t) (λ h. kept-served w c) (λ h r. refl)) (λ k r. refl)
 
--- ---- after any list of calls since an accepted opening
+  pub request-refused : (q : Request) → accepted (request t q .answer) ≡ false → request t q .table ≡ t
+  request-refused (ask c) = call-refused c
+
+-- ---- after any list of requests since an accepted opening
+
+each-stands : StandsFor firstLevel secondLevel states callsOf
+each-stands = record { keeps = λ s p. stands-for .keeps s (p .request); each = λ s p. stands-for .each s (p .request) }
 
 module _ (t : List ℕ) (o : Opened t) (ps : List Put) where
   abbrev s₀ : State
@@ -127,25 +133,25 @@ module _ (t : List ℕ) (o : Opened t) (ps : List Put) where
   after-stands = stands-after tables states FlatStands refines t s₀ (opened-stands t o) ps
 
   -- neither cause 4 nor cause 5
-  pub never : (p : Put) → (numberOf (call t₁ (p .call) .answer) ≡ 4 → ⊥) × (numberOf (call t₁ (p .call) .answer) ≡ 5 → ⊥)
+  pub never : (p : Put) → (numberOf (request t₁ (p .request) .answer) ≡ 4 → ⊥) × (numberOf (request t₁ (p .request) .answer) ≡ 5 → ⊥)
   never p =
-      subst⁻¹ (λ (a : Answer). (numberOf a ≡ 4 → ⊥) × (numberOf a ≡ 5 → ⊥)) (call-match t₁ s₁ after-stands (p .call) (p .fits) .says) (serve-never s₁ (p .call))
+      subst⁻¹ (λ (a : Answer). (numberOf a ≡ 4 → ⊥) × (numberOf a ≡ 5 → ⊥)) (request-match t₁ s₁ after-stands (p .request) (p .fits) .says) (respond-never s₁ (p .request))
 
   -- the same calls are accepted as by the model
-  same-calls : map (λ p. byWord (p .call)) (acceptedOf states s₀ ps) ≡ acceptedCalls t ps
-  same-calls = ap (map (λ p. byWord (p .call))) (sym (accepted-after tables states FlatStands refines t s₀ (opened-stands t o) ps))
+  same-calls : callsIn callsOf (acceptedOf states s₀ ps) ≡ acceptedCalls t ps
+  same-calls = ap (callsIn callsOf) (sym (accepted-after tables states FlatStands refines t s₀ (opened-stands t o) ps))
 
   pub count-after-all : getD t₁ liveCountAt 0 + withdrawalsIn (acceptedCalls t ps) ≡ addsIn (acceptedCalls t ps)
   unfolding tableFrom
   count-after-all =
       let c : getD t₁ liveCountAt 0 ≡ length (s₁ .live) = after-stands .stands .counted in
       subst (λ (cs : List (Call ℕ)). getD t₁ liveCountAt 0 + withdrawalsIn cs ≡ addsIn cs) same-calls
-      (let h = count-after firstLevel secondLevel states (λ p. byWord (p .call)) (λ s p. serve-each s (p .call)) s₀ ps in omega arith)
+      (let h = count-after firstLevel secondLevel states callsOf each-stands s₀ (valid-opened firstLevel secondLevel (o .buckets1) (o .buckets2)) ps in omega arith)
 
   pub plan-after : (v : ℕ) → v < 2 ^ rows → planIn t₁ v ≡ told v (acceptedCalls t ps)
   plan-after v l =
       stands-look t₁ s₁ after-stands v l
-      ∙ told-after firstLevel secondLevel states (λ p. byWord (p .call)) (λ s p. serve-each s (p .call)) v s₀ (valid-opened firstLevel secondLevel (o .buckets1) (o .buckets2)) false 0 refl ps
+      ∙ told-after firstLevel secondLevel states callsOf each-stands v s₀ (valid-opened firstLevel secondLevel (o .buckets1) (o .buckets2)) false 0 refl ps
       ∙ ap (told v) same-calls
 
 -- ---- a sound table, also one handed in from elsewhere

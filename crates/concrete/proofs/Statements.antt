@@ -20,7 +20,7 @@ use Rattle.bucket.specs.declared.Bucket.{Bucket}
 use Rattle.bucket.specs.Words.{bucketWords, wordsOf, bucketFrom}
 use Rattle.model.specs.Levels.{firstLevel, secondLevel, passed, due}
 use Rattle.model.specs.Model.{State, Call, add, query, opened, wouldLeave, base}
-use Rattle.model.specs.Request.{Token, wordFor}
+use Rattle.model.specs.Request.{Token, wordFor, Request}
 use Rattle.model.specs.Machine.{accepted, after, answers, Alike, Refines}
 use Rattle.model.specs.History.{addsIn, withdrawalsIn, told}
 use Rattle.model.proofs.Statements as Model
@@ -30,7 +30,7 @@ use Rattle.concrete.specs.Content.{entriesOf}
 use Rattle.concrete.specs.AtOnce.{addedAtOnce}
 use Rattle.concrete.specs.Sound.{SoundTable}
 use Rattle.concrete.specs.Calls.{rows, solutions, tableOf, planIn, shaped, sound, FlatSound, openCall, queried, served, call}
-use Rattle.concrete.specs.History.{PlanFits, Put, tables, states, Opened, acceptedCalls, flatState, Same}
+use Rattle.concrete.specs.History.{PlanFits, Put, request, tables, states, Opened, acceptedCalls, flatState, Same}
 use Rattle.concrete.specs.Causes.{openCauses, openReturns, callCauses, callReturns}
 use Rattle.concrete.proofs.Numbers as Numbers
 use Rattle.concrete.proofs.Numbers.{ShapedTable}
@@ -105,21 +105,21 @@ pub open-causes : (b1 b2 : ℕ) (t : List ℕ) → Exactly (openCauses b1 b2 t) 
 open-causes = Causes.open-exactly
 
 -- the numbers of a table have 64 bits; the plan of a call is a byte
-module _ (t : List ℕ) (b : (i : ℕ) → getD t i 0 < 2 ^ 64) (p : Put) where
-  pub call-causes : Exactly (callCauses t (p .call)) (callReturns t (p .call)) (call t (p .call) .answer)
-  call-causes = Causes.call-exactly t b (p .call) (p .fits)
+module _ (t : List ℕ) (b : (i : ℕ) → getD t i 0 < 2 ^ 64) (c : Call Token) (f : PlanFits c) where
+  pub call-causes : Exactly (callCauses t c) (callReturns t c) (call t c .answer)
+  call-causes = Causes.call-exactly t b c f
 
   -- read for one cause x: the call gives its number, with v, exactly if x is met with v and no cause before it is met
-  pub call-cause : (before : List Cause) (x : Cause) (after : List Cause) → callCauses t (p .call) ≡ before ++ (x ∷ after) → (v : ℕ)
-      → ((numberOf (call t (p .call) .answer) ≡ x .number) × (valueOf (call t (p .call) .answer) ≡ v)) ↔ (NoneMet before × x .met v)
+  pub call-cause : (before : List Cause) (x : Cause) (after : List Cause) → callCauses t c ≡ before ++ (x ∷ after) → (v : ℕ)
+      → ((numberOf (call t c .answer) ≡ x .number) × (valueOf (call t c .answer) ≡ v)) ↔ (NoneMet before × x .met v)
   call-cause before x after e =
-      number-exactly before x after (callReturns t (p .call)) (call t (p .call) .answer) (subst (InOrder 0) e (Causes.call-order t (p .call)))
-      (subst (λ (cs : List Cause). Exactly cs (callReturns t (p .call)) (call t (p .call) .answer)) e call-causes)
+      number-exactly before x after (callReturns t c) (call t c .answer) (subst (InOrder 0) e (Causes.call-order t c))
+      (subst (λ (cs : List Cause). Exactly cs (callReturns t c) (call t c .answer)) e call-causes)
 
   -- "A call is accepted if it meets no cause"
   pub call-accepted : (v : ℕ)
-      → ((numberOf (call t (p .call) .answer) ≡ 0) × (valueOf (call t (p .call) .answer) ≡ v)) ↔ (NoneMet (callCauses t (p .call)) × callReturns t (p .call) v)
-  call-accepted = accepted-exactly (callCauses t (p .call)) (callReturns t (p .call)) (call t (p .call) .answer) (Causes.call-order t (p .call)) call-causes
+      → ((numberOf (call t c .answer) ≡ 0) × (valueOf (call t c .answer) ≡ v)) ↔ (NoneMet (callCauses t c) × callReturns t c v)
+  call-accepted = accepted-exactly (callCauses t c) (callReturns t c) (call t c .answer) (Causes.call-order t c) call-causes
 
 -- "Order is the table's order"
 pub open-order : (b1 b2 : ℕ) (t : List ℕ) → InOrder 0 (openCauses b1 b2 t)
@@ -133,8 +133,8 @@ pub causes-else : (t : List ℕ) (c : Call Token) (w : ℕ) → wordFor c ≡ Wo
 causes-else = History.by-word
 
 -- "Kept as it was"
-pub refused-keeps : (t : List ℕ) (c : Call Token) → accepted (call t c .answer) ≡ false → call t c .table ≡ t
-refused-keeps = History.call-refused
+pub refused-keeps : (t : List ℕ) (q : Request) → accepted (request t q .answer) ≡ false → request t q .table ≡ t
+refused-keeps = History.request-refused
 
 pub refused-opening : (b1 b2 : ℕ) (t : List ℕ) → accepted (openCall b1 b2 t .answer) ≡ false → openCall b1 b2 t .table ≡ t
 refused-opening = History.open-refused
@@ -213,10 +213,10 @@ module _ (t : List ℕ) (k : shaped t ≡ true) (h : FlatSound t) where
         → (call t (add i p) .answer ≡ Full) ↔ (64 < length (base firstLevel secondLevel (wouldLeave firstLevel secondLevel (flatState t) (record { word = w; plan = p }))))
     full-exactly = History.rule-full t k h i p l
 
--- ---- "A list of calls": t is what an accepted opening left, ps any calls, refused ones included
+-- ---- "A list of calls": t is what an accepted opening left, ps any requests, refused ones included
 
--- statement 3, the claim about lists: where two tables are then equal in bucket numbers, live words, plans and bounds, each further call of
--- every list gets the same answer from both, and they are equal in these again after each call
+-- statement 3, the claim about lists: where two tables are then equal in bucket numbers, live words, plans and bounds, each further
+-- request of every list gets the same answer from both, and they are equal in these again after each
 pub statement-3 : (t u : List ℕ) → Opened t → Opened u → (ps qs : List Put) → Same (after tables t ps) (after tables u qs)
     → (cs : List Put) → Alike tables Same (after tables t ps) (after tables u qs) cs
 statement-3 t u o r = Model.statement-3 tables states FlatStands refines Same History.compares t u _ _ (opening-stands t o) (opening-stands u r)
@@ -233,7 +233,7 @@ module _ (t : List ℕ) (o : Opened t) (ps : List Put) where
   pub always-sound : (shaped (after tables t ps) ≡ true) × (sound (after tables t ps) ≡ true) × FlatSound (after tables t ps)
   always-sound = stands-sound (after tables t ps) _ (History.after-stands t o ps)
 
-  pub never-4-5 : (p : Put) → (numberOf (call (after tables t ps) (p .call) .answer) ≡ 4 → ⊥) × (numberOf (call (after tables t ps) (p .call) .answer) ≡ 5 → ⊥)
+  pub never-4-5 : (p : Put) → (numberOf (request (after tables t ps) (p .request) .answer) ≡ 4 → ⊥) × (numberOf (request (after tables t ps) (p .request) .answer) ≡ 5 → ⊥)
   never-4-5 = History.never t o ps
 
   -- "After each call its occupied rows and base entries hold just the live words, and its stored bounds are these": the model's

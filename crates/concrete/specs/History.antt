@@ -1,15 +1,17 @@
--- Lists of calls put to a table; document 01, "A list of calls".
+-- Lists of requests put to a table; document 01, "A list of calls".
 -- Assumes nothing.
 use Prim.Native.Nat.{ℕ, _^_, _<_}
 use mathlib.Core.Path.{_≡_}
-use mathlib.Core.List.{List, map}
+use mathlib.Core.List.{List}
 use Rattle.hash.specs.Mix.{unmixOf}
 use Rattle.answer.specs.declared.Answer.the-variants.{Accepted}
 use Rattle.model.specs.Model.{State, Call, add, change, withdraw, query}
-use Rattle.model.specs.Request.{Token, byWord, serve}
+use Rattle.model.specs.Request as R
+use Rattle.model.specs.Request.{Token, Request, ask, respond}
 use Rattle.model.specs.Machine.{Machine, acceptedOf}
+use Rattle.model.specs.History.{callsIn}
 use Rattle.concrete.specs.Content.{stateOf}
-use Rattle.concrete.specs.Calls.{rows, solutions, tableOf, openCall, call}
+use Rattle.concrete.specs.Calls.{rows, solutions, tableOf, Outcome, openCall, call}
 
 -- the plan of a call is a byte, 0 to 255
 abbrev pub PlanFits : Call Token → Type 0
@@ -18,18 +20,30 @@ PlanFits (change i p) = p < 2 ^ solutions
 PlanFits (withdraw i) = Unit {0}
 PlanFits (query i) = Unit {0}
 
--- a call with any bytes as identifier
-pub record Put : Type 0 where
-  pub call : Call Token
-  pub fits : PlanFits call
+-- and so are the plans of a request
+abbrev pub PlansFit : Request → Type 0
+PlansFit (ask c) = PlanFits c
 
--- the table: each call gets it as the last one left it
+-- a request with any bytes as identifier
+pub record Put : Type 0 where
+  pub request : Request
+  pub fits : PlansFit request
+
+-- what a request does
+abbrev pub request : List ℕ → Request → Outcome
+request t (ask c) = call t c
+
+-- the table: each request gets it as the last one left it
 abbrev pub tables : Machine (List ℕ) Put
-tables = record { answer = λ t p. call t (p .call) .answer; next = λ t p. call t (p .call) .table }
+tables = record { answer = λ t p. request t (p .request) .answer; next = λ t p. request t (p .request) .table }
 
 -- the model
 abbrev pub states : Machine State Put
-states = record { answer = λ s p. serve s (p .call) .answer; next = λ s p. serve s (p .call) .after }
+states = record { answer = λ s p. respond s (p .request) .answer; next = λ s p. respond s (p .request) .after }
+
+-- the calls by word that it stands for, if it is accepted
+abbrev pub callsOf : Put → List (Call ℕ)
+callsOf p = R.callsOf (p .request)
 
 -- t is what an accepted opening left
 pub record Opened (t : List ℕ) : Type 0 where
@@ -40,7 +54,7 @@ pub record Opened (t : List ℕ) : Type 0 where
 
 -- the calls of ps that the table accepts, by the words of their identifiers
 abbrev pub acceptedCalls : List ℕ → List Put → List (Call ℕ)
-acceptedCalls t ps = map (λ p. byWord (p .call)) (acceptedOf tables t ps)
+acceptedCalls t ps = callsIn callsOf (acceptedOf tables t ps)
 
 -- the bucket numbers of each level, live words, plans and bounds of the table: the live words are those of its occupied rows and base entries
 abbrev pub flatState : List ℕ → State

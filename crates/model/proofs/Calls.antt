@@ -1,30 +1,30 @@
--- Lists of calls to the model: every state reached is valid, the live count is accepted adds less accepted withdrawals, and each word
+-- Lists of requests to the model: every state reached is valid, the live count is accepted adds less accepted withdrawals, and each word
 -- is live with the plan that the accepted calls tell.
 -- Assumes nothing.
 use Prim.Native.Nat.{ℕ, _+_}
 use native.Mathlib.Omega.{arith}
-use mathlib.Core.Path.{_≡_, refl, sym, ap, ap₂, _∙_, subst⁻¹}
+use mathlib.Core.Path.{_≡_, refl, sym, ap, ap₂, _∙_, subst, subst⁻¹}
 use mathlib.Core.Bool.{Bool, true, false, cond}
-use mathlib.Core.Logic.{⊎-elim}
+use mathlib.Core.Logic.{_⊎_, inl, inr, ⊎-elim}
 use mathlib.Core.Option.{none, some}
-use mathlib.Core.List.{List, [], _∷_, map}
+use mathlib.Core.List.{List, [], _∷_, _++_}
 use lib.Dec.{eqb}
 use lib.ListN.{length}
 use borrow.Author.Tests.{eqb-true, eqb-false}
-use Rattle.lists.specs.Entries.{find, insert, update, remove, Ascending}
+use Rattle.lists.specs.Entries.{Entry, find, insert, update, remove, Ascending}
 use Rattle.lists.proofs.Tests.{cases}
 use Rattle.lists.proofs.Entries.{insert-length, insert-found, insert-other, remove-length, remove-found, remove-other, update-length, update-found, update-other, none≢some}
 use Rattle.answer.specs.declared.Answer.{Answer}
 use Rattle.model.specs.Levels.{Level}
 use Rattle.model.specs.Model.{State, Call, add, change, withdraw, query, Outcome, step}
-use Rattle.model.specs.Machine.{Machine, accepted, after, acceptedOf}
-use Rattle.model.specs.History.{addsIn, withdrawalsIn, liveBy, planBy}
-use Rattle.model.proofs.Steps.{Follows, by-step}
+use Rattle.model.specs.Machine.{Machine, accepted, after, acceptedOf, AllAccepted}
+use Rattle.model.specs.History.{wordModel, callsIn, addsIn, withdrawalsIn, liveBy, planBy}
+use Rattle.model.proofs.Steps.{refused-keeps, Follows, by-step}
 use Rattle.model.proofs.Valid.{Valid, valid-step}
 
 -- the call, if it is accepted
-abbrev pub took : Answer → Call ℕ → List (Call ℕ)
-took a c = cond (accepted a) (c ∷ []) []
+abbrev taking : Answer → Call ℕ → List (Call ℕ)
+taking a c = cond (accepted a) (c ∷ []) []
 
 -- a word that has a plan is live
 is-live : (b : Bool) (q p x : ℕ) → cond b (some q) none ≡ some p → some x ≡ cond b (some x) none
@@ -36,7 +36,7 @@ is-live false q p x e = absurd (none≢some e)
 module _ (L1 L2 : Level) (s : State) where
   -- the count after the call
   abbrev Counts : Call ℕ → Outcome → Type 0
-  Counts c o = length (o .after .live) + withdrawalsIn (took (o .answer) c) ≡ length (s .live) + addsIn (took (o .answer) c)
+  Counts c o = length (o .after .live) + withdrawalsIn (taking (o .answer) c) ≡ length (s .live) + addsIn (taking (o .answer) c)
 
   pub count-step : (c : Call ℕ) → Counts c (step L1 L2 s c)
   count-step =
@@ -49,7 +49,7 @@ module _ (L1 L2 : Level) (s : State) where
   module _ (asc : Ascending (s .live)) (v : ℕ) (b : Bool) (q : ℕ) (h : find v (s .live) ≡ cond b (some q) none) where
     -- what the call tells of v
     abbrev Tells : Call ℕ → Outcome → Type 0
-    Tells c o = find v (o .after .live) ≡ cond (liveBy v b (took (o .answer) c)) (some (planBy v q (took (o .answer) c))) none
+    Tells c o = find v (o .after .live) ≡ cond (liveBy v b (taking (o .answer) c)) (some (planBy v q (taking (o .answer) c))) none
 
     pub told-step : (c : Call ℕ) → Tells c (step L1 L2 s c)
     told-step =
@@ -66,84 +66,125 @@ module _ (L1 L2 : Level) (s : State) where
         (λ n. rw n (remove-other w (s .live) v (eqb-false v w n) ∙ h)))
         (λ w p. h)
 
--- ---- one call more in front
+-- ---- calls in front of others
 
-adds-cons : (c : Call ℕ) (cs : List (Call ℕ)) → addsIn (c ∷ cs) ≡ addsIn (c ∷ []) + addsIn cs
-adds-cons (add w p) cs = omega arith
-adds-cons (change w p) cs = omega arith
-adds-cons (withdraw w) cs = omega arith
-adds-cons (query w) cs = omega arith
+adds-append : (cs ds : List (Call ℕ)) → addsIn (cs ++ ds) ≡ addsIn cs + addsIn ds
+adds-append [] ds = omega arith
+adds-append (add w p ∷ cs) ds = omega (arith, adds-append cs ds)
+adds-append (change w p ∷ cs) ds = adds-append cs ds
+adds-append (withdraw w ∷ cs) ds = adds-append cs ds
+adds-append (query w ∷ cs) ds = adds-append cs ds
 
-withdrawals-cons : (c : Call ℕ) (cs : List (Call ℕ)) → withdrawalsIn (c ∷ cs) ≡ withdrawalsIn (c ∷ []) + withdrawalsIn cs
-withdrawals-cons (add w p) cs = omega arith
-withdrawals-cons (change w p) cs = omega arith
-withdrawals-cons (withdraw w) cs = omega arith
-withdrawals-cons (query w) cs = omega arith
+withdrawals-append : (cs ds : List (Call ℕ)) → withdrawalsIn (cs ++ ds) ≡ withdrawalsIn cs + withdrawalsIn ds
+withdrawals-append [] ds = omega arith
+withdrawals-append (add w p ∷ cs) ds = withdrawals-append cs ds
+withdrawals-append (change w p ∷ cs) ds = withdrawals-append cs ds
+withdrawals-append (withdraw w ∷ cs) ds = omega (arith, withdrawals-append cs ds)
+withdrawals-append (query w ∷ cs) ds = withdrawals-append cs ds
 
-live-cons : (v : ℕ) (b : Bool) (c : Call ℕ) (cs : List (Call ℕ)) → liveBy v b (c ∷ cs) ≡ liveBy v (liveBy v b (c ∷ [])) cs
-live-cons v b (add w p) cs = refl
-live-cons v b (change w p) cs = refl
-live-cons v b (withdraw w) cs = refl
-live-cons v b (query w) cs = refl
+live-append : (v : ℕ) (b : Bool) (cs ds : List (Call ℕ)) → liveBy v b (cs ++ ds) ≡ liveBy v (liveBy v b cs) ds
+live-append v b [] ds = refl
+live-append v b (add w p ∷ cs) ds = live-append v (cond (eqb v w) true b) cs ds
+live-append v b (change w p ∷ cs) ds = live-append v b cs ds
+live-append v b (withdraw w ∷ cs) ds = live-append v (cond (eqb v w) false b) cs ds
+live-append v b (query w ∷ cs) ds = live-append v b cs ds
 
-plan-cons : (v q : ℕ) (c : Call ℕ) (cs : List (Call ℕ)) → planBy v q (c ∷ cs) ≡ planBy v (planBy v q (c ∷ [])) cs
-plan-cons v q (add w p) cs = refl
-plan-cons v q (change w p) cs = refl
-plan-cons v q (withdraw w) cs = refl
-plan-cons v q (query w) cs = refl
+plan-append : (v q : ℕ) (cs ds : List (Call ℕ)) → planBy v q (cs ++ ds) ≡ planBy v (planBy v q cs) ds
+plan-append v q [] ds = refl
+plan-append v q (add w p ∷ cs) ds = plan-append v (cond (eqb v w) p q) cs ds
+plan-append v q (change w p ∷ cs) ds = plan-append v (cond (eqb v w) p q) cs ds
+plan-append v q (withdraw w ∷ cs) ds = plan-append v q cs ds
+plan-append v q (query w ∷ cs) ds = plan-append v q cs ds
 
--- ---- lists of calls C, each of which is refused and changes nothing, or is the step of the call f c
+-- what the calls tell of v, after what b and q tell of it
+abbrev Told : ℕ → Bool → ℕ → List (Call ℕ) → State → Type 0
+Told v b q cs t = find v (t .live) ≡ cond (liveBy v b cs) (some (planBy v q cs)) none
 
-module _ {C : Type 0} (L1 L2 : Level) (N : Machine State C) (f : C → Call ℕ)
-    (each : (s : State) (c : C) → Follows L1 L2 s (f c) (record { answer = N .answer s c; after = N .next s c })) where
-  pub valid-next : (s : State) (c : C) → Valid L1 L2 s → Valid L1 L2 (N .next s c)
-  valid-next s c v =
-      ⊎-elim (λ r. subst⁻¹ (Valid L1 L2) (r .1) v) (λ e. subst⁻¹ (λ (o : Outcome). Valid L1 L2 (o .after)) e (valid-step L1 L2 s (f c) v)) (each s c)
+told-append : (v : ℕ) (b : Bool) (q : ℕ) (cs ds : List (Call ℕ)) (t : State) → Told v (liveBy v b cs) (planBy v q cs) ds t → Told v b q (cs ++ ds) t
+told-append v b q cs ds t h = h ∙ sym (ap₂ (λ (x : Bool) (p : ℕ). cond x (some p) none) (live-append v b cs ds) (plan-append v q cs ds))
 
+-- ---- calls that are accepted one by one
+
+module _ (L1 L2 : Level) where
+  abbrev M : Machine State (Call ℕ)
+  M = wordModel L1 L2
+
+  count-all : (s : State) (ds : List (Call ℕ)) → AllAccepted M s ds → length (after M s ds .live) + withdrawalsIn ds ≡ length (s .live) + addsIn ds
+  count-all s [] a = refl
+  count-all s (d ∷ ds) a =
+      let t : State = step L1 L2 s d .after in
+      let one = subst (λ (x : Bool). length (t .live) + withdrawalsIn (cond x (d ∷ []) []) ≡ length (s .live) + addsIn (cond x (d ∷ []) [])) (a .0) (count-step L1 L2 s d) in
+      omega (arith, one, count-all t ds (a .1), adds-append (d ∷ []) ds, withdrawals-append (d ∷ []) ds)
+
+  told-all : (v : ℕ) (s : State) → Valid L1 L2 s → (b : Bool) (q : ℕ) → Told v b q [] s → (ds : List (Call ℕ)) → AllAccepted M s ds → Told v b q ds (after M s ds)
+  told-all v s w b q h [] a = h
+  told-all v s w b q h (d ∷ ds) a =
+      let t : State = step L1 L2 s d .after in
+      told-append v b q (d ∷ []) ds (after M t ds)
+      (told-all v t (valid-step L1 L2 s d w) (liveBy v b (d ∷ [])) (planBy v q (d ∷ []))
+      (subst (λ (x : Bool). Told v b q (cond x (d ∷ []) []) t) (a .0) (told-step L1 L2 s (w .ascending) v b q h d)) ds (a .1))
+
+  -- refused, and t is s as it was; or accepted, and so are the calls ds one by one, which leave the live words of t
+  abbrev pub Done : State → List (Call ℕ) → Bool → State → Type 0
+  Done s ds a t = ((a ≡ false) × (t ≡ s)) ⊎ ((a ≡ true) × AllAccepted M s ds × (t .live ≡ after M s ds .live))
+
+  -- one call is the case of one
+  pub done-one : (s : State) (c : Call ℕ) (o : Outcome) → Follows L1 L2 s c o → Done s (c ∷ []) (accepted (o .answer)) (o .after)
+  done-one s c o (inl r) = inl r
+  done-one s c o (inr e) =
+      subst⁻¹ (λ (x : Outcome). Done s (c ∷ []) (accepted (x .answer)) (x .after)) e
+      (cases (accepted (step L1 L2 s c .answer)) (λ t. inr (t, (t, tt), refl)) (λ t. inl (t, refused-keeps L1 L2 s c t)))
+
+  pub valid-one : (s : State) (c : Call ℕ) (o : Outcome) → Follows L1 L2 s c o → Valid L1 L2 s → Valid L1 L2 (o .after)
+  valid-one s c o (inl r) v = subst⁻¹ (Valid L1 L2) (r .1) v
+  valid-one s c o (inr e) v = subst⁻¹ (λ (x : Outcome). Valid L1 L2 (x .after)) e (valid-step L1 L2 s c v)
+
+-- ---- lists of requests C, each of which stands for the calls f
+
+pub record StandsFor {C : Type 0} (L1 L2 : Level) (N : Machine State C) (f : C → List (Call ℕ)) : Type 0 where
+  pub keeps : (s : State) (c : C) → Valid L1 L2 s → Valid L1 L2 (N .next s c)
+  pub each : (s : State) (c : C) → Valid L1 L2 s → Done L1 L2 s (f c) (accepted (N .answer s c)) (N .next s c)
+
+module _ {C : Type 0} (L1 L2 : Level) (N : Machine State C) (f : C → List (Call ℕ)) (k : StandsFor L1 L2 N f) where
   pub valid-after : (s : State) → Valid L1 L2 s → (cs : List C) → Valid L1 L2 (after N s cs)
   valid-after s v [] = v
-  valid-after s v (c ∷ cs) = valid-after (N .next s c) (valid-next s c v) cs
+  valid-after s v (c ∷ cs) = valid-after (N .next s c) (k .keeps s c v) cs
 
   -- the accepted calls, by the words
   abbrev pub taken : State → List C → List (Call ℕ)
-  taken s cs = map f (acceptedOf N s cs)
+  taken s cs = callsIn f (acceptedOf N s cs)
 
-  count-one : (s : State) (c : C) → Counts L1 L2 s (f c) (record { answer = N .answer s c; after = N .next s c })
-  count-one s c =
-      ⊎-elim (λ r. rw (r .0, r .1))
-      (λ e. subst⁻¹ (Counts L1 L2 s (f c)) e (count-step L1 L2 s (f c))) (each s c)
+  -- those of c
+  abbrev took : State → C → List (Call ℕ)
+  took s c = cond (accepted (N .answer s c)) (f c) []
+
+  taken-cons : (s : State) (c : C) (cs : List C) → taken s (c ∷ cs) ≡ took s c ++ taken (N .next s c) cs
+  taken-cons s c cs = cases (accepted (N .answer s c)) (λ t. rw t refl) (λ t. rw t refl)
+
+  count-one : (s : State) (c : C) → Valid L1 L2 s → length (N .next s c .live) + withdrawalsIn (took s c) ≡ length (s .live) + addsIn (took s c)
+  count-one s c v =
+      ⊎-elim (λ r. rw (r .0, r .1) refl)
+      (λ e. rw (e .0) (ap (λ (l : List Entry). length l + withdrawalsIn (f c)) (e .2) ∙ count-all L1 L2 s (f c) (e .1))) (k .each s c v)
+
+  told-one : (v : ℕ) (s : State) → Valid L1 L2 s → (b : Bool) (q : ℕ) → Told v b q [] s → (c : C) → Told v b q (took s c) (N .next s c)
+  told-one v s w b q h c =
+      ⊎-elim (λ r. rw (r .0, r .1) h)
+      (λ e. rw (e .0) (ap (find v) (e .2) ∙ told-all L1 L2 v s w b q h (f c) (e .1))) (k .each s c w)
 
   -- the live count is the one before, with the accepted adds, less the accepted withdrawals
-  pub count-after : (s : State) (cs : List C) → length (after N s cs .live) + withdrawalsIn (taken s cs) ≡ length (s .live) + addsIn (taken s cs)
-  count-after s [] = refl
-  count-after s (c ∷ cs) = go (accepted (N .answer s c)) (count-one s c) (count-after (N .next s c) cs)
-    where
-      go : (b : Bool) → length (N .next s c .live) + withdrawalsIn (cond b (f c ∷ []) []) ≡ length (s .live) + addsIn (cond b (f c ∷ []) [])
-          → length (after N (N .next s c) cs .live) + withdrawalsIn (taken (N .next s c) cs) ≡ length (N .next s c .live) + addsIn (taken (N .next s c) cs)
-          → length (after N (N .next s c) cs .live) + withdrawalsIn (map f (cond b (c ∷ acceptedOf N (N .next s c) cs) (acceptedOf N (N .next s c) cs)))
-          ≡ length (s .live) + addsIn (map f (cond b (c ∷ acceptedOf N (N .next s c) cs) (acceptedOf N (N .next s c) cs)))
-      go true one rest = omega (arith, adds-cons (f c) (taken (N .next s c) cs), withdrawals-cons (f c) (taken (N .next s c) cs))
-      go false one rest = omega arith
+  pub count-after : (s : State) → Valid L1 L2 s → (cs : List C) → length (after N s cs .live) + withdrawalsIn (taken s cs) ≡ length (s .live) + addsIn (taken s cs)
+  count-after s v [] = refl
+  count-after s v (c ∷ cs) =
+      let t : State = N .next s c in
+      subst⁻¹ (λ (l : List (Call ℕ)). length (after N t cs .live) + withdrawalsIn l ≡ length (s .live) + addsIn l) (taken-cons s c cs)
+      (omega (arith, count-one s c v, count-after t (k .keeps s c v) cs, adds-append (took s c) (taken t cs), withdrawals-append (took s c) (taken t cs)))
 
   -- v is live, and with the plan, as the accepted calls tell; b and q tell of it before them
   pub told-after : (v : ℕ) (s : State) → Valid L1 L2 s → (b : Bool) (q : ℕ) → find v (s .live) ≡ cond b (some q) none → (cs : List C)
       → find v (after N s cs .live) ≡ cond (liveBy v b (taken s cs)) (some (planBy v q (taken s cs))) none
   told-after v s w b q h [] = h
-  told-after v s w b q h (c ∷ cs) = go (accepted (N .answer s c)) one (λ b′ q′ h′. told-after v (N .next s c) (valid-next s c w) b′ q′ h′ cs)
-    where
-      one : Tells L1 L2 s (w .ascending) v b q h (f c) (record { answer = N .answer s c; after = N .next s c })
-      one =
-          ⊎-elim (λ r. rw (r .0, r .1) h)
-          (λ e. subst⁻¹ (Tells L1 L2 s (w .ascending) v b q h (f c)) e (told-step L1 L2 s (w .ascending) v b q h (f c))) (each s c)
-
-      Told : Bool → ℕ → List (Call ℕ) → State → Type 0
-      Told b′ q′ ds t = find v (t .live) ≡ cond (liveBy v b′ ds) (some (planBy v q′ ds)) none
-
-      go : (a : Bool) → Told b q (cond a (f c ∷ []) []) (N .next s c)
-          → ((b′ : Bool) (q′ : ℕ) → find v (N .next s c .live) ≡ cond b′ (some q′) none → Told b′ q′ (taken (N .next s c) cs) (after N (N .next s c) cs))
-          → Told b q (map f (cond a (c ∷ acceptedOf N (N .next s c) cs) (acceptedOf N (N .next s c) cs))) (after N (N .next s c) cs)
-      go true h′ rest =
-          rest (liveBy v b (f c ∷ [])) (planBy v q (f c ∷ [])) h′
-          ∙ sym (ap₂ (λ (x : Bool) (p : ℕ). cond x (some p) none)
-          (live-cons v b (f c) (taken (N .next s c) cs)) (plan-cons v q (f c) (taken (N .next s c) cs)))
-      go false h′ rest = rest b q h′
+  told-after v s w b q h (c ∷ cs) =
+      let t : State = N .next s c in
+      subst⁻¹ (λ (l : List (Call ℕ)). Told v b q l (after N t cs)) (taken-cons s c cs)
+      (told-append v b q (took s c) (taken t cs) (after N t cs)
+      (told-after v t (k .keeps s c w) (liveBy v b (took s c)) (planBy v q (took s c)) (told-one v s w b q h c) cs))

@@ -2,13 +2,14 @@
 -- Assumes nothing.
 use Prim.Native.Nat.{ℕ}
 use mathlib.Core.Path.{_≡_, refl}
-use mathlib.Core.List.{List, [], _∷_}
+use mathlib.Core.List.{List, [], _∷_, map}
 use Rattle.hash.specs.Mix.{mixOf}
 use Rattle.hash.specs.Fnv.{fnvFrom}
 use Rattle.answer.specs.declared.Answer.the-variants.{Accepted, WrongByte, Live, NotLive}
 use Rattle.identifier.specs.Identifier.{allowed, folded, wordOf, firstRefused, readOf}
 use Rattle.model.specs.Levels.{Level}
 use Rattle.model.specs.Model.{add, change, withdraw, query, opened}
+use Rattle.model.specs.Request.{ask}
 use Rattle.model.specs.Machine.{after, answers}
 use Rattle.model.specs.History.{wordModel, model}
 
@@ -36,8 +37,9 @@ a/b = 0x61 ∷ 0x2f ∷ 0x62 ∷ []
 -- after `open 1 1`
 session :
     answers model (opened 1 1)
+    (map ask
     (add Bus-17 40 ∷ add BUS-17 41 ∷ query bus-17 ∷ change bUS-17 9 ∷ add «Tram_2» 0
-    ∷ withdraw BUS-17 ∷ query BUS-17 ∷ query «tram_2» ∷ add a/b 3 ∷ [])
+    ∷ withdraw BUS-17 ∷ query BUS-17 ∷ query «tram_2» ∷ add a/b 3 ∷ []))
     ≡ Accepted 1 ∷ Live 40 ∷ Accepted 40 ∷ Accepted 40 ∷ Accepted 2 ∷ Accepted 9 ∷ NotLive ∷ Accepted 0 ∷ WrongByte 1 ∷ []
 unfolding Bus-17 BUS-17 bus-17 bUS-17 «Tram_2» «tram_2» a/b mixOf fnvFrom allowed folded wordOf firstRefused readOf
 session = refl

@@ -19,9 +19,12 @@ use Rattle.identifier.specs.declared.Read.the-variants.{Word, Refused}
 use Rattle.identifier.proofs.Words.{word-lt}
 use Rattle.model.specs.Levels.{Level, firstLevel, secondLevel}
 use Rattle.model.specs.Model.{baseLimit, State, Call, add, change, withdraw, query, Outcome, stepLive, wouldLeave, base, stepAdd, step}
-use Rattle.model.specs.Request.{Token, subject, wordFor, askOf, byWord, serveRead, serve}
+use Rattle.model.specs.Request.{Token, subject, wordFor, askOf, byWord, serveRead, serve, Request, ask, respond, callsOf}
 use Rattle.model.specs.Machine.{accepted}
+use Rattle.model.specs.History.{model}
 use Rattle.model.proofs.Steps.{refused-keeps, Follows}
+use Rattle.model.proofs.Valid.{Valid}
+use Rattle.model.proofs.Calls.{Done, done-one, valid-one, StandsFor}
 
 -- a call is for the word of its identifier, or it is refused with cause 1 or 2
 abbrev Reads : Call Token → Read → Type 0
@@ -48,12 +51,25 @@ serve-each s c = go (wordFor c) (reads c)
     go (Refused a) h = inl (ne-eqb (numberOf a) 0 (omega arith), refl)
     go (Word w) h = inr (ap (λ (v : ℕ). step firstLevel secondLevel s (askOf v c)) h)
 
+-- a request stands for its calls
+pub stands-for : StandsFor firstLevel secondLevel model callsOf
+stands-for = record { keeps = keeps; each = each }
+  where
+    keeps : (s : State) (q : Request) → Valid firstLevel secondLevel s → Valid firstLevel secondLevel (respond s q .after)
+    keeps s (ask c) = valid-one firstLevel secondLevel s (byWord c) (serve s c) (serve-each s c)
+
+    each : (s : State) (q : Request) → Valid firstLevel secondLevel s → Done firstLevel secondLevel s (callsOf q) (accepted (respond s q .answer)) (respond s q .after)
+    each s (ask c) v = done-one firstLevel secondLevel s (byWord c) (serve s c) (serve-each s c)
+
 -- a refused call changes nothing
-pub serve-keeps : (s : State) (c : Call Token) → accepted (serve s c .answer) ≡ false → serve s c .after ≡ s
+serve-keeps : (s : State) (c : Call Token) → accepted (serve s c .answer) ≡ false → serve s c .after ≡ s
 serve-keeps s c r =
     ⊎-elim (λ h. h .1)
     (λ e. ap (λ (o : Outcome). o .after) e ∙ refused-keeps firstLevel secondLevel s (byWord c) (sym (ap (λ (o : Outcome). accepted (o .answer)) e) ∙ r))
     (serve-each s c)
+
+pub respond-keeps : (s : State) (q : Request) → accepted (respond s q .answer) ≡ false → respond s q .after ≡ s
+respond-keeps s (ask c) r = serve-keeps s c r
 
 -- ---- causes 4 and 5
 
@@ -79,9 +95,12 @@ step-never L1 L2 s (change w p) = live-never s _ (find w (s .live))
 step-never L1 L2 s (withdraw w) = live-never s _ (find w (s .live))
 step-never L1 L2 s (query w) = live-never s _ (find w (s .live))
 
-pub serve-never : (s : State) (c : Call Token) → Never45 (numberOf (serve s c .answer))
+serve-never : (s : State) (c : Call Token) → Never45 (numberOf (serve s c .answer))
 serve-never s c = go (wordFor c) (reads c)
   where
     go : (r : Read) → Reads c r → Never45 (numberOf (serveRead s c r .answer))
     go (Refused a) h = omega arith
     go (Word w) h = step-never firstLevel secondLevel s (askOf w c)
+
+pub respond-never : (s : State) (q : Request) → Never45 (numberOf (respond s q .answer))
+respond-never s (ask c) = serve-never s c

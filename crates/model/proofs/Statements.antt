@@ -19,7 +19,7 @@ use Rattle.answer.specs.Numbers.{numberOf}
 use Rattle.answer.specs.declared.Answer.the-variants.{Full}
 use Rattle.model.specs.Levels.{Level, firstLevel, secondLevel, threshold, passed, due, lower}
 use Rattle.model.specs.Model.{State, Call, addOf, change, withdraw, query, Outcome, opened, wouldLeave, base, step, lifted}
-use Rattle.model.specs.Request.{Token, byWord, serve}
+use Rattle.model.specs.Request.{Request, respond, callsOf}
 use Rattle.model.specs.Machine.{Machine, accepted, after, answers, AllAccepted, Alike, Refines, Compares}
 use Rattle.model.specs.History.{wordModel, model, acceptedCalls, addsIn, withdrawalsIn, told}
 use Rattle.model.proofs.Levels as Levels
@@ -87,32 +87,33 @@ pub arrivals : (L : Level) (n : ℕ) → 0 < n → (bounds ws new vs : List ℕ)
     → Arrivals.arrives L n bounds ws new ≡ lower L n bounds vs
 arrivals = Arrivals.arrives-all
 
--- ---- lists of calls, with any bytes as identifiers, at document 01's levels
+-- ---- lists of requests, with any bytes as identifiers, at document 01's levels
 
 -- "refused calls keep them", also those of bytes that are no identifier
-pub serve-keeps : (s : State) (c : Call Token) → accepted (serve s c .answer) ≡ false → serve s c .after ≡ s
-serve-keeps = Requests.serve-keeps
+pub respond-keeps : (s : State) (q : Request) → accepted (respond s q .answer) ≡ false → respond s q .after ≡ s
+respond-keeps = Requests.respond-keeps
 
 -- "The live count equals accepted adds less accepted withdrawals since opening"
-pub count : (b1 b2 : ℕ) (cs : List (Call Token))
-    → length (after model (opened b1 b2) cs .live) + withdrawalsIn (acceptedCalls b1 b2 cs) ≡ addsIn (acceptedCalls b1 b2 cs)
-count b1 b2 cs = let h = Calls.count-after firstLevel secondLevel model byWord Requests.serve-each (opened b1 b2) cs in omega arith
+pub count : (b1 b2 : ℕ) (qs : List Request)
+    → length (after model (opened b1 b2) qs .live) + withdrawalsIn (acceptedCalls b1 b2 qs) ≡ addsIn (acceptedCalls b1 b2 qs)
+count b1 b2 qs =
+    let h = Calls.count-after firstLevel secondLevel model callsOf Requests.stands-for (opened b1 b2) (Valid.valid-opened firstLevel secondLevel b1 b2) qs in omega arith
 
 -- "a word is live if, of its accepted adds and withdrawals, the last is an add; its plan is that of its last accepted add or change"
-pub live-plan : (b1 b2 : ℕ) (cs : List (Call Token)) (v : ℕ) → find v (after model (opened b1 b2) cs .live) ≡ told v (acceptedCalls b1 b2 cs)
-live-plan b1 b2 cs v =
-    Calls.told-after firstLevel secondLevel model byWord Requests.serve-each v (opened b1 b2) (Valid.valid-opened firstLevel secondLevel b1 b2) false 0 refl cs
+pub live-plan : (b1 b2 : ℕ) (qs : List Request) (v : ℕ) → find v (after model (opened b1 b2) qs .live) ≡ told v (acceptedCalls b1 b2 qs)
+live-plan b1 b2 qs v =
+    Calls.told-after firstLevel secondLevel model callsOf Requests.stands-for v (opened b1 b2) (Valid.valid-opened firstLevel secondLevel b1 b2) false 0 refl qs
 
 -- "in the base list, .. at most 64 entries"
-pub base-fits : (b1 b2 : ℕ) (cs : List (Call Token)) → length (base firstLevel secondLevel (after model (opened b1 b2) cs)) ≤ 64
-base-fits b1 b2 cs =
-    Calls.valid-after firstLevel secondLevel model byWord Requests.serve-each (opened b1 b2) (Valid.valid-opened firstLevel secondLevel b1 b2) cs .fits
+pub base-fits : (b1 b2 : ℕ) (qs : List Request) → length (base firstLevel secondLevel (after model (opened b1 b2) qs)) ≤ 64
+base-fits b1 b2 qs =
+    Calls.valid-after firstLevel secondLevel model callsOf Requests.stands-for (opened b1 b2) (Valid.valid-opened firstLevel secondLevel b1 b2) qs .fits
 
 -- "the table itself never gives cause 4 or 5 in a list": the model does not, and the answers are the model's (`settles`)
-pub never-4-5 : (s : State) (c : Call Token) → (numberOf (serve s c .answer) ≡ 4 → ⊥) × (numberOf (serve s c .answer) ≡ 5 → ⊥)
-never-4-5 = Requests.serve-never
+pub never-4-5 : (s : State) (q : Request) → (numberOf (respond s q .answer) ≡ 4 → ⊥) × (numberOf (respond s q .answer) ≡ 5 → ⊥)
+never-4-5 = Requests.respond-never
 
--- ---- lists of calls put to a table M that refines the model N
+-- ---- lists of requests put to a table M that refines the model N
 
 module _ {T S C : Type 0} (M : Machine T C) (N : Machine S C) (Stands : T → S → Type 0) (refines : Refines M N Stands) where
   -- "So the opening and these calls alone settle every answer and bound": the answers are the model's, and the table stands for the

@@ -1,13 +1,13 @@
--- Lists of calls to the model, and what the accepted calls tell of the live words; document 01, "A list of calls".
+-- Lists of requests to the model, and what the accepted calls tell of the live words; document 01, "A list of calls".
 -- Assumes nothing.
 use Prim.Native.Nat.{ℕ, suc}
 use mathlib.Core.Bool.{Bool, true, false, cond}
-use mathlib.Core.List.{List, [], _∷_, map}
+use mathlib.Core.List.{List, [], _∷_, _++_}
 use mathlib.Core.Option.{Option, none, some}
 use lib.Dec.{eqb}
 use Rattle.model.specs.Levels.{Level}
 use Rattle.model.specs.Model.{State, Call, add, change, withdraw, query, opened, step}
-use Rattle.model.specs.Request.{Token, byWord, serve}
+use Rattle.model.specs.Request.{Request, respond, callsOf}
 use Rattle.model.specs.Machine.{Machine, acceptedOf}
 
 -- the model, at any two levels, with words for identifiers
@@ -15,12 +15,17 @@ abbrev pub wordModel : Level → Level → Machine State (Call ℕ)
 wordModel L1 L2 = record { answer = λ s c. step L1 L2 s c .answer; next = λ s c. step L1 L2 s c .after }
 
 -- the model, at document 01's levels, with any bytes as identifiers
-abbrev pub model : Machine State (Call Token)
-model = record { answer = λ s c. serve s c .answer; next = λ s c. serve s c .after }
+abbrev pub model : Machine State Request
+model = record { answer = λ s q. respond s q .answer; next = λ s q. respond s q .after }
+
+-- the calls that all of cs stand for, f those of each
+abbrev pub callsIn : {C : Type 0} → (C → List (Call ℕ)) → List C → List (Call ℕ)
+callsIn f [] = []
+callsIn f (c ∷ cs) = f c ++ callsIn f cs
 
 -- the calls that are accepted since opening, by the words of their identifiers
-abbrev pub acceptedCalls : ℕ → ℕ → List (Call Token) → List (Call ℕ)
-acceptedCalls b1 b2 cs = map byWord (acceptedOf model (opened b1 b2) cs)
+abbrev pub acceptedCalls : ℕ → ℕ → List Request → List (Call ℕ)
+acceptedCalls b1 b2 qs = callsIn callsOf (acceptedOf model (opened b1 b2) qs)
 
 -- the number of adds among these calls
 abbrev pub addsIn : List (Call ℕ) → ℕ

@@ -1,7 +1,7 @@
 -- Calls as they are put, with any bytes as identifier, at document 01's two levels.
 -- Assumes nothing.
 use Prim.Native.Nat.{ℕ}
-use mathlib.Core.List.{List}
+use mathlib.Core.List.{List, [], _∷_}
 use Rattle.identifier.specs.Identifier.{wordOf, readOf}
 use Rattle.identifier.specs.declared.Read.{Read}
 use Rattle.identifier.specs.declared.Read.the-variants.{Word, Refused}
@@ -42,3 +42,15 @@ serveRead s c (Word w) = step firstLevel secondLevel s (askOf w c)
 -- what a call does
 abbrev pub serve : State → Call Token → Outcome
 serve s c = serveRead s c (wordFor c)
+
+-- what is put to a table: a call for an identifier. (What names no identifier, or many, joins here)
+pub data Request : Type 0 where
+  ask : (c : Call Token) → Request
+
+-- what a request does
+abbrev pub respond : State → Request → Outcome
+respond s (ask c) = serve s c
+
+-- the calls by word that it stands for, if it is accepted
+abbrev pub callsOf : Request → List (Call ℕ)
+callsOf (ask c) = byWord c ∷ []

@@ -29,13 +29,13 @@ use Rattle.bucket.specs.Words.{Shaped}
 use Rattle.bucket.proofs.Words.{empty-shaped}
 use Rattle.settle.specs.Settle.{Settlement, leaving, withdrawAll, lowered, settle}
 use Rattle.model.specs.Model.{baseLimit, Call, add, change, withdraw, query}
-use Rattle.model.specs.Request.{Token, wordFor}
+use Rattle.model.specs.Request.{Token, wordFor, Request, ask}
 use Rattle.model.specs.Machine.{after}
 use Rattle.concrete.specs.Table as C
 use Rattle.concrete.specs.Table.{Table}
 use Rattle.concrete.specs.Layout.{numbersOf}
 use Rattle.concrete.specs.Calls.{rows, solutions, tableOf, planIn, shaped, sound, Outcome, joined, replaced, queried, served, callRead, call}
-use Rattle.concrete.specs.History.{Put, tables, Opened}
+use Rattle.concrete.specs.History.{Put, request, tables, Opened}
 use Rattle.concrete.proofs.Numbers.{ShapedTable, back}
 use Rattle.concrete.proofs.History.{open-cases}
 use Rattle.plane.specs.Fits.{Every}
@@ -214,9 +214,12 @@ module _ (t : List ℕ) (h : BoundedNumbers t) where
       go (Refused a) = h
       go (Word w) = by-test Kept (shaped t) (λ _. by-test Kept (sound t) (λ _. served-bounded w c) (λ _. h)) (λ _. h)
 
+  request-bounded : (q : Request) → Kept (request t q)
+  request-bounded (ask c) = call-bounded c
+
 all-bounded : (t : List ℕ) → BoundedNumbers t → (ps : List Put) → BoundedNumbers (after tables t ps)
 all-bounded t h [] = h
-all-bounded t h (p ∷ ps) = all-bounded _ (call-bounded t h (p .call)) ps
+all-bounded t h (p ∷ ps) = all-bounded _ (request-bounded t h (p .request)) ps
 
 -- after any list of calls since an accepted opening
 after-bounded : (t : List ℕ) → Opened t → (ps : List Put) → BoundedNumbers (after tables t ps)
