@@ -20,7 +20,7 @@ use Rattle.identifier.specs.declared.Read.the-variants.{Word, Refused}
 use Rattle.bucket.specs.declared.Bucket.{Bucket}
 use Rattle.model.specs.Levels.{firstLevel, secondLevel}
 use Rattle.model.specs.Model as M
-use Rattle.model.specs.Model.{baseLimit, State, Call, add, change, withdraw, query, opened, withLive, wouldLeave, base, stepAdd, stepLive, step}
+use Rattle.model.specs.Model.{baseLimit, Size, State, Call, add, change, withdraw, query, opened, withLive, wouldLeave, base, stepAdd, stepLive, step}
 use Rattle.model.specs.Request.{Token, wordFor, askOf, serveRead, serve, Request, ask, respond}
 use Rattle.model.proofs.Requests.{word-small}
 use Rattle.concrete.specs.Table as T
@@ -85,7 +85,7 @@ unfolding shapeTest
 size-shape t h e = and-both (le-leb leading (length t) (omega (arith, e))) (and-both h (eq-eqb _ _ e))
 
 -- a table that stands for a state with bucket numbers in range, as numbers
-pub numbers-stand : (T : Table) (s : State) → Stands rows solutions mixOf T s → inRange (s .buckets1) (s .buckets2) ≡ true → FlatStands (numbersOf T) s
+pub numbers-stand : (T : Table) (s : State) → Stands rows solutions mixOf T s → inRange (s .size .buckets1) (s .size .buckets2) ≡ true → FlatStands (numbersOf T) s
 unfolding numbersOf
 numbers-stand T s st h =
     let g = sound-shaped T (stands-sound rows solutions mixOf unmixOf keeps keepsU unmix-mix mix-unmix T s st) in
@@ -100,7 +100,7 @@ module _ (t : List ℕ) (s : State) (h : FlatStands t s) where
   abbrev T₀ : Table
   T₀ = tableOf t
 
-  range : inRange (s .buckets1) (s .buckets2) ≡ true
+  range : inRange (s .size .buckets1) (s .size .buckets2) ≡ true
   range =
       let k = header-read rows solutions t in
       ap₂ inRange (sym (h .stands .level1 .count) ∙ k .0) (sym (h .stands .level2 .count) ∙ k .1) ∙ shape-range t (h .shape)
@@ -114,8 +114,7 @@ module _ (t : List ℕ) (s : State) (h : FlatStands t s) where
   -- the state is the one that the table shows
   pub stands-shows : flatState t ≡ s
   stands-shows = λ i. record {
-    buckets1 = h .stands .level1 .count i;
-    buckets2 = h .stands .level2 .count i;
+    size = record { buckets1 = h .stands .level1 .count i; buckets2 = h .stands .level2 .count i };
     live = table-live rows solutions mixOf unmixOf keeps unmix-mix T₀ s (h .stands) i;
     bounds1 = h .stands .bounds1 i;
     bounds2 = h .stands .bounds2 i;
@@ -200,10 +199,10 @@ range-some : (b1 b2 : ℕ) → inRange b1 b2 ≡ true → (0 < b1) × (0 < b2)
 range-some b1 b2 h =
     (leb-true 1 b1 (and-one (leb 1 b1) _ (and-one (leb 1 b1 && leb b1 mostBuckets1) _ h)), leb-true 1 b2 (and-one (leb 1 b2) _ (and-two (leb 1 b1 && leb b1 mostBuckets1) _ h)))
 
-pub open-stands-flat : (b1 b2 : ℕ) → inRange b1 b2 ≡ true → FlatStands (numbersOf (T.openTable rows solutions b1 b2)) (opened b1 b2)
-open-stands-flat b1 b2 h =
-    let g = range-some b1 b2 h in
-    numbers-stand (T.openTable rows solutions b1 b2) (opened b1 b2) (open-stands rows solutions mixOf b1 b2 (g .0) (g .1)) h
+pub open-stands-flat : (z : Size) → inRange (z .buckets1) (z .buckets2) ≡ true → FlatStands (numbersOf (T.openTable rows solutions (z .buckets1) (z .buckets2))) (opened z)
+open-stands-flat z h =
+    let g = range-some (z .buckets1) (z .buckets2) h in
+    numbers-stand (T.openTable rows solutions (z .buckets1) (z .buckets2)) (opened z) (open-stands rows solutions mixOf z (g .0) (g .1)) h
 
 pub sound-stands-flat : (t : List ℕ) → shaped t ≡ true → FlatSound t → FlatStands t (flatState t)
 sound-stands-flat t k h = record { shape = k; unused = h .unused; stands = sound-stands rows solutions mixOf unmixOf keeps keepsU unmix-mix mix-unmix (tableOf t) (h .table) }

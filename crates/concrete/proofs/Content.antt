@@ -161,11 +161,11 @@ module _ (n r : ℕ) (S U : ℕ → ℕ) (keeps : (x : ℕ) → x < 2 ^ n → S 
         (List·Permᴰ·trans (Permᴰ·map (backOf U)
         (subst⁻¹ (λ (b : List Entry). List·Permᴰ (allRows n (T .level2) ++ b) (later S s)) (st .based)
         (List·Permᴰ·trans (Permᴰ·append-left (allRows n (T .level2)) (sort-perm (last S s)))
-        (subst (λ (B : List ℕ). List·Permᴰ (allRows n (T .level2) ++ pass S (s .buckets2) B (later S s)) (later S s)) (st .bounds2)
-        (level-rows n r S (s .buckets2) (st .pos2) (T .level2) (later S s) (st .level2))))))
+        (subst (λ (B : List ℕ). List·Permᴰ (allRows n (T .level2) ++ pass S (s .size .buckets2) B (later S s)) (later S s)) (st .bounds2)
+        (level-rows n r S (s .size .buckets2) (st .pos2) (T .level2) (later S s) (st .level2))))))
         (subst⁻¹ (λ (l : List Entry). List·Permᴰ l (passes S s)) (back-second (passes S s) (λ e m. st .small e (keep-out _ (s .live) e m .0))) (Permᴰ·refl _))))
-        (subst (λ (B : List ℕ). List·Permᴰ (allRows n (T .level1) ++ pass S (s .buckets1) B (s .live)) (s .live)) (st .bounds1)
-        (level-rows n r S (s .buckets1) (st .pos1) (T .level1) (s .live) (st .level1)))
+        (subst (λ (B : List ℕ). List·Permᴰ (allRows n (T .level1) ++ pass S (s .size .buckets1) B (s .live)) (s .live)) (st .bounds1)
+        (level-rows n r S (s .size .buckets1) (st .pos1) (T .level1) (s .live) (st .level1)))
 
     pub table-live : liveOf n U T ≡ s .live
     unfolding liveOf
@@ -178,4 +178,4 @@ module _ (n r : ℕ) (S U : ℕ → ℕ) (keeps : (x : ℕ) → x < 2 ^ n → S 
     pub table-count : T .count ≡ occupied (T .level1) + (occupied (T .level2) + length (T .base))
     table-count =
         st .counted ∙ sym (perm-length table-entries)
-        ∙ entries-length n U T (level-length n r S (s .buckets1) (T .level1) (s .live) (st .level1)) (level-length n r S (s .buckets2) (T .level2) (later S s) (st .level2))
+        ∙ entries-length n U T (level-length n r S (s .size .buckets1) (T .level1) (s .live) (st .level1)) (level-length n r S (s .size .buckets2) (T .level2) (later S s) (st .level2))

@@ -56,10 +56,10 @@ open-cases b1 b2 t =
     (λ q a. (r, refl)) (λ q a. let z : _≡_ {A = ℕ} 0 1 = cc in absurd (omega arith)))
     (λ r a. let z : _≡_ {A = ℕ} 0 1 = cc in absurd (omega arith))
 
-pub opened-stands : (t : List ℕ) (o : Opened t) → FlatStands t (opened (o .buckets1) (o .buckets2))
+pub opened-stands : (t : List ℕ) (o : Opened t) → FlatStands t (opened (o .size))
 opened-stands t o =
-    let k = open-cases (o .buckets1) (o .buckets2) (o .before) (ap (λ (x : Outcome). x .answer) (o .accepted)) in
-    subst (λ (u : List ℕ). FlatStands u (opened (o .buckets1) (o .buckets2))) (sym (k .1) ∙ ap (λ (x : Outcome). x .table) (o .accepted)) (open-stands-flat (o .buckets1) (o .buckets2) (k .0))
+    let k = open-cases (o .size .buckets1) (o .size .buckets2) (o .before) (ap (λ (x : Outcome). x .answer) (o .accepted)) in
+    subst (λ (u : List ℕ). FlatStands u (opened (o .size))) (sym (k .1) ∙ ap (λ (x : Outcome). x .table) (o .accepted)) (open-stands-flat (o .size) (k .0))
 
 -- a refused opening leaves the table
 pub open-refused : (b1 b2 : ℕ) (t : List ℕ) → accepted (openCall b1 b2 t .answer) ≡ false → openCall b1 b2 t .table ≡ t
@@ -121,7 +121,7 @@ each-stands = record { keeps = λ s p. stands-for .keeps s (p .request); each = 
 
 module _ (t : List ℕ) (o : Opened t) (ps : List Put) where
   abbrev s₀ : State
-  s₀ = opened (o .buckets1) (o .buckets2)
+  s₀ = opened (o .size)
 
   abbrev t₁ : List ℕ
   t₁ = after tables t ps
@@ -146,12 +146,12 @@ module _ (t : List ℕ) (o : Opened t) (ps : List Put) where
   count-after-all =
       let c : getD t₁ liveCountAt 0 ≡ length (s₁ .live) = after-stands .stands .counted in
       subst (λ (cs : List (Call ℕ)). getD t₁ liveCountAt 0 + withdrawalsIn cs ≡ addsIn cs) same-calls
-      (let h = count-after firstLevel secondLevel states callsOf each-stands s₀ (valid-opened firstLevel secondLevel (o .buckets1) (o .buckets2)) ps in omega arith)
+      (let h = count-after firstLevel secondLevel states callsOf each-stands s₀ (valid-opened firstLevel secondLevel (o .size)) ps in omega arith)
 
   pub plan-after : (v : ℕ) → v < 2 ^ rows → planIn t₁ v ≡ told v (acceptedCalls t ps)
   plan-after v l =
       stands-look t₁ s₁ after-stands v l
-      ∙ told-after firstLevel secondLevel states callsOf each-stands v s₀ (valid-opened firstLevel secondLevel (o .buckets1) (o .buckets2)) false 0 refl ps
+      ∙ told-after firstLevel secondLevel states callsOf each-stands v s₀ (valid-opened firstLevel secondLevel (o .size)) false 0 refl ps
       ∙ ap (told v) same-calls
 
 -- ---- a sound table, also one handed in from elsewhere
@@ -202,16 +202,16 @@ module _ (t : List ℕ) (k : shaped t ≡ true) (h : FlatSound t) where
       abbrev e : Entry
       e = record { word = wordOf i; plan = p }
 
-      pub rule-first : (j : ℕ) → j < s .buckets1
-          → Largest (getD (s .bounds1) j 0) (due firstLevel (s .buckets1) (words (flatState t′ .live)) j) (getD (flatState t′ .bounds1) j 0)
+      pub rule-first : (j : ℕ) → j < s .size .buckets1
+          → Largest (getD (s .bounds1) j 0) (due firstLevel (s .size .buckets1) (words (flatState t′ .live)) j) (getD (flatState t′ .bounds1) j 0)
       rule-first j q =
-          subst⁻¹ (λ (u : State). Largest (getD (s .bounds1) j 0) (due firstLevel (s .buckets1) (words (u .live)) j) (getD (u .bounds1) j 0)) left
+          subst⁻¹ (λ (u : State). Largest (getD (s .bounds1) j 0) (due firstLevel (s .size .buckets1) (words (u .live)) j) (getD (u .bounds1) j 0)) left
           (Model.bounds-first firstLevel secondLevel s e took j q)
 
-      pub rule-second : (j : ℕ) → j < s .buckets2
-          → Largest (getD (s .bounds2) j 0) (due secondLevel (s .buckets2) (passed firstLevel (s .buckets1) (flatState t′ .bounds1) (words (flatState t′ .live))) j) (getD (flatState t′ .bounds2) j 0)
+      pub rule-second : (j : ℕ) → j < s .size .buckets2
+          → Largest (getD (s .bounds2) j 0) (due secondLevel (s .size .buckets2) (passed firstLevel (s .size .buckets1) (flatState t′ .bounds1) (words (flatState t′ .live))) j) (getD (flatState t′ .bounds2) j 0)
       rule-second j q =
-          subst⁻¹ (λ (u : State). Largest (getD (s .bounds2) j 0) (due secondLevel (s .buckets2) (passed firstLevel (s .buckets1) (u .bounds1) (words (u .live))) j) (getD (u .bounds2) j 0)) left
+          subst⁻¹ (λ (u : State). Largest (getD (s .bounds2) j 0) (due secondLevel (s .size .buckets2) (passed firstLevel (s .size .buckets1) (u .bounds1) (words (u .live))) j) (getD (u .bounds2) j 0)) left
           (Model.bounds-second firstLevel secondLevel s e took j q)
 
     pub rule-full : (w : ℕ) → wordFor (add i p) ≡ Word w → find w (s .live) ≡ none

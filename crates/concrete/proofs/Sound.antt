@@ -220,17 +220,17 @@ module _ (n r : ℕ) (S U : ℕ → ℕ) (keeps : (x : ℕ) → x < 2 ^ n → S 
         ⊎-elim {C = Fits n r e} (level-small n r S (T .level1) (h .level1) e)
         (λ q. let p = small2 (q .0) (q .1) in subst (Fits n r) (q .2) (keepsU _ (keepsU _ (p .0)), p .1)) (live-out e m)
 
-    t1 : (w : ℕ) → holds n r S (T .level1) w ≡ within S (s .buckets1) (s .bounds1) w
+    t1 : (w : ℕ) → holds n r S (T .level1) w ≡ within S (s .size .buckets1) (s .bounds1) w
     t1 w = holds-test n r S (length (T .level1)) (T .level1) refl (h .level1 .some) w
 
-    t2 : (w : ℕ) → holds n r S (T .level2) w ≡ within S (s .buckets2) (s .bounds2) w
+    t2 : (w : ℕ) → holds n r S (T .level2) w ≡ within S (s .size .buckets2) (s .bounds2) w
     t2 w = holds-test n r S (length (T .level2)) (T .level2) refl (h .level2 .some) w
 
     abbrev p1 : Entry → Bool
-    p1 e = not (within S (s .buckets1) (s .bounds1) (e .word))
+    p1 e = not (within S (s .size .buckets1) (s .bounds1) (e .word))
 
     abbrev p2 : Entry → Bool
-    p2 e = not (within S (s .buckets2) (s .bounds2) (e .word))
+    p2 e = not (within S (s .size .buckets2) (s .bounds2) (e .word))
 
     -- what the second level is due is E2
     later-in : (e : Entry) → List·Memᴰ e E2 → List·Memᴰ e (later S s)
@@ -254,12 +254,12 @@ module _ (n r : ℕ) (S U : ℕ → ℕ) (keeps : (x : ℕ) → x < 2 ^ n → S 
     later-distinct =
         distinct-renamed (second S) (2 ^ n) inj (passes S s) (λ e m. small-live e (keep-out p1 (s .live) e m .0) .0) (keep-distinct p1 (s .live) (ascending-distinct (s .live) ascending-live))
 
-    on1 : LevelHolds n r S (s .buckets1) (T .level1) (s .live)
+    on1 : LevelHolds n r S (s .size .buckets1) (T .level1) (s .live)
     on1 =
         level-holds n r S (T .level1) (h .level1) (s .live) (ascending-distinct (s .live) ascending-live) (λ e m. live-in e (Memᴰ·append-left (map (backOf U) E2) m))
         (λ e m t. ⊎-elim (λ a. a) (λ y. absurd (clash t (ap (λ (z : Entry). holds n r S (T .level1) (z .word)) (sym (y .2)) ∙ past1 (y .0) (y .1)))) (live-out e m))
 
-    on2 : LevelHolds n r S (s .buckets2) (T .level2) (later S s)
+    on2 : LevelHolds n r S (s .size .buckets2) (T .level2) (later S s)
     on2 =
         level-holds n r S (T .level2) (h .level2) (later S s) later-distinct (λ e m. later-in e (Memᴰ·append-left (T .base) m))
         (λ e m t. ⊎-elim (λ a. a) (λ b. absurd (clash t (h .base-words e b .1))) (List·Memᴰ·append-cases (allRows n (T .level2)) (later-out e m)))
@@ -273,11 +273,11 @@ module _ (n r : ℕ) (S U : ℕ → ℕ) (keeps : (x : ℕ) → x < 2 ^ n → S 
         ⊎-elim (λ a. absurd (clash (level-held n r S (T .level2) (h .level2) e a) (t2 (e .word) ∙ not-true _ (k .1)))) (λ b. b) (List·Memᴰ·append-cases (allRows n (T .level2)) (later-out e (k .0))))
 
     -- the words due at the second level, as the model lists them
-    due2 : (i : ℕ) → due (secondLevel S) (s .buckets2) (passed (firstLevel S) (s .buckets1) (s .bounds1) (words (s .live))) i ≡ map (seen (thr S)) (dueIn S (s .buckets2) i (later S s))
+    due2 : (i : ℕ) → due (secondLevel S) (s .size .buckets2) (passed (firstLevel S) (s .size .buckets1) (s .bounds1) (words (s .live))) i ≡ map (seen (thr S)) (dueIn S (s .size .buckets2) i (later S s))
     due2 i =
-        ap (λ (ws : List ℕ). due (secondLevel S) (s .buckets2) ws i) (passed-words (firstLevel S) (s .buckets1) (s .bounds1) (s .live))
-        ∙ sym (due-map S (s .buckets2) (words (passes S s)) i) ∙ ap (λ (ws : List ℕ). due (firstLevel S) (s .buckets2) ws i) (sym (words-second S (passes S s)))
-        ∙ due-in S (s .buckets2) i (later S s)
+        ap (λ (ws : List ℕ). due (secondLevel S) (s .size .buckets2) ws i) (passed-words (firstLevel S) (s .size .buckets1) (s .bounds1) (s .live))
+        ∙ sym (due-map S (s .size .buckets2) (words (passes S s)) i) ∙ ap (λ (ws : List ℕ). due (firstLevel S) (s .size .buckets2) ws i) (sym (words-second S (passes S s)))
+        ∙ due-in S (s .size .buckets2) i (later S s)
 
     valid : Valid (firstLevel S) (secondLevel S) s
     valid = record {
@@ -286,10 +286,10 @@ module _ (n r : ℕ) (S U : ℕ → ℕ) (keeps : (x : ℕ) → x < 2 ^ n → S 
       length2 = bounds-length (T .level2);
       low1 = λ i l. subst⁻¹ (λ (t : ℕ). t ≤ largestBound) (bound-at n r (T .level1) i l) (h .level1 .buckets i l .low);
       low2 = λ i l. subst⁻¹ (λ (t : ℕ). t ≤ largestBound) (bound-at n r (T .level2) i l) (h .level2 .buckets i l .low);
-      free1 = λ i l. subst₂ Free (sym (bound-at n r (T .level1) i l)) (sym (due-in S (s .buckets1) i (s .live)))
-          (holds-free (thr S) (nth n r (T .level1) i .bound) (dueIn S (s .buckets1) i (s .live)) (on1 .each i l));
+      free1 = λ i l. subst₂ Free (sym (bound-at n r (T .level1) i l)) (sym (due-in S (s .size .buckets1) i (s .live)))
+          (holds-free (thr S) (nth n r (T .level1) i .bound) (dueIn S (s .size .buckets1) i (s .live)) (on1 .each i l));
       free2 = λ i l. subst₂ Free (sym (bound-at n r (T .level2) i l)) (sym (due2 i))
-          (holds-free (thr S) (nth n r (T .level2) i .bound) (dueIn S (s .buckets2) i (later S s)) (on2 .each i l));
+          (holds-free (thr S) (nth n r (T .level2) i .bound) (dueIn S (s .size .buckets2) i (later S s)) (on2 .each i l));
       fits = subst (λ (k : ℕ). k ≤ baseLimit) (ap length base-is ∙ sort-length (last S s) ∙ last-length S s) (h .fits);
     }
 
@@ -317,10 +317,10 @@ module _ (n r : ℕ) (S U : ℕ → ℕ) (keeps : (x : ℕ) → x < 2 ^ n → S 
 
   module _ (T : Table) (s : State) (st : Stands n r S T s) where
     abbrev q1 : Entry → Bool
-    q1 e = not (within S (s .buckets1) (s .bounds1) (e .word))
+    q1 e = not (within S (s .size .buckets1) (s .bounds1) (e .word))
 
     abbrev q2 : Entry → Bool
-    q2 e = not (within S (s .buckets2) (s .bounds2) (e .word))
+    q2 e = not (within S (s .size .buckets2) (s .bounds2) (e .word))
 
     -- what is due at the second level passed the first
     came : (e : Entry) → List·Memᴰ e (later S s) → Fits n r e × (holds n r S (T .level1) (U (U (e .word))) ≡ false)
@@ -338,10 +338,10 @@ module _ (n r : ℕ) (S U : ℕ → ℕ) (keeps : (x : ℕ) → x < 2 ^ n → S 
     stands-sound = record {
       fits = subst⁻¹ (λ (k : ℕ). k ≤ baseLimit) (ap length (st .based) ∙ sort-length (last S s) ∙ last-length S s) (st .valid .fits);
       counts = table-count n r S U keeps undo T s st;
-      level1 = holds-level n r S (s .buckets1) (T .level1) (s .live) (st .level1) (st .pos1) (s .bounds1) (st .bounds1) (st .valid .low1);
-      level2 = holds-level n r S (s .buckets2) (T .level2) (later S s) (st .level2) (st .pos2) (s .bounds2) (st .bounds2) (st .valid .low2);
+      level1 = holds-level n r S (s .size .buckets1) (T .level1) (s .live) (st .level1) (st .pos1) (s .bounds1) (st .bounds1) (st .valid .low1);
+      level2 = holds-level n r S (s .size .buckets2) (T .level2) (later S s) (st .level2) (st .pos2) (s .bounds2) (st .bounds2) (st .valid .low2);
       passed = λ i v q.
-          let d = row-due n r S (s .buckets2) (T .level2) (later S s) (st .level2) i v q .2 in
+          let d = row-due n r S (s .size .buckets2) (T .level2) (later S s) (st .level2) i v q .2 in
           ap (λ (x : ℕ). holds n r S (T .level1) (U (U x))) (sym (d .1)) ∙ came (d .0) (d .2) .1;
       base-words = λ e m.
           let k = last-of e m in

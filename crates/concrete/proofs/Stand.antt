@@ -23,7 +23,7 @@ use Rattle.bucket.specs.declared.Bucket.{Bucket}
 use Rattle.bucket.specs.Bucket.{largestBound, emptyBucket}
 use Rattle.settle.proofs.Hold.{Holds, holds-empty}
 use Rattle.model.specs.Levels.{dueAs, due, passed}
-use Rattle.model.specs.Model.{baseLimit, State, opened, withLive, wouldLeave, base}
+use Rattle.model.specs.Model.{baseLimit, Size, State, opened, withLive, wouldLeave, base}
 use Rattle.model.proofs.Levels.{passed-words}
 use Rattle.model.proofs.Arrivals.{joined, joined-perm, arrive, arrives}
 use Rattle.model.proofs.Valid.{Valid, valid-opened, valid-live, valid-settled}
@@ -35,7 +35,7 @@ use Rattle.concrete.proofs.Touch.{Edit, withdraw-edit, change-edit, hol
 module _ (S : ℕ → ℕ) where
   -- the entries that the first level does not hold
   abbrev pub passes : State → List Entry
-  passes s = pass S (s .buckets1) (s .bounds1) (s .live)
+  passes s = pass S (s .size .buckets1) (s .bounds1) (s .live)
 
   -- those are due at the second level, by their vectors there
   abbrev pub later : State → List Entry
@@ -43,7 +43,7 @@ module _ (S : ℕ → ℕ) where
 
   -- and those that neither level holds
   abbrev pub last : State → List Entry
-  last s = pass S (s .buckets2) (s .bounds2) (later s)
+  last s = pass S (s .size .buckets2) (s .bounds2) (later s)
 
   -- ---- the second level's bounds, by words and by vectors
 
@@ -65,25 +65,25 @@ module _ (S : ℕ → ℕ) where
 
   pub last-length : (s : State) → length (last s) ≡ length (base (firstLevel S) (secondLevel S) s)
   last-length s =
-      ap length (keep-map (onSecond S) (λ e. not (within S (s .buckets2) (s .bounds2) (e .word))) (passes s))
+      ap length (keep-map (onSecond S) (λ e. not (within S (s .size .buckets2) (s .bounds2) (e .word))) (passes s))
       ∙ length-map (keep past (passes s)) (onSecond S)
-      ∙ sym (ap (λ (ws : List ℕ). length (passed (secondLevel S) (s .buckets2) (s .bounds2) ws)) (passed-words (firstLevel S) (s .buckets1) (s .bounds1) (s .live))
-      ∙ ap length (passed-words (secondLevel S) (s .buckets2) (s .bounds2) (passes s))
+      ∙ sym (ap (λ (ws : List ℕ). length (passed (secondLevel S) (s .size .buckets2) (s .bounds2) ws)) (passed-words (firstLevel S) (s .size .buckets1) (s .bounds1) (s .live))
+      ∙ ap length (passed-words (secondLevel S) (s .size .buckets2) (s .bounds2) (passes s))
       ∙ length-map (keep past (passes s)) (λ e. e .word))
     where
       past : Entry → Bool
-      past e = not (within S (s .buckets2) (s .bounds2) (second S (e .word)))
+      past e = not (within S (s .size .buckets2) (s .bounds2) (second S (e .word)))
 
 module _ (n r : ℕ) (S : ℕ → ℕ) where
   -- the table T stands for the state s: each level holds its due of the live words, the base list the others
   pub record Stands (T : Table) (s : State) : Type 0 where
     pub valid : Valid (firstLevel S) (secondLevel S) s
-    pub pos1 : 0 < s .buckets1
-    pub pos2 : 0 < s .buckets2
+    pub pos1 : 0 < s .size .buckets1
+    pub pos2 : 0 < s .size .buckets2
     pub small : Small n r (s .live)
-    pub level1 : LevelHolds n r S (s .buckets1) (T .level1) (s .live)
+    pub level1 : LevelHolds n r S (s .size .buckets1) (T .level1) (s .live)
     pub bounds1 : bounds (T .level1) ≡ s .bounds1
-    pub level2 : LevelHolds n r S (s .buckets2) (T .level2) (later S s)
+    pub level2 : LevelHolds n r S (s .size .buckets2) (T .level2) (later S s)
     pub bounds2 : bounds (T .level2) ≡ s .bounds2
     pub based : T .base ≡ sort (last S s)
     pub counted : T .count ≡ length (s .live)
@@ -101,16 +101,16 @@ module _ (n r : ℕ) (S : ℕ → ℕ) where
     each = λ i h. subst⁻¹ (λ (b : Bucket). Holds n r b []) (getD-replicate m i (emptyBucket n r) (emptyBucket n r) h) (holds-empty n r);
   }
 
-  pub open-stands : (b1 b2 : ℕ) → 0 < b1 → 0 < b2 → Stands (openTable n r b1 b2) (opened b1 b2)
-  open-stands b1 b2 p1 p2 = record {
-    valid = valid-opened (firstLevel S) (secondLevel S) b1 b2;
+  pub open-stands : (z : Size) → 0 < z .buckets1 → 0 < z .buckets2 → Stands (openTable n r (z .buckets1) (z .buckets2)) (opened z)
+  open-stands z p1 p2 = record {
+    valid = valid-opened (firstLevel S) (secondLevel S) z;
     pos1 = p1;
     pos2 = p2;
     small = λ e m. absurd (List·Memᴰ·not-nil m);
-    level1 = open-level b1;
-    bounds1 = open-bounds b1;
-    level2 = open-level b2;
-    bounds2 = open-bounds b2;
+    level1 = open-level (z .buckets1);
+    bounds1 = open-bounds (z .buckets1);
+    level2 = open-level (z .buckets2);
+    bounds2 = open-bounds (z .buckets2);
     based = refl;
     counted = refl;
   }
@@ -147,16 +147,16 @@ module _ (n r : ℕ) (S : ℕ → ℕ) (keeps : (x : ℕ) → x < 2 ^ n → S x 
     distinct-last = keep-distinct _ (later S s) distinct-later
 
   module _ (T : Table) (s : State) (st : Stands n r S T s) where
-    pub test1 : (w : ℕ) → holds n r S (T .level1) w ≡ within S (s .buckets1) (s .bounds1) w
-    test1 w = holds-test n r S (s .buckets1) (T .level1) (st .level1 .count) (st .pos1) w ∙ ap (λ (B : List ℕ). within S (s .buckets1) B w) (st .bounds1)
+    pub test1 : (w : ℕ) → holds n r S (T .level1) w ≡ within S (s .size .buckets1) (s .bounds1) w
+    test1 w = holds-test n r S (s .size .buckets1) (T .level1) (st .level1 .count) (st .pos1) w ∙ ap (λ (B : List ℕ). within S (s .size .buckets1) B w) (st .bounds1)
 
-    pub test2 : (v : ℕ) → holds n r S (T .level2) v ≡ within S (s .buckets2) (s .bounds2) v
-    test2 v = holds-test n r S (s .buckets2) (T .level2) (st .level2 .count) (st .pos2) v ∙ ap (λ (B : List ℕ). within S (s .buckets2) B v) (st .bounds2)
+    pub test2 : (v : ℕ) → holds n r S (T .level2) v ≡ within S (s .size .buckets2) (s .bounds2) v
+    test2 v = holds-test n r S (s .size .buckets2) (T .level2) (st .level2 .count) (st .pos2) v ∙ ap (λ (B : List ℕ). within S (s .size .buckets2) B v) (st .bounds2)
 
-    pass1 : (w : ℕ) {b : Bool} → holds n r S (T .level1) w ≡ b → not (within S (s .buckets1) (s .bounds1) w) ≡ not b
+    pass1 : (w : ℕ) {b : Bool} → holds n r S (T .level1) w ≡ b → not (within S (s .size .buckets1) (s .bounds1) w) ≡ not b
     pass1 w h = ap not (sym (test1 w) ∙ h)
 
-    pass2 : (v : ℕ) {b : Bool} → holds n r S (T .level2) v ≡ b → not (within S (s .buckets2) (s .bounds2) v) ≡ not b
+    pass2 : (v : ℕ) {b : Bool} → holds n r S (T .level2) v ≡ b → not (within S (s .size .buckets2) (s .bounds2) v) ≡ not b
     pass2 v h = ap not (sym (test2 v) ∙ h)
 
     module _ (w : ℕ) (l : w < 2 ^ n) where
@@ -170,10 +170,10 @@ module _ (n r : ℕ) (S : ℕ → ℕ) (keeps : (x : ℕ) → x < 2 ^ n → S x 
       find-later : holds n r S (T .level1) w ≡ false → find w′ (later S s) ≡ find w (s .live)
       find-later f =
           find-renamed (second S) (2 ^ n) inj w (passes S s) l (λ e m. small-passes s (st .valid) (st .small) e m .0)
-          ∙ find-keep (λ v. not (within S (s .buckets1) (s .bounds1) v)) w (s .live) (pass1 w f)
+          ∙ find-keep (λ v. not (within S (s .size .buckets1) (s .bounds1) v)) w (s .live) (pass1 w f)
 
       find-last : holds n r S (T .level1) w ≡ false → holds n r S (T .level2) w′ ≡ false → find w′ (last S s) ≡ find w (s .live)
-      find-last f g = find-keep (λ v. not (within S (s .buckets2) (s .bounds2) v)) w′ (later S s) (pass2 w′ g) ∙ find-later f
+      find-last f g = find-keep (λ v. not (within S (s .size .buckets2) (s .bounds2) v)) w′ (later S s) (pass2 w′ g) ∙ find-later f
 
       -- the three tests find the plan, and nothing for every other word
       pub look : planIn n r S T w ≡ find w (s .live)
@@ -192,11 +192,11 @@ module _ (n r : ℕ) (S : ℕ → ℕ) (keeps : (x : ℕ) → x < 2 ^ n → S x 
         s′ = withLive s (g w (s .live))
 
         passes-out : holds n r S (T .level1) w ≡ true → passes S s′ ≡ passes S s
-        passes-out t = edit .outside (λ v. not (within S (s .buckets1) (s .bounds1) v)) w (s .live) (pass1 w t)
+        passes-out t = edit .outside (λ v. not (within S (s .size .buckets1) (s .bounds1) v)) w (s .live) (pass1 w t)
 
         later-in : holds n r S (T .level1) w ≡ false → later S s′ ≡ g w′ (later S s)
         later-in t =
-            ap (map (onSecond S)) (edit .inside (λ v. not (within S (s .buckets1) (s .bounds1) v)) w (s .live) (pass1 w t))
+            ap (map (onSecond S)) (edit .inside (λ v. not (within S (s .size .buckets1) (s .bounds1) v)) w (s .live) (pass1 w t))
             ∙ edit .twice w (passes S s) l (λ e m. small-passes s (st .valid) (st .small) e m .0)
 
         touch-stands : (c : ℕ) → c ≡ length (g w (s .live)) → Stands n r S (withCount (touch n r S T w f g) c) s′
@@ -209,9 +209,9 @@ module _ (n r : ℕ) (S : ℕ → ℕ) (keeps : (x : ℕ) → x < 2 ^ n → S x 
               small = small;
               level1 = level-touch n r S w (st .pos1) (st .level1) l f g edit q live t;
               bounds1 = touch-bounds n r S w (st .pos1) (st .level1) l f g edit q live t ∙ st .bounds1;
-              level2 = subst⁻¹ (λ (es : List Entry). LevelHolds n r S (s .buckets2) (T .level2) (map (onSecond S) es)) (passes-out t) (st .level2);
+              level2 = subst⁻¹ (λ (es : List Entry). LevelHolds n r S (s .size .buckets2) (T .level2) (map (onSecond S) es)) (passes-out t) (st .level2);
               bounds2 = st .bounds2;
-              based = st .based ∙ sym (ap (λ (es : List Entry). sort (pass S (s .buckets2) (s .bounds2) (map (onSecond S) es))) (passes-out t));
+              based = st .based ∙ sym (ap (λ (es : List Entry). sort (pass S (s .size .buckets2) (s .bounds2) (map (onSecond S) es))) (passes-out t));
               counted = count;
             })
             (λ t. by-test (λ (U : Table). Stands n r S (withCount U c) s′) (holds n r S (T .level2) w′)
@@ -222,11 +222,11 @@ module _ (n r : ℕ) (S : ℕ → ℕ) (keeps : (x : ℕ) → x < 2 ^ n → S x 
               small = small;
               level1 = level-past n r S w (st .pos1) (st .level1) l f g edit t;
               bounds1 = st .bounds1;
-              level2 = subst⁻¹ (LevelHolds n r S (s .buckets2) (put S (T .level2) w′ (f w′ (bucketOf n r S (T .level2) w′)))) (later-in t)
+              level2 = subst⁻¹ (LevelHolds n r S (s .size .buckets2) (put S (T .level2) w′ (f w′ (bucketOf n r S (T .level2) w′)))) (later-in t)
                   (level-touch n r S w′ (st .pos2) (st .level2) l′ f g edit q (find-later t ∙ live) u);
               bounds2 = touch-bounds n r S w′ (st .pos2) (st .level2) l′ f g edit q (find-later t ∙ live) u ∙ st .bounds2;
-              based = st .based ∙ sym (ap (λ (es : List Entry). sort (pass S (s .buckets2) (s .bounds2) es)) (later-in t)
-                  ∙ ap sort (edit .outside (λ v. not (within S (s .buckets2) (s .bounds2) v)) w′ (later S s) (pass2 w′ u)));
+              based = st .based ∙ sym (ap (λ (es : List Entry). sort (pass S (s .size .buckets2) (s .bounds2) es)) (later-in t)
+                  ∙ ap sort (edit .outside (λ v. not (within S (s .size .buckets2) (s .bounds2) v)) w′ (later S s) (pass2 w′ u)));
               counted = count;
             })
             (λ u. record {
@@ -236,11 +236,11 @@ module _ (n r : ℕ) (S : ℕ → ℕ) (keeps : (x : ℕ) → x < 2 ^ n → S x 
               small = small;
               level1 = level-past n r S w (st .pos1) (st .level1) l f g edit t;
               bounds1 = st .bounds1;
-              level2 = subst⁻¹ (LevelHolds n r S (s .buckets2) (T .level2)) (later-in t) (level-past n r S w′ (st .pos2) (st .level2) l′ f g edit u);
+              level2 = subst⁻¹ (LevelHolds n r S (s .size .buckets2) (T .level2)) (later-in t) (level-past n r S w′ (st .pos2) (st .level2) l′ f g edit u);
               bounds2 = st .bounds2;
               based = ap (g w′) (st .based) ∙ edit .sorted w′ q (last S s) (distinct-last s (st .valid) (st .small)) (find-last t u ∙ live)
-                  ∙ sym (ap (λ (es : List Entry). sort (pass S (s .buckets2) (s .bounds2) es)) (later-in t)
-                  ∙ ap sort (edit .inside (λ v. not (within S (s .buckets2) (s .bounds2) v)) w′ (later S s) (pass2 w′ u)));
+                  ∙ sym (ap (λ (es : List Entry). sort (pass S (s .size .buckets2) (s .bounds2) es)) (later-in t)
+                  ∙ ap sort (edit .inside (λ v. not (within S (s .size .buckets2) (s .bounds2) v)) w′ (later S s) (pass2 w′ u)));
               counted = count;
             }))
 
@@ -278,28 +278,28 @@ module _ (n r : ℕ) (S : ℕ → ℕ) (keeps : (x : ℕ) → x < 2 ^ n → S x 
       abbrev p2 : Placed
       p2 = arriveAll n r S (T .level2) (map (onSecond S) (p1 .out))
 
-      a1 : Arrived n r S (s .buckets1) (T .level1) (s .live) e p1
-      a1 = arrive-law n r S (s .buckets1) (T .level1) (s .live) e (st .pos1) fits (st .level1)
+      a1 : Arrived n r S (s .size .buckets1) (T .level1) (s .live) e p1
+      a1 = arrive-law n r S (s .size .buckets1) (T .level1) (s .live) e (st .pos1) fits (st .level1)
 
       first-is : bounds (p1 .buckets) ≡ first (firstLevel S) (secondLevel S) s (st .valid) (st .pos1) (st .pos2) e
-      first-is = a1 .falls ∙ ap (λ (B : List ℕ). arrive (firstLevel S) (s .buckets1) B (words (s .live)) (e .word)) (st .bounds1)
+      first-is = a1 .falls ∙ ap (λ (B : List ℕ). arrive (firstLevel S) (s .size .buckets1) B (words (s .live)) (e .word)) (st .bounds1)
 
       now1 : bounds (p1 .buckets) ≡ t .bounds1
       now1 = first-is ∙ first-settled (firstLevel S) (secondLevel S) s (st .valid) (st .pos1) (st .pos2) e
 
       -- what leaves the first level
-      leaves1 : List·Permᴰ (p1 .out ++ passes S s) (pass S (s .buckets1) (t .bounds1) (e ∷ s .live))
-      leaves1 = subst₂ (λ (A B : List ℕ). List·Permᴰ (p1 .out ++ pass S (s .buckets1) A (s .live)) (pass S (s .buckets1) B (e ∷ s .live))) (st .bounds1) now1 (a1 .leaves)
+      leaves1 : List·Permᴰ (p1 .out ++ passes S s) (pass S (s .size .buckets1) (t .bounds1) (e ∷ s .live))
+      leaves1 = subst₂ (λ (A B : List ℕ). List·Permᴰ (p1 .out ++ pass S (s .size .buckets1) A (s .live)) (pass S (s .size .buckets1) B (e ∷ s .live))) (st .bounds1) now1 (a1 .leaves)
 
       small-both : Small n r (e ∷ s .live)
       small-both = small-cons n r e (s .live) fits (st .small)
 
       small-out : Small n r (p1 .out)
       small-out x m =
-          small-both x (keep-out (λ y. not (within S (s .buckets1) (t .bounds1) (y .word))) (e ∷ s .live) x (mem-perm (Permᴰ·symm leaves1) x (Memᴰ·append-left (passes S s) m)) .0)
+          small-both x (keep-out (λ y. not (within S (s .size .buckets1) (t .bounds1) (y .word))) (e ∷ s .live) x (mem-perm (Permᴰ·symm leaves1) x (Memᴰ·append-left (passes S s) m)) .0)
 
-      a2 : ArrivedAll n r S (s .buckets2) (T .level2) (later S s) (map (onSecond S) (p1 .out)) p2
-      a2 = arrive-all n r S (s .buckets2) (st .pos2) (T .level2) (later S s) (map (onSecond S) (p1 .out)) (small-second n r S keeps (p1 .out) small-out) (st .level2)
+      a2 : ArrivedAll n r S (s .size .buckets2) (T .level2) (later S s) (map (onSecond S) (p1 .out)) p2
+      a2 = arrive-all n r S (s .size .buckets2) (st .pos2) (T .level2) (later S s) (map (onSecond S) (p1 .out)) (small-second n r S keeps (p1 .out) small-out) (st .level2)
 
       live-perm : List·Permᴰ (e ∷ s .live) (insert e (s .live))
       live-perm = Permᴰ·symm (insert-perm e (s .live))
@@ -314,21 +314,21 @@ module _ (n r : ℕ) (S : ℕ → ℕ) (keeps : (x : ℕ) → x < 2 ^ n → S x 
       now2 : bounds (p2 .buckets) ≡ t .bounds2
       now2 =
           a2 .falls
-          ∙ ap (λ (B : List ℕ). arrives (firstLevel S) (s .buckets2) B (words (later S s)) (words (map (onSecond S) (p1 .out)))) (st .bounds2)
-          ∙ ap₂ (λ (a b : List ℕ). arrives (firstLevel S) (s .buckets2) (s .bounds2) a b) (words-second S (passes S s)) (words-second S (p1 .out))
-          ∙ arrives-map S (s .buckets2) (s .bounds2) (words (passes S s)) (words (p1 .out))
-          ∙ ap (λ (l : List ℕ). arrives (secondLevel S) (s .buckets2) (s .bounds2) l (words (p1 .out))) (sym (passed-words (firstLevel S) (s .buckets1) (s .bounds1) (s .live)))
+          ∙ ap (λ (B : List ℕ). arrives (firstLevel S) (s .size .buckets2) B (words (later S s)) (words (map (onSecond S) (p1 .out)))) (st .bounds2)
+          ∙ ap₂ (λ (a b : List ℕ). arrives (firstLevel S) (s .size .buckets2) (s .bounds2) a b) (words-second S (passes S s)) (words-second S (p1 .out))
+          ∙ arrives-map S (s .size .buckets2) (s .bounds2) (words (passes S s)) (words (p1 .out))
+          ∙ ap (λ (l : List ℕ). arrives (secondLevel S) (s .size .buckets2) (s .bounds2) l (words (p1 .out))) (sym (passed-words (firstLevel S) (s .size .buckets1) (s .bounds1) (s .live)))
           ∙ second-settled (firstLevel S) (secondLevel S) s (st .valid) (st .pos1) (st .pos2) e (words (p1 .out))
           (subst₂ (λ (a b : List ℕ). List·Permᴰ a b)
-          (map-append (λ (x : Entry). x .word) (p1 .out) (passes S s) ∙ ap (λ (l : List ℕ). words (p1 .out) ++ l) (sym (passed-words (firstLevel S) (s .buckets1) (s .bounds1) (s .live))))
-          (sym (passed-words (firstLevel S) (s .buckets1) (t .bounds1) (e ∷ s .live))
-          ∙ ap (λ (B : List ℕ). passed (firstLevel S) (s .buckets1) B (e .word ∷ words (s .live))) (sym now1 ∙ first-is))
+          (map-append (λ (x : Entry). x .word) (p1 .out) (passes S s) ∙ ap (λ (l : List ℕ). words (p1 .out) ++ l) (sym (passed-words (firstLevel S) (s .size .buckets1) (s .bounds1) (s .live))))
+          (sym (passed-words (firstLevel S) (s .size .buckets1) (t .bounds1) (e ∷ s .live))
+          ∙ ap (λ (B : List ℕ). passed (firstLevel S) (s .size .buckets1) B (e .word ∷ words (s .live))) (sym now1 ∙ first-is))
           (Permᴰ·map (λ (x : Entry). x .word) leaves1))
 
       based-now : List·Permᴰ (p2 .out ++ last S s) (last S t)
       based-now =
           List·Permᴰ·trans
-          (subst₂ (λ (A B : List ℕ). List·Permᴰ (p2 .out ++ pass S (s .buckets2) A (later S s)) (pass S (s .buckets2) B (joined (later S s) (map (onSecond S) (p1 .out))))) (st .bounds2) now2 (a2 .leaves))
+          (subst₂ (λ (A B : List ℕ). List·Permᴰ (p2 .out ++ pass S (s .size .buckets2) A (later S s)) (pass S (s .size .buckets2) B (joined (later S s) (map (onSecond S) (p1 .out))))) (st .bounds2) now2 (a2 .leaves))
           (keep-perm _ due2)
 
       -- the base list is as long as the model's

@@ -142,7 +142,7 @@ refused-opening = History.open-refused
 -- ---- the link to the model: FlatStands t s says that the numbers t stand for the state s (Calls)
 
 -- "Opening sets each bound to 8": what an accepted opening left stands for the opened state
-pub opening-stands : (t : List ℕ) (o : Opened t) → FlatStands t (opened (o .buckets1) (o .buckets2))
+pub opening-stands : (t : List ℕ) (o : Opened t) → FlatStands t (opened (o .size))
 opening-stands = History.opened-stands
 
 -- each call answers as the model does, and leaves a table that stands for the state that the model comes to
@@ -193,17 +193,17 @@ module _ (t : List ℕ) (k : shaped t ≡ true) (h : FlatSound t) where
   module _ (i : Token) (p : ℕ) (l : p < 256) where
     -- statement 3, the rule of the bounds: after an accepted add each is the largest number, not above the old one, under which no
     -- non-empty selection of the words due there XORs to zero; first level
-    pub bounds-first : accepted (call t (add i p) .answer) ≡ true → (j : ℕ) → j < flatState t .buckets1
+    pub bounds-first : accepted (call t (add i p) .answer) ≡ true → (j : ℕ) → j < flatState t .size .buckets1
         → Largest (getD (flatState t .bounds1) j 0)
-        (due firstLevel (flatState t .buckets1) (words (flatState (call t (add i p) .table) .live)) j)
+        (due firstLevel (flatState t .size .buckets1) (words (flatState (call t (add i p) .table) .live)) j)
         (getD (flatState (call t (add i p) .table) .bounds1) j 0)
     bounds-first = History.rule-first t k h i p l
 
     -- then the second, where the words are due that the first does not hold now
-    pub bounds-second : accepted (call t (add i p) .answer) ≡ true → (j : ℕ) → j < flatState t .buckets2
+    pub bounds-second : accepted (call t (add i p) .answer) ≡ true → (j : ℕ) → j < flatState t .size .buckets2
         → Largest (getD (flatState t .bounds2) j 0)
-        (due secondLevel (flatState t .buckets2)
-        (passed firstLevel (flatState t .buckets1) (flatState (call t (add i p) .table) .bounds1) (words (flatState (call t (add i p) .table) .live))) j)
+        (due secondLevel (flatState t .size .buckets2)
+        (passed firstLevel (flatState t .size .buckets1) (flatState (call t (add i p) .table) .bounds1) (words (flatState (call t (add i p) .table) .live))) j)
         (getD (flatState (call t (add i p) .table) .bounds2) j 0)
     bounds-second = History.rule-second t k h i p l
 
@@ -223,10 +223,10 @@ statement-3 t u o r = Model.statement-3 tables states FlatStands refines Same Hi
 
 module _ (t : List ℕ) (o : Opened t) (ps : List Put) where
   -- "So the opening and these calls alone settle every answer and bound"
-  pub settles : (answers tables t ps ≡ answers states (opened (o .buckets1) (o .buckets2)) ps)
-      × (flatState (after tables t ps) ≡ after states (opened (o .buckets1) (o .buckets2)) ps)
+  pub settles : (answers tables t ps ≡ answers states (opened (o .size)) ps)
+      × (flatState (after tables t ps) ≡ after states (opened (o .size)) ps)
   settles =
-      let r = Model.settles tables states FlatStands refines t (opened (o .buckets1) (o .buckets2)) (opening-stands t o) ps in
+      let r = Model.settles tables states FlatStands refines t (opened (o .size)) (opening-stands t o) ps in
       (r .0, stands-one (after tables t ps) _ (r .1))
 
   -- "the table itself never gives cause 4 or 5 in a list": it is sound after each call
@@ -237,11 +237,11 @@ module _ (t : List ℕ) (o : Opened t) (ps : List Put) where
   never-4-5 = History.never t o ps
 
   -- "After each call its occupied rows and base entries hold just the live words, and its stored bounds are these": the model's
-  pub holds-live : List·Permᴰ (entriesOf rows unmixOf (tableOf (after tables t ps))) (after states (opened (o .buckets1) (o .buckets2)) ps .live)
+  pub holds-live : List·Permᴰ (entriesOf rows unmixOf (tableOf (after tables t ps))) (after states (opened (o .size)) ps .live)
   holds-live = Calls.stands-entries (after tables t ps) _ (History.after-stands t o ps)
 
-  pub stored-bounds : (bounds (tableOf (after tables t ps) .level1) ≡ after states (opened (o .buckets1) (o .buckets2)) ps .bounds1)
-      × (bounds (tableOf (after tables t ps) .level2) ≡ after states (opened (o .buckets1) (o .buckets2)) ps .bounds2)
+  pub stored-bounds : (bounds (tableOf (after tables t ps) .level1) ≡ after states (opened (o .size)) ps .bounds1)
+      × (bounds (tableOf (after tables t ps) .level2) ≡ after states (opened (o .size)) ps .bounds2)
   stored-bounds = let h = History.after-stands t o ps in (h .stands .bounds1, h .stands .bounds2)
 
   -- "The live count equals accepted adds less accepted withdrawals since opening"

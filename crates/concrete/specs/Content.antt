@@ -7,7 +7,7 @@ use lib.ListN.{length}
 use Rattle.lists.specs.Entries.{Entry, sort}
 use Rattle.bucket.specs.declared.Bucket.{Bucket}
 use Rattle.settle.specs.Settle.{contents}
-use Rattle.model.specs.Model.{State}
+use Rattle.model.specs.Model.{Size, State}
 use Rattle.concrete.specs.Table.{Table, bounds}
 
 -- the number of occupied rows of a level
@@ -24,6 +24,10 @@ allRows n (b ∷ bs) = contents n b ++ allRows n bs
 abbrev pub backOf : (ℕ → ℕ) → Entry → Entry
 backOf U e = record { word = U (U (e .word)); plan = e .plan }
 
+-- the number of buckets of each level
+abbrev pub sizeOf : Table → Size
+sizeOf T = record { buckets1 = length (T .level1); buckets2 = length (T .level2) }
+
 module _ (n : ℕ) (U : ℕ → ℕ) where
   -- the occupied rows and the base entries, by their words
   abbrev pub entriesOf : Table → List Entry
@@ -35,10 +39,4 @@ module _ (n : ℕ) (U : ℕ → ℕ) where
 
   -- what statement 3 compares: bucket numbers of each level, live words, plans and bounds
   abbrev pub stateOf : Table → State
-  stateOf T = record {
-    buckets1 = length (T .level1);
-    buckets2 = length (T .level2);
-    live = liveOf T;
-    bounds1 = bounds (T .level1);
-    bounds2 = bounds (T .level2);
-  }
+  stateOf T = record { size = sizeOf T; live = liveOf T; bounds1 = bounds (T .level1); bounds2 = bounds (T .level2) }

@@ -5,7 +5,7 @@ use mathlib.Core.Path.{_≡_}
 use mathlib.Core.List.{List}
 use Rattle.hash.specs.Mix.{unmixOf}
 use Rattle.answer.specs.declared.Answer.the-variants.{Accepted}
-use Rattle.model.specs.Model.{State, Call, add, change, withdraw, query}
+use Rattle.model.specs.Model.{Size, State, Call, add, change, withdraw, query}
 use Rattle.model.specs.Request as R
 use Rattle.model.specs.Request.{Token, Request, ask, respond}
 use Rattle.model.specs.Machine.{Machine, acceptedOf}
@@ -47,10 +47,9 @@ callsOf p = R.callsOf (p .request)
 
 -- t is what an accepted opening left
 pub record Opened (t : List ℕ) : Type 0 where
-  pub buckets1 : ℕ
-  pub buckets2 : ℕ
+  pub size : Size
   pub before : List ℕ
-  pub accepted : openCall buckets1 buckets2 before ≡ record { answer = Accepted 0; table = t }
+  pub accepted : openCall (size .buckets1) (size .buckets2) before ≡ record { answer = Accepted 0; table = t }
 
 -- the calls of ps that the table accepts, by the words of their identifiers
 abbrev pub acceptedCalls : List ℕ → List Put → List (Call ℕ)

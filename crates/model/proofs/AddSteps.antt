@@ -13,26 +13,26 @@ use Rattle.model.proofs.Levels.{lower-perm, passed-perm}
 use Rattle.model.proofs.Arrivals.{arrive, arrives, arrive-lower, arrives-all}
 use Rattle.model.proofs.Valid.{Valid}
 
-module _ (L1 L2 : Level) (s : State) (v : Valid L1 L2 s) (pos1 : 0 < s .buckets1) (pos2 : 0 < s .buckets2) (e : Entry) where
+module _ (L1 L2 : Level) (s : State) (v : Valid L1 L2 s) (pos1 : 0 < s .size .buckets1) (pos2 : 0 < s .size .buckets2) (e : Entry) where
   words-insert : List·Permᴰ (words (insert e (s .live))) (e .word ∷ words (s .live))
   words-insert = Permᴰ·map (λ (x : Entry). x .word) (insert-perm e (s .live))
 
   -- the first level's bounds once the word has arrived there
   abbrev pub first : List ℕ
-  first = arrive L1 (s .buckets1) (s .bounds1) (words (s .live)) (e .word)
+  first = arrive L1 (s .size .buckets1) (s .bounds1) (words (s .live)) (e .word)
 
   pub first-settled : first ≡ wouldLeave L1 L2 s e .bounds1
   first-settled =
-      arrive-lower L1 (s .buckets1) (s .bounds1) (words (s .live)) (e .word) (mod-lt (L1 .place (e .word) / 8) pos1) (v .length1) (v .free1)
-      ∙ sym (lower-perm L1 (s .buckets1) (s .bounds1) words-insert)
+      arrive-lower L1 (s .size .buckets1) (s .bounds1) (words (s .live)) (e .word) (mod-lt (L1 .place (e .word) / 8) pos1) (v .length1) (v .free1)
+      ∙ sym (lower-perm L1 (s .size .buckets1) (s .bounds1) words-insert)
 
   -- the second level's once the words `new` have arrived there: with those that the first level did not hold before, they are those
   -- that it does not hold now
   pub second-settled : (new : List ℕ)
-      → List·Permᴰ (new ++ passed L1 (s .buckets1) (s .bounds1) (words (s .live))) (passed L1 (s .buckets1) first (e .word ∷ words (s .live)))
-      → arrives L2 (s .buckets2) (s .bounds2) (passed L1 (s .buckets1) (s .bounds1) (words (s .live))) new ≡ wouldLeave L1 L2 s e .bounds2
+      → List·Permᴰ (new ++ passed L1 (s .size .buckets1) (s .bounds1) (words (s .live))) (passed L1 (s .size .buckets1) first (e .word ∷ words (s .live)))
+      → arrives L2 (s .size .buckets2) (s .bounds2) (passed L1 (s .size .buckets1) (s .bounds1) (words (s .live))) new ≡ wouldLeave L1 L2 s e .bounds2
   second-settled new q =
-      arrives-all L2 (s .buckets2) pos2 (s .bounds2) (passed L1 (s .buckets1) (s .bounds1) (words (s .live))) new
-      (passed L1 (s .buckets1) first (words (insert e (s .live)))) (v .length2) (v .free2)
-      (List·Permᴰ·trans q (Permᴰ·symm (passed-perm L1 (s .buckets1) first words-insert)))
-      ∙ ap (λ (b : List ℕ). lower L2 (s .buckets2) (s .bounds2) (passed L1 (s .buckets1) b (words (insert e (s .live))))) first-settled
+      arrives-all L2 (s .size .buckets2) pos2 (s .bounds2) (passed L1 (s .size .buckets1) (s .bounds1) (words (s .live))) new
+      (passed L1 (s .size .buckets1) first (words (insert e (s .live)))) (v .length2) (v .free2)
+      (List·Permᴰ·trans q (Permᴰ·symm (passed-perm L1 (s .size .buckets1) first words-insert)))
+      ∙ ap (λ (b : List ℕ). lower L2 (s .size .buckets2) (s .bounds2) (passed L1 (s .size .buckets1) b (words (insert e (s .live))))) first-settled

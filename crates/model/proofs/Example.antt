@@ -8,7 +8,7 @@ use Rattle.hash.specs.Fnv.{fnvFrom}
 use Rattle.answer.specs.declared.Answer.the-variants.{Accepted, WrongByte, Live, NotLive}
 use Rattle.identifier.specs.Identifier.{allowed, folded, wordOf, firstRefused, readOf}
 use Rattle.model.specs.Levels.{Level}
-use Rattle.model.specs.Model.{add, change, withdraw, query, opened}
+use Rattle.model.specs.Model.{Size, add, change, withdraw, query, opened}
 use Rattle.model.specs.Request.{ask}
 use Rattle.model.specs.Machine.{after, answers}
 use Rattle.model.specs.History.{wordModel, model}
@@ -34,9 +34,13 @@ bUS-17 = 0x62 ∷ 0x55 ∷ 0x53 ∷ 0x2d ∷ 0x31 ∷ 0x37 ∷ []
 a/b : List ℕ
 a/b = 0x61 ∷ 0x2f ∷ 0x62 ∷ []
 
+-- a bucket at each level
+abbrev small : Size
+small = record { buckets1 = 1; buckets2 = 1 }
+
 -- after `open 1 1`
 session :
-    answers model (opened 1 1)
+    answers model (opened small)
     (map ask
     (add Bus-17 40 ∷ add BUS-17 41 ∷ query bus-17 ∷ change bUS-17 9 ∷ add «Tram_2» 0
     ∷ withdraw BUS-17 ∷ query BUS-17 ∷ query «tram_2» ∷ add a/b 3 ∷ []))
@@ -49,10 +53,9 @@ plain : Level
 plain = record { vector = λ w. w; place = λ w. w }
 
 -- 6 is 3 XOR 5, and its threshold 6: the first level's bound falls to 6, and the word goes on to the second
-falls : after (wordModel plain plain) (opened 1 1) (add 5 40 ∷ add 3 0 ∷ add 6 1 ∷ [])
+falls : after (wordModel plain plain) (opened small) (add 5 40 ∷ add 3 0 ∷ add 6 1 ∷ [])
     ≡ record {
-      buckets1 = 1;
-      buckets2 = 1;
+      size = small;
       live = record { word = 3; plan = 0 } ∷ record { word = 5; plan = 40 } ∷ record { word = 6; plan = 1 } ∷ [];
       bounds1 = 6 ∷ [];
       bounds2 = 8 ∷ [];

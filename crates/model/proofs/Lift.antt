@@ -29,15 +29,15 @@ raised L n bounds {ws} {vs} low len h u i =
     (λ f. le-trans (le-of-eq (List·getD-eq-default bounds 0 (subst⁻¹ (λ (m : ℕ). m ≤ i) len (ltb-false i n f)))) zero-le)
 
 module _ (L1 L2 : Level) (s : State) (v : Valid L1 L2 s) where
-  lift-second : Sublistᴰ (passed L1 (s .buckets1) (lifted L1 L2 s .bounds1) (words (s .live))) (passed L1 (s .buckets1) (s .bounds1) (words (s .live)))
+  lift-second : Sublistᴰ (passed L1 (s .size .buckets1) (lifted L1 L2 s .bounds1) (words (s .live))) (passed L1 (s .size .buckets1) (s .bounds1) (words (s .live)))
   lift-second =
-      passed-sub L1 (s .buckets1) (lifted L1 L2 s .bounds1) (s .bounds1)
-      (raised L1 (s .buckets1) (s .bounds1) (v .low1) (v .length1) (v .free1) (Sublistᴰ·refl (words (s .live)))) (Sublistᴰ·refl (words (s .live)))
+      passed-sub L1 (s .size .buckets1) (lifted L1 L2 s .bounds1) (s .bounds1)
+      (raised L1 (s .size .buckets1) (s .bounds1) (v .low1) (v .length1) (v .free1) (Sublistᴰ·refl (words (s .live)))) (Sublistᴰ·refl (words (s .live)))
 
   pub lift-base : Sublistᴰ (base L1 L2 (lifted L1 L2 s)) (base L1 L2 s)
   lift-base =
-      passed-sub L2 (s .buckets2) (lifted L1 L2 s .bounds2) (s .bounds2)
-      (raised L2 (s .buckets2) (s .bounds2) (v .low2) (v .length2) (v .free2) lift-second) lift-second
+      passed-sub L2 (s .size .buckets2) (lifted L1 L2 s .bounds2) (s .bounds2)
+      (raised L2 (s .size .buckets2) (s .bounds2) (v .low2) (v .length2) (v .free2) lift-second) lift-second
 
   -- so it never overfills the base list, and leaves a valid state
   pub lift-fits : length (base L1 L2 (lifted L1 L2 s)) ≤ baseLimit

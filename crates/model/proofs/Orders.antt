@@ -16,7 +16,7 @@ use Rattle.lists.proofs.Sorts.{sort-perm, sort-order, fresh-sort, find-perm, di
 use Rattle.gf2.specs.Bound.{boundOf}
 use Rattle.bucket.specs.Bucket.{largestBound}
 use Rattle.model.specs.Levels.{Level, lower, passed}
-use Rattle.model.specs.Model.{baseLimit, State, addOf, Outcome, opened, settled, base, step}
+use Rattle.model.specs.Model.{baseLimit, Size, State, addOf, Outcome, opened, settled, base, step}
 use Rattle.model.specs.Machine.{accepted, after, AllAccepted}
 use Rattle.model.specs.History.{wordModel}
 use Rattle.model.proofs.Levels.{lower-anti, lower-again, passed-sub}
@@ -34,18 +34,24 @@ distinct-part es (e ∷ new) d = distinct-part (e ∷ es) new d .1
 joined-all : (es : List Entry) → List·Permᴰ (joined [] es) es
 joined-all es = subst (List·Permᴰ (joined [] es)) (append-nil es) (joined-perm [] es)
 
-module _ (L1 L2 : Level) (b1 b2 : ℕ) where
+module _ (L1 L2 : Level) (z : Size) where
+  abbrev b1 : ℕ
+  b1 = z .buckets1
+
+  abbrev b2 : ℕ
+  b2 = z .buckets2
+
   -- the state of these live words in a table just opened
   abbrev pub fromOpening : List Entry → State
-  fromOpening l = settled L1 L2 (opened b1 b2) l
+  fromOpening l = settled L1 L2 (opened z) l
 
   lower-nil : (L : Level) (n : ℕ) → tabulate (λ i. largestBound) n ≡ lower L n (tabulate (λ i. largestBound) n) []
   lower-nil L n =
       tabulate-ext (λ i. largestBound) (λ i. boundOf (getD (tabulate (λ j. largestBound) n) i 0) []) n
       (λ i h. sym (ap (λ (b : ℕ). boundOf b []) (tabulate-at (λ j. largestBound) n i h)))
 
-  opened-is : opened b1 b2 ≡ fromOpening []
-  opened-is = λ i. record { buckets1 = b1; buckets2 = b2; live = []; bounds1 = lower-nil L1 b1 i; bounds2 = lower-nil L2 b2 i }
+  opened-is : opened z ≡ fromOpening []
+  opened-is = λ i. record { size = z; live = []; bounds1 = lower-nil L1 b1 i; bounds2 = lower-nil L2 b2 i }
 
   module _ {l m : List Entry} (s : Sublistᴰ l m) where
     words-sub : Sublistᴰ (words l) (words m)
@@ -53,23 +59,23 @@ module _ (L1 L2 : Level) (b1 b2 : ℕ) where
 
     -- more words pass on to the second level
     second-sub : Sublistᴰ (passed L1 b1 (fromOpening l .bounds1) (words l)) (passed L1 b1 (fromOpening m .bounds1) (words m))
-    second-sub = passed-sub L1 b1 (fromOpening l .bounds1) (fromOpening m .bounds1) (lower-anti L1 b1 (opened b1 b2 .bounds1) words-sub) words-sub
+    second-sub = passed-sub L1 b1 (fromOpening l .bounds1) (fromOpening m .bounds1) (lower-anti L1 b1 (opened z .bounds1) words-sub) words-sub
 
     -- and to the base list
     base-sub : Sublistᴰ (base L1 L2 (fromOpening l)) (base L1 L2 (fromOpening m))
-    base-sub = passed-sub L2 b2 (fromOpening l .bounds2) (fromOpening m .bounds2) (lower-anti L2 b2 (opened b1 b2 .bounds2) second-sub) second-sub
+    base-sub = passed-sub L2 b2 (fromOpening l .bounds2) (fromOpening m .bounds2) (lower-anti L2 b2 (opened z .bounds2) second-sub) second-sub
 
     -- the bounds of l, lowered for m, are those of m
     settled-again : settled L1 L2 (fromOpening l) m ≡ fromOpening m
-    settled-again = λ i. record { buckets1 = b1; buckets2 = b2; live = m; bounds1 = first i; bounds2 = second i }
+    settled-again = λ i. record { size = z; live = m; bounds1 = first i; bounds2 = second i }
       where
         first : lower L1 b1 (fromOpening l .bounds1) (words m) ≡ fromOpening m .bounds1
-        first = lower-again L1 b1 (opened b1 b2 .bounds1) words-sub
+        first = lower-again L1 b1 (opened z .bounds1) words-sub
 
         second : lower L2 b2 (fromOpening l .bounds2) (passed L1 b1 (lower L1 b1 (fromOpening l .bounds1) (words m)) (words m)) ≡ fromOpening m .bounds2
         second =
             ap (λ (b : List ℕ). lower L2 b2 (fromOpening l .bounds2) (passed L1 b1 b (words m))) first
-            ∙ lower-again L2 b2 (opened b1 b2 .bounds2) second-sub
+            ∙ lower-again L2 b2 (opened z .bounds2) second-sub
 
   abbrev Fits : List Entry → Type 0
   Fits es = length (base L1 L2 (fromOpening (sort es))) ≤ baseLimit
@@ -106,20 +112,20 @@ module _ (L1 L2 : Level) (b1 b2 : ℕ) where
 
   -- ---- from opening
 
-  start : (es : List Entry) → AllAccepted (wordModel L1 L2) (opened b1 b2) (map addOf es) → Ran (opened b1 b2) [] es
-  start es a = ran es [] (opened b1 b2) opened-is tt (omega arith) a
+  start : (es : List Entry) → AllAccepted (wordModel L1 L2) (opened z) (map addOf es) → Ran (opened z) [] es
+  start es a = ran es [] (opened z) opened-is tt (omega arith) a
 
   -- what accepted adds leave is settled by their words and plans
-  pub adds-leave : (es : List Entry) → AllAccepted (wordModel L1 L2) (opened b1 b2) (map addOf es)
-      → after (wordModel L1 L2) (opened b1 b2) (map addOf es) ≡ settled L1 L2 (opened b1 b2) (sort es)
+  pub adds-leave : (es : List Entry) → AllAccepted (wordModel L1 L2) (opened z) (map addOf es)
+      → after (wordModel L1 L2) (opened z) (map addOf es) ≡ settled L1 L2 (opened z) (sort es)
   adds-leave es a = start es a .leaves ∙ ap fromOpening (sort-order (joined-all es) (start es a .distinct))
 
-  pub order-free : {ds es : List Entry} → List·Permᴰ ds es → AllAccepted (wordModel L1 L2) (opened b1 b2) (map addOf ds)
-      → AllAccepted (wordModel L1 L2) (opened b1 b2) (map addOf es)
-      × (after (wordModel L1 L2) (opened b1 b2) (map addOf ds) ≡ after (wordModel L1 L2) (opened b1 b2) (map addOf es))
+  pub order-free : {ds es : List Entry} → List·Permᴰ ds es → AllAccepted (wordModel L1 L2) (opened z) (map addOf ds)
+      → AllAccepted (wordModel L1 L2) (opened z) (map addOf es)
+      × (after (wordModel L1 L2) (opened z) (map addOf ds) ≡ after (wordModel L1 L2) (opened z) (map addOf es))
   order-free {ds} {es} s a =
       let d = start ds a .distinct in
       let j = List·Permᴰ·trans (joined-all ds) (List·Permᴰ·trans s (Permᴰ·symm (joined-all es))) in
-      let other = runs es [] (opened b1 b2) opened-is (distinct-perm j d)
+      let other = runs es [] (opened z) opened-is (distinct-perm j d)
       (subst (λ (l : List Entry). length (base L1 L2 (fromOpening l)) ≤ baseLimit) (sort-order j d) (start ds a .fits)) in
       (other, adds-leave ds a ∙ ap fromOpening (sort-order s (distinct-perm (joined-all ds) d)) ∙ sym (adds-leave es other))

@@ -18,7 +18,7 @@ use Rattle.bucket.specs.Bucket.{largestBound}
 use Rattle.answer.specs.Numbers.{numberOf}
 use Rattle.answer.specs.declared.Answer.the-variants.{Full}
 use Rattle.model.specs.Levels.{Level, firstLevel, secondLevel, threshold, passed, due, lower}
-use Rattle.model.specs.Model.{State, Call, addOf, change, withdraw, query, Outcome, opened, wouldLeave, base, step, lifted}
+use Rattle.model.specs.Model.{Size, State, Call, addOf, change, withdraw, query, Outcome, opened, wouldLeave, base, step, lifted}
 use Rattle.model.specs.Request.{Request, respond, callsOf}
 use Rattle.model.specs.Machine.{Machine, accepted, after, answers, AllAccepted, Alike, Refines, Compares}
 use Rattle.model.specs.History.{wordModel, model, acceptedCalls, addsIn, withdrawalsIn, told}
@@ -35,11 +35,11 @@ use Rattle.model.proofs.Lift as Lift
 -- ---- one call, at any two levels
 
 -- "Bounds are 8 at first"
-pub opening-first : (b1 b2 i : ℕ) → i < b1 → getD (opened b1 b2 .bounds1) i 0 ≡ 8
-opening-first b1 b2 i h = tabulate-at (λ j. 8) b1 i h
+pub opening-first : (z : Size) (i : ℕ) → i < z .buckets1 → getD (opened z .bounds1) i 0 ≡ 8
+opening-first z i h = tabulate-at (λ j. 8) (z .buckets1) i h
 
-pub opening-second : (b1 b2 i : ℕ) → i < b2 → getD (opened b1 b2 .bounds2) i 0 ≡ 8
-opening-second b1 b2 i h = tabulate-at (λ j. 8) b2 i h
+pub opening-second : (z : Size) (i : ℕ) → i < z .buckets2 → getD (opened z .bounds2) i 0 ≡ 8
+opening-second z i h = tabulate-at (λ j. 8) (z .buckets2) i h
 
 -- no threshold reaches the largest bound, so under it every word due there is held
 pub all-below : (L : Level) (w : ℕ) → threshold L w < largestBound
@@ -52,13 +52,13 @@ module _ (L1 L2 : Level) (s : State) (e : Entry) where
 
   -- statement 3, the bounds: after an accepted add each bound is the largest number, not above the old one, under which no non-empty
   -- selection of the words due there XORs to zero. First level
-  pub bounds-first : accepted (outcome .answer) ≡ true → (i : ℕ) → i < s .buckets1
-      → Largest (getD (s .bounds1) i 0) (due L1 (s .buckets1) (words (outcome .after .live)) i) (getD (outcome .after .bounds1) i 0)
+  pub bounds-first : accepted (outcome .answer) ≡ true → (i : ℕ) → i < s .size .buckets1
+      → Largest (getD (s .bounds1) i 0) (due L1 (s .size .buckets1) (words (outcome .after .live)) i) (getD (outcome .after .bounds1) i 0)
   bounds-first a i h = rw (Steps.added L1 L2 s e a .left) (Steps.bounds-first L1 L2 s (insert e (s .live)) i h)
 
   -- then the second, where the words are due that the first does not hold now
-  pub bounds-second : accepted (outcome .answer) ≡ true → (i : ℕ) → i < s .buckets2
-      → Largest (getD (s .bounds2) i 0) (due L2 (s .buckets2) (passed L1 (s .buckets1) (outcome .after .bounds1) (words (outcome .after .live))) i)
+  pub bounds-second : accepted (outcome .answer) ≡ true → (i : ℕ) → i < s .size .buckets2
+      → Largest (getD (s .bounds2) i 0) (due L2 (s .size .buckets2) (passed L1 (s .size .buckets1) (outcome .after .bounds1) (words (outcome .after .live))) i)
       (getD (outcome .after .bounds2) i 0)
   bounds-second a i h = rw (Steps.added L1 L2 s e a .left) (Steps.bounds-second L1 L2 s (insert e (s .live)) i h)
 
@@ -94,20 +94,20 @@ pub respond-keeps : (s : State) (q : Request) → accepted (respond s q .answer)
 respond-keeps = Requests.respond-keeps
 
 -- "The live count equals accepted adds less accepted withdrawals since opening"
-pub count : (b1 b2 : ℕ) (qs : List Request)
-    → length (after model (opened b1 b2) qs .live) + withdrawalsIn (acceptedCalls b1 b2 qs) ≡ addsIn (acceptedCalls b1 b2 qs)
-count b1 b2 qs =
-    let h = Calls.count-after firstLevel secondLevel model callsOf Requests.stands-for (opened b1 b2) (Valid.valid-opened firstLevel secondLevel b1 b2) qs in omega arith
+pub count : (z : Size) (qs : List Request)
+    → length (after model (opened z) qs .live) + withdrawalsIn (acceptedCalls z qs) ≡ addsIn (acceptedCalls z qs)
+count z qs =
+    let h = Calls.count-after firstLevel secondLevel model callsOf Requests.stands-for (opened z) (Valid.valid-opened firstLevel secondLevel z) qs in omega arith
 
 -- "a word is live if, of its accepted adds and withdrawals, the last is an add; its plan is that of its last accepted add or change"
-pub live-plan : (b1 b2 : ℕ) (qs : List Request) (v : ℕ) → find v (after model (opened b1 b2) qs .live) ≡ told v (acceptedCalls b1 b2 qs)
-live-plan b1 b2 qs v =
-    Calls.told-after firstLevel secondLevel model callsOf Requests.stands-for v (opened b1 b2) (Valid.valid-opened firstLevel secondLevel b1 b2) false 0 refl qs
+pub live-plan : (z : Size) (qs : List Request) (v : ℕ) → find v (after model (opened z) qs .live) ≡ told v (acceptedCalls z qs)
+live-plan z qs v =
+    Calls.told-after firstLevel secondLevel model callsOf Requests.stands-for v (opened z) (Valid.valid-opened firstLevel secondLevel z) false 0 refl qs
 
 -- "in the base list, .. at most 64 entries"
-pub base-fits : (b1 b2 : ℕ) (qs : List Request) → length (base firstLevel secondLevel (after model (opened b1 b2) qs)) ≤ 64
-base-fits b1 b2 qs =
-    Calls.valid-after firstLevel secondLevel model callsOf Requests.stands-for (opened b1 b2) (Valid.valid-opened firstLevel secondLevel b1 b2) qs .fits
+pub base-fits : (z : Size) (qs : List Request) → length (base firstLevel secondLevel (after model (opened z) qs)) ≤ 64
+base-fits z qs =
+    Calls.valid-after firstLevel secondLevel model callsOf Requests.stands-for (opened z) (Valid.valid-opened firstLevel secondLevel z) qs .fits
 
 -- "the table itself never gives cause 4 or 5 in a list": the model does not, and the answers are the model's (`settles`)
 pub never-4-5 : (s : State) (q : Request) → (numberOf (respond s q .answer) ≡ 4 → ⊥) × (numberOf (respond s q .answer) ≡ 5 → ⊥)
@@ -131,10 +131,10 @@ module _ {T S C : Type 0} (M : Machine T C) (N : Machine S C) (Stands : T → S 
 -- ---- orders of document 02
 
 -- order 8: if all adds of a sequence are accepted from opening, so are all in every other sequence of them, and both leave one state
-pub order-of-adds : (L1 L2 : Level) (b1 b2 : ℕ) {ds es : List Entry} → List·Permᴰ ds es
-    → AllAccepted (wordModel L1 L2) (opened b1 b2) (map addOf ds)
-    → AllAccepted (wordModel L1 L2) (opened b1 b2) (map addOf es)
-    × (after (wordModel L1 L2) (opened b1 b2) (map addOf ds) ≡ after (wordModel L1 L2) (opened b1 b2) (map addOf es))
+pub order-of-adds : (L1 L2 : Level) (z : Size) {ds es : List Entry} → List·Permᴰ ds es
+    → AllAccepted (wordModel L1 L2) (opened z) (map addOf ds)
+    → AllAccepted (wordModel L1 L2) (opened z) (map addOf es)
+    × (after (wordModel L1 L2) (opened z) (map addOf ds) ≡ after (wordModel L1 L2) (opened z) (map addOf es))
 order-of-adds = Orders.order-free
 
 -- order 9: a lift never overfills the base list. The states that calls reach are valid (Calls.valid-after)

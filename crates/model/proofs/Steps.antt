@@ -69,14 +69,14 @@ module _ (L1 L2 : Level) where
 
   -- ---- the bounds that the live words l would leave: first level before second
 
-  pub bounds-first : (s : State) (l : List Entry) (i : ℕ) → i < s .buckets1
-      → Largest (getD (s .bounds1) i 0) (due L1 (s .buckets1) (words l) i) (getD (settled L1 L2 s l .bounds1) i 0)
-  bounds-first s l i h = lower-largest L1 (s .buckets1) (s .bounds1) (words l) i h
+  pub bounds-first : (s : State) (l : List Entry) (i : ℕ) → i < s .size .buckets1
+      → Largest (getD (s .bounds1) i 0) (due L1 (s .size .buckets1) (words l) i) (getD (settled L1 L2 s l .bounds1) i 0)
+  bounds-first s l i h = lower-largest L1 (s .size .buckets1) (s .bounds1) (words l) i h
 
-  pub bounds-second : (s : State) (l : List Entry) (i : ℕ) → i < s .buckets2
-      → Largest (getD (s .bounds2) i 0) (due L2 (s .buckets2) (passed L1 (s .buckets1) (settled L1 L2 s l .bounds1) (words l)) i)
+  pub bounds-second : (s : State) (l : List Entry) (i : ℕ) → i < s .size .buckets2
+      → Largest (getD (s .bounds2) i 0) (due L2 (s .size .buckets2) (passed L1 (s .size .buckets1) (settled L1 L2 s l .bounds1) (words l)) i)
       (getD (settled L1 L2 s l .bounds2) i 0)
-  bounds-second s l i h = lower-largest L2 (s .buckets2) (s .bounds2) (passed L1 (s .buckets1) (settled L1 L2 s l .bounds1) (words l)) i h
+  bounds-second s l i h = lower-largest L2 (s .size .buckets2) (s .bounds2) (passed L1 (s .size .buckets1) (settled L1 L2 s l .bounds1) (words l)) i h
 
   -- ---- the add of a new word
 

@@ -11,28 +11,28 @@ use Rattle.lists.proofs.Keep.{map-sub, length-sub, tabulate-at, tabulate-length
 use Rattle.lists.proofs.Entries.{insert-ascending, remove-sub, remove-ascending, update-words, update-ascending}
 use Rattle.bucket.specs.Bucket.{largestBound}
 use Rattle.model.specs.Levels.{Level, passed}
-use Rattle.model.specs.Model.{baseLimit, State, Call, opened, withLive, settled, base, step}
+use Rattle.model.specs.Model.{baseLimit, Size, State, Call, opened, withLive, settled, base, step}
 use Rattle.model.proofs.Steps.{by-step}
 use Rattle.model.proofs.Levels.{AllFree, lower-free, lower-low, lower-length, free-part, passed-sub}
 
 module _ (L1 L2 : Level) where
   pub record Valid (s : State) : Type 0 where
     pub ascending : Ascending (s .live)
-    pub length1 : length (s .bounds1) ≡ s .buckets1
-    pub length2 : length (s .bounds2) ≡ s .buckets2
-    pub low1 : (i : ℕ) → i < s .buckets1 → getD (s .bounds1) i 0 ≤ largestBound
-    pub low2 : (i : ℕ) → i < s .buckets2 → getD (s .bounds2) i 0 ≤ largestBound
-    pub free1 : AllFree L1 (s .buckets1) (s .bounds1) (words (s .live))
-    pub free2 : AllFree L2 (s .buckets2) (s .bounds2) (passed L1 (s .buckets1) (s .bounds1) (words (s .live)))
+    pub length1 : length (s .bounds1) ≡ s .size .buckets1
+    pub length2 : length (s .bounds2) ≡ s .size .buckets2
+    pub low1 : (i : ℕ) → i < s .size .buckets1 → getD (s .bounds1) i 0 ≤ largestBound
+    pub low2 : (i : ℕ) → i < s .size .buckets2 → getD (s .bounds2) i 0 ≤ largestBound
+    pub free1 : AllFree L1 (s .size .buckets1) (s .bounds1) (words (s .live))
+    pub free2 : AllFree L2 (s .size .buckets2) (s .bounds2) (passed L1 (s .size .buckets1) (s .bounds1) (words (s .live)))
     pub fits : length (base L1 L2 s) ≤ baseLimit
 
-  pub valid-opened : (b1 b2 : ℕ) → Valid (opened b1 b2)
-  valid-opened b1 b2 = record {
+  pub valid-opened : (z : Size) → Valid (opened z)
+  valid-opened z = record {
     ascending = tt;
-    length1 = tabulate-length (λ i. largestBound) b1;
-    length2 = tabulate-length (λ i. largestBound) b2;
-    low1 = λ i h. le-of-eq (tabulate-at (λ j. largestBound) b1 i h);
-    low2 = λ i h. le-of-eq (tabulate-at (λ j. largestBound) b2 i h);
+    length1 = tabulate-length (λ i. largestBound) (z .buckets1);
+    length2 = tabulate-length (λ i. largestBound) (z .buckets2);
+    low1 = λ i h. le-of-eq (tabulate-at (λ j. largestBound) (z .buckets1) i h);
+    low2 = λ i h. le-of-eq (tabulate-at (λ j. largestBound) (z .buckets2) i h);
     free1 = λ i h. refl;
     free2 = λ i h. refl;
     fits = omega arith;
@@ -41,16 +41,16 @@ module _ (L1 L2 : Level) where
   -- some words go, or plans change
   pub valid-live : (s : State) → Valid s → (l : List Entry) → Ascending l → Sublistᴰ (words l) (words (s .live)) → Valid (withLive s l)
   valid-live s v l a u =
-      let w = passed-sub L1 (s .buckets1) (s .bounds1) (s .bounds1) (λ i. le-refl _) u in
+      let w = passed-sub L1 (s .size .buckets1) (s .bounds1) (s .bounds1) (λ i. le-refl _) u in
       record {
         ascending = a;
         length1 = v .length1;
         length2 = v .length2;
         low1 = v .low1;
         low2 = v .low2;
-        free1 = free-part L1 (s .buckets1) (s .bounds1) u (v .free1);
-        free2 = free-part L2 (s .buckets2) (s .bounds2) w (v .free2);
-        fits = le-trans (length-sub (passed-sub L2 (s .buckets2) (s .bounds2) (s .bounds2) (λ i. le-refl _) w)) (v .fits);
+        free1 = free-part L1 (s .size .buckets1) (s .bounds1) u (v .free1);
+        free2 = free-part L2 (s .size .buckets2) (s .bounds2) w (v .free2);
+        fits = le-trans (length-sub (passed-sub L2 (s .size .buckets2) (s .bounds2) (s .bounds2) (λ i. le-refl _) w)) (v .fits);
       }
 
   -- the bounds are lowered for the live words l
@@ -59,12 +59,12 @@ module _ (L1 L2 : Level) where
       let first : List ℕ = settled L1 L2 s l .bounds1 in
       record {
         ascending = a;
-        length1 = lower-length L1 (s .buckets1) (s .bounds1) (words l);
-        length2 = lower-length L2 (s .buckets2) (s .bounds2) (passed L1 (s .buckets1) first (words l));
-        low1 = λ i k. le-trans (lower-low L1 (s .buckets1) (s .bounds1) (words l) i k) (v .low1 i k);
-        low2 = λ i k. le-trans (lower-low L2 (s .buckets2) (s .bounds2) (passed L1 (s .buckets1) first (words l)) i k) (v .low2 i k);
-        free1 = lower-free L1 (s .buckets1) (s .bounds1) (words l);
-        free2 = lower-free L2 (s .buckets2) (s .bounds2) (passed L1 (s .buckets1) first (words l));
+        length1 = lower-length L1 (s .size .buckets1) (s .bounds1) (words l);
+        length2 = lower-length L2 (s .size .buckets2) (s .bounds2) (passed L1 (s .size .buckets1) first (words l));
+        low1 = λ i k. le-trans (lower-low L1 (s .size .buckets1) (s .bounds1) (words l) i k) (v .low1 i k);
+        low2 = λ i k. le-trans (lower-low L2 (s .size .buckets2) (s .bounds2) (passed L1 (s .size .buckets1) first (words l)) i k) (v .low2 i k);
+        free1 = lower-free L1 (s .size .buckets1) (s .bounds1) (words l);
+        free2 = lower-free L2 (s .size .buckets2) (s .bounds2) (passed L1 (s .size .buckets1) first (words l));
         fits = h;
       }
 

@@ -6,7 +6,7 @@ use mathlib.Core.List.{List, [], _∷_, _++_}
 use mathlib.Core.Option.{Option, none, some}
 use lib.Dec.{eqb}
 use Rattle.model.specs.Levels.{Level}
-use Rattle.model.specs.Model.{State, Call, add, change, withdraw, query, opened, step}
+use Rattle.model.specs.Model.{Size, State, Call, add, change, withdraw, query, opened, step}
 use Rattle.model.specs.Request.{Request, respond, callsOf}
 use Rattle.model.specs.Machine.{Machine, acceptedOf}
 
@@ -24,8 +24,8 @@ callsIn f [] = []
 callsIn f (c ∷ cs) = f c ++ callsIn f cs
 
 -- the calls that are accepted since opening, by the words of their identifiers
-abbrev pub acceptedCalls : ℕ → ℕ → List Request → List (Call ℕ)
-acceptedCalls b1 b2 qs = callsIn callsOf (acceptedOf model (opened b1 b2) qs)
+abbrev pub acceptedCalls : Size → List Request → List (Call ℕ)
+acceptedCalls z qs = callsIn callsOf (acceptedOf model (opened z) qs)
 
 -- the number of adds among these calls
 abbrev pub addsIn : List (Call ℕ) → ℕ

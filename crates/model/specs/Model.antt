@@ -17,10 +17,14 @@ use Rattle.model.specs.Levels.{Level, lower, passed}
 abbrev pub baseLimit : ℕ
 baseLimit = 64
 
--- the number of buckets of each level, the live words with their plans, ascending by word, and the bounds of each level's buckets
-pub record State : Type 0 where
+-- the number of buckets of each level, which an opening fixes
+pub record Size : Type 0 where
   pub buckets1 : ℕ
   pub buckets2 : ℕ
+
+-- the size, the live words with their plans, ascending by word, and the bounds of each level's buckets
+pub record State : Type 0 where
+  pub size : Size
   pub live : List Entry
   pub bounds1 : List ℕ
   pub bounds2 : List ℕ
@@ -42,18 +46,12 @@ pub record Outcome : Type 0 where
   pub after : State
 
 -- opening: no word is live, each bound is the largest
-abbrev pub opened : ℕ → ℕ → State
-opened b1 b2 = record {
-  buckets1 = b1;
-  buckets2 = b2;
-  live = [];
-  bounds1 = tabulate (λ i. largestBound) b1;
-  bounds2 = tabulate (λ i. largestBound) b2;
-}
+abbrev pub opened : Size → State
+opened z = record { size = z; live = []; bounds1 = tabulate (λ i. largestBound) (z .buckets1); bounds2 = tabulate (λ i. largestBound) (z .buckets2) }
 
 -- the state with these live words, and every bound kept
 abbrev pub withLive : State → List Entry → State
-withLive s l = record { buckets1 = s .buckets1; buckets2 = s .buckets2; live = l; bounds1 = s .bounds1; bounds2 = s .bounds2 }
+withLive s l = record { size = s .size; live = l; bounds1 = s .bounds1; bounds2 = s .bounds2 }
 
 -- a call that asks for a live word and leaves the live words l, by the plan of the word, if it is live
 abbrev pub stepLive : State → List Entry → Option ℕ → Outcome
@@ -65,9 +63,9 @@ module _ (L1 L2 : Level) where
   -- first does not hold
   abbrev pub settled : State → List Entry → State
   settled s l =
-      let first : List ℕ = lower L1 (s .buckets1) (s .bounds1) (words l) in
-      let second : List ℕ = lower L2 (s .buckets2) (s .bounds2) (passed L1 (s .buckets1) first (words l)) in
-      record { buckets1 = s .buckets1; buckets2 = s .buckets2; live = l; bounds1 = first; bounds2 = second }
+      let first : List ℕ = lower L1 (s .size .buckets1) (s .bounds1) (words l) in
+      let second : List ℕ = lower L2 (s .size .buckets2) (s .bounds2) (passed L1 (s .size .buckets1) first (words l)) in
+      record { size = s .size; live = l; bounds1 = first; bounds2 = second }
 
   -- the state that the add of the new word e would leave
   abbrev pub wouldLeave : State → Entry → State
@@ -75,7 +73,7 @@ module _ (L1 L2 : Level) where
 
   -- the live words that neither level holds: those of the base list (which has their w')
   abbrev pub base : State → List ℕ
-  base s = passed L2 (s .buckets2) (s .bounds2) (passed L1 (s .buckets1) (s .bounds1) (words (s .live)))
+  base s = passed L2 (s .size .buckets2) (s .bounds2) (passed L1 (s .size .buckets1) (s .bounds1) (words (s .live)))
 
   -- the add that would leave t; where that needs a longer base list, the add changes nothing at all
   abbrev pub unlessFull : State → State → Outcome
@@ -98,4 +96,4 @@ module _ (L1 L2 : Level) where
 
   -- each bound raised to the largest for the live words, as if they had come to a table just opened (document 02, order 9)
   abbrev pub lifted : State → State
-  lifted s = settled (opened (s .buckets1) (s .buckets2)) (s .live)
+  lifted s = settled (opened (s .size)) (s .live)

@@ -74,7 +74,7 @@ module _ (b1 b2 : ℕ) (t ws u : List ℕ) (q : u ≡ openCall b1 b2 t .table) w
   -- what an accepted opening leaves is sound
   pub opened-ready : accepted (openCall b1 b2 t .answer) ≡ true → Ready u
   opened-ready y =
-      let k = stands-sound _ _ (opening-stands (openCall b1 b2 t .table) (record { buckets1 = b1; buckets2 = b2; before = t; accepted = opened y })) in
+      let k = stands-sound _ _ (opening-stands (openCall b1 b2 t .table) (record { size = record { buckets1 = b1; buckets2 = b2 }; before = t; accepted = opened y })) in
       subst⁻¹ Ready q (record { shape = k .0; sound = k .2 })
 
   pub filled-some : accepted (openCall b1 b2 t .answer) ≡ true → (n : ℕ) (v : List ℕ) → Gives (takenFrom 0 u ws) n v → Gives (filled b1 b2 t ws) n v

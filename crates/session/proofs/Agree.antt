@@ -98,7 +98,7 @@ module _ (m : Option (List ℕ)) (k : Option State) (h : BothStand m k) where
   open-alike b1 b2 =
       cases (inRange b1 b2)
       (λ r. rw (open-is b1 b2 .0 r, r)
-      (refl, opening-stands (numbersOf (openTable rows solutions b1 b2)) (record { buckets1 = b1; buckets2 = b2; before = zeros b1 b2; accepted = open-is b1 b2 .0 r })))
+      (refl, opening-stands (numbersOf (openTable rows solutions b1 b2)) (record { size = record { buckets1 = b1; buckets2 = b2 }; before = zeros b1 b2; accepted = open-is b1 b2 .0 r })))
       (λ r. rw (open-is b1 b2 .1 r, r) (refl, h))
 
   refuse-alike : Alike (refuse tables m) (refuse states k)

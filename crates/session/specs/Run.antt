@@ -83,6 +83,6 @@ output s = outputOf tables s
 abbrev pub states : Desk State
 states = record {
   answer = λ b1 b2. cond (inRange b1 b2) (Accepted 0) WrongBuckets;
-  opened = M.opened;
+  opened = λ b1 b2. M.opened (record { buckets1 = b1; buckets2 = b2 });
   calls = record { answer = λ t c. serve t c .answer; next = λ t c. serve t c .after };
 }

@@ -224,10 +224,10 @@ all-bounded t h (p ∷ ps) = all-bounded _ (request-bounded t h (p .request)) ps
 -- after any list of calls since an accepted opening
 after-bounded : (t : List ℕ) → Opened t → (ps : List Put) → BoundedNumbers (after tables t ps)
 after-bounded t o =
-    let k = open-cases (o .buckets1) (o .buckets2) (o .before) (ap (λ (x : Outcome). x .answer) (o .accepted)) in
+    let k = open-cases (o .size .buckets1) (o .size .buckets2) (o .before) (ap (λ (x : Outcome). x .answer) (o .accepted)) in
     all-bounded t
     (subst BoundedNumbers (sym (k .1) ∙ ap (λ (x : Outcome). x .table) (o .accepted))
-    (numbers (C.openTable rows solutions (o .buckets1) (o .buckets2)) (record { level1 = opened rows solutions (o .buckets1); level2 = opened rows solutions (o .buckets2); fits = omega arith })))
+    (numbers (C.openTable rows solutions (o .size .buckets1) (o .size .buckets2)) (record { level1 = opened rows solutions (o .size .buckets1); level2 = opened rows solutions (o .size .buckets2); fits = omega arith })))
 
 level-sols : (bs : List Bucket) → Every (Bounded rows solutions) bs → Every Narrow bs
 level-sols [] h = tt
