@@ -1,6 +1,6 @@
 // The library for C and Rust: one entry for each call, over table and plane. Each returns the number of the answer (0: accepted) and puts
 // the number that goes with it into `value`; include/limgoshi.h declares them. No entry has a `requires`.
-// Cites answer, table, adding, plane and writing. Programs in other languages call it.
+// Cites answer, table_open, table, adding, plane and writing. Programs in other languages call it.
 ghost use mathlib.Core.Path.{_≡_};
 ghost use Rattle.answer.specs.Numbers.{numberOf, valueOf};
 ghost use Rattle.model.specs.Model.{add, change, withdraw, query};
@@ -13,7 +13,7 @@ ghost use Rattle.writing.specs.Write.{writeCall};
 pub extern "C" fn limgoshi_open(t: &mut [u64], b1: u64, b2: u64, value: &mut u64) -> u64
     ensures { λ r. ⌜ (r ≡ numberOf (openCall b1 b2 (now (t .entry)) .answer)) × (now (value .exit) ≡ valueOf (openCall b1 b2 (now (t .entry)) .answer)) × (now (t .exit) ≡ openCall b1 b2 (now (t .entry)) .table) ⌝ }
 {
-    let a = table::open(t, b1, b2);
+    let a = table_open::open(t, b1, b2);
     *value = answer::value(a);
     answer::number(a)
 }

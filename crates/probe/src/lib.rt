@@ -1,6 +1,6 @@
 // Entries for other languages over the parts of the library: a program made without this code is compared with them.
 // Definitions: specs/Probe.antt (identifiers), specs/Steps.antt (one bucket), specs/Fill.antt (a table that is filled).
-// Cites answer, codec, hash, identifier, bucket, eliminate, table, adding, text and session. Nothing cites it.
+// Cites answer, codec, hash, identifier, bucket, eliminate, table_open, table, adding, text and session. Nothing cites it.
 use answer::Answer;
 use bucket::Bucket;
 use identifier::Identifier;
@@ -179,7 +179,7 @@ fn add_all(t: &mut [u64], words: &[u64]) -> u64
 pub extern "C" fn probe_fill(t: &mut [u64], b1: u64, b2: u64, words: &[u64]) -> u64
     ensures { λ r. ⌜ (r ≡ filled b1 b2 (now (t .entry)) (now (words .entry)) .number) × (now (t .exit) ≡ filled b1 b2 (now (t .entry)) (now (words .entry)) .words) ⌝ }
 {
-    if accepted(table::open(t, b1, b2)) {
+    if accepted(table_open::open(t, b1, b2)) {
         return add_all(t, words);
     }
     0

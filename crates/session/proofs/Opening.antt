@@ -13,7 +13,7 @@ use Rattle.concrete.specs.Layout.{inRange, lengthOf, longest}
 use Rattle.concrete.specs.Calls.{rows, solutions, openCall}
 use Rattle.layout.proofs.Shape.{range}
 use Rattle.table.specs.Ready.{Ready}
-use Rattle.table.proofs.Opened.{accepted}
+use Rattle.table_open.proofs.Opened.{accepted}
 use Rattle.session.specs.Run.{tables}
 use Rattle.session.specs.Buffer.{heldIn, AllReady, Holds}
 use Rattle.session.proofs.Agree.{open-is}

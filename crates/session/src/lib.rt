@@ -3,8 +3,8 @@
 // Definitions: specs/Run.antt (what is printed for an input: the calls of concrete folded over the lines); specs/Buffer.antt has what is
 // open, in the code's buffer, and what the code does at a line.
 // Laws: proofs/Agree.antt (the model would print the same; the table is sound at each line), proofs/Session.antt (document 01's session).
-// Cites text (a line and what is printed for it), codec, answer, identifier, layout, table and adding. lines is the program over it, and
-// probe has an entry to it.
+// Cites text (a line and what is printed for it), codec, answer, identifier, layout, table_open, table and adding. lines is the program over
+// it, and probe has an entry to it.
 use answer::Answer;
 use identifier::Identifier;
 use identifier::Read;
@@ -69,7 +69,7 @@ pub(crate) fn open_line(
 {
     if layout::in_range(b1, b2) {
         let n = layout::length_of(b1, b2);
-        let a = table::open(&mut t[..n], b1, b2);
+        let a = table_open::open(&mut t[..n], b1, b2);
         return Progress {
             held: n,
             printed: text::put_answer(out, at, a),

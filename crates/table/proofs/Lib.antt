@@ -1,6 +1,4 @@
 -- The laws of the crate.
-pub mod Stretch
-pub mod Opened
 pub mod Touched
 pub mod Places
 pub mod Calls

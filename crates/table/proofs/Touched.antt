@@ -20,7 +20,10 @@ use Rattle.concrete.specs.Layout.{buckets1At, buckets2At, baseCountAt, basePair
 use Rattle.concrete.proofs.Numbers.{ShapedTable, Laid, drop-base, header-read, from-part, write-first, write-second, write-base, forth}
 use Rattle.layout.proofs.Shape.{Shape, first-lt, second-lt, first-bucket, second-bucket}
 use Rattle.base.specs.Base.{Pairs}
-use Rattle.table.proofs.Stretch.{stretch}
+
+-- k elements from a on, as they are lent
+stretch : (a k : ℕ) (xs : List ℕ) → take (a + k - a) (drop a xs) ≡ take k (drop a xs)
+stretch a k xs = let e : a + k - a ≡ k = omega arith in ap (λ (j : ℕ). take j (drop a xs)) e
 
 -- ---- the parts of the numbers
 

@@ -1,5 +1,5 @@
-// The calls of document 01's table on a lent slice of any length and contents, with an identifier of any bytes: opening, query, change
-// and withdrawal. Each is an equation with a definition of concrete (specs/Calls.antt): the answer, causes in document 01's order, and
+// The calls of document 01's table on a lent slice of any length and contents, with an identifier of any bytes: query, change and
+// withdrawal. Each is an equation with a definition of concrete (specs/Calls.antt): the answer, causes in document 01's order, and
 // every number of the table afterwards. specs/Ready.antt has what every call tests first; the functions by word, which ask for a table
 // that passes, are for callers that know it does. proofs/Touched.antt has what one touched bucket or base list does to the numbers.
 // Cites concrete, layout (shape, places), sound, base, bucket and identifier. The C entries and the line program build on it.
@@ -10,87 +10,17 @@ use identifier::Identifier;
 use identifier::Read;
 use layout::Table;
 ghost use mathlib.Core.Path.{_≡_};
-ghost use mathlib.Core.Bool.{true};
-ghost use mathlib.Core.List.{[], _∷_};
-ghost use Prim.Native.Nat.{_+_, _*_, _<_, _≤_};
-ghost use lib.ListN.{length, drop, replicate};
-ghost use Rattle.bucket.specs.Bucket.{emptyBucket};
+ghost use mathlib.Core.List.{[]};
+ghost use lib.ListN.{length};
 ghost use Rattle.bucket.specs.Words.{bucketFrom, wordsOf};
 ghost use Rattle.settle.specs.Settle.{planOf};
 ghost use Rattle.base.specs.Base.{Pairs, foundOf};
 ghost use Rattle.identifier.specs.Identifier.{readOf};
 ghost use Rattle.model.specs.Model.{change, withdraw, query};
-ghost use Rattle.concrete.specs.Table.{openTable};
-ghost use Rattle.concrete.specs.Layout.{header, levelNumbers, pairsFrom, basePairs, numbersOf, inRange, lengthOf};
-ghost use Rattle.concrete.specs.Calls.{rows, solutions, tableOf, planIn, openCall, served, call};
+ghost use Rattle.concrete.specs.Layout.{pairsFrom, basePairs, numbersOf};
+ghost use Rattle.concrete.specs.Calls.{rows, solutions, tableOf, planIn, served, call};
 ghost use Rattle.table.specs.Ready.{Ready, admitted};
 ghost use Rattle.table.specs.Edit.{onBucket, onBase, touched, leaving, asked};
-
-// 0 in each number.
-pub(crate) fn clear(words: &mut [u64])
-    ensures { λ _. ⌜ now (words .exit) ≡ replicate (length (now (words .entry))) 0 ⌝ }
-{
-    let mut i: usize = 0;
-    while i < words.len() {
-        words[i] = 0;
-        i += 1;
-    }
-}
-
-// Empty buckets one after the other.
-pub(crate) fn empty_buckets(words: &mut [u64], count: usize)
-    requires { do ⌜ length (now words) ≡ count * (← ⟦Bucket::WORDS⟧) ⌝ }
-    ensures { λ _. ⌜ now (words .exit) ≡ levelNumbers (replicate count (emptyBucket rows solutions)) ⌝ }
-{
-    let empty = Bucket::empty();
-    let mut at: usize = 0;
-    let mut i: usize = 0;
-    while i < count {
-        let end = at + Bucket::WORDS;
-        bucket::store(&mut words[at..end], empty);
-        at = end;
-        i += 1;
-    }
-}
-
-// The header of an opened table.
-pub(crate) fn put_header(t: &mut [u64], b1: u64, b2: u64)
-    requires { do ⌜ (← ⟦Table::HEADER⟧) ≤ length (now t) ⌝ }
-    ensures { λ _. ⌜ now (t .exit) ≡ b1 ∷ b2 ∷ 0 ∷ 0 ∷ drop header (now (t .entry)) ⌝ }
-{
-    t[Table::BUCKETS_1_AT] = b1;
-    t[Table::BUCKETS_2_AT] = b2;
-    t[Table::BASE_COUNT_AT] = 0;
-    t[Table::LIVE_COUNT_AT] = 0;
-}
-
-// The numbers of an opened table: header, empty buckets, base pairs 0.
-pub(crate) fn lay_out(t: &mut [u64], b1: u64, b2: u64)
-    requires { ⌜ (inRange b1 b2 ≡ true) × (length (now t) ≡ lengthOf rows solutions b1 b2) ⌝ }
-    ensures { λ _. ⌜ now (t .exit) ≡ numbersOf (openTable rows solutions b1 b2) ⌝ }
-{
-    put_header(t, b1, b2);
-    let count = (b1 + b2) as usize;
-    let first = Table::HEADER;
-    let base = layout::bucket_place(count);
-    empty_buckets(&mut t[first..base], count);
-    clear(&mut t[base..]);
-}
-
-// Opening: cause 3, then 4 for a wrong length alone. Earlier contents are not tested.
-pub fn open(t: &mut [u64], b1: u64, b2: u64) -> Answer
-    ensures { λ r. ⌜ (r ≡ openCall b1 b2 (now (t .entry)) .answer) × (now (t .exit) ≡ openCall b1 b2 (now (t .entry)) .table) ⌝ }
-{
-    if layout::in_range(b1, b2) {
-        let size = t.len();
-        if size == layout::length_of(b1, b2) {
-            lay_out(t, b1, b2);
-            return Answer::Accepted(0);
-        }
-        return Answer::WrongTable(size as u64);
-    }
-    Answer::WrongBuckets
-}
 
 // The plan of v in a bucket, if it is live there.
 pub(crate) fn plan_of(b: Bucket, v: u64) -> Found

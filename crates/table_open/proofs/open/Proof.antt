@@ -1,12 +1,12 @@
--- `table::open` meets its contract: the tests that led to each answer.
+-- `table_open::open` meets its contract: the tests that led to each answer.
 -- Assumes nothing.
 use mathlib.Core.Path.{_≡_, refl, sym, _∙_}
 use mathlib.Core.Bool.{true}
 use borrow.Author.Needs.{needs}
 use Rattle.concrete.specs.Layout.{inRange}
-use Rattle.table.proofs.Opened.{out-of-range, wrong-length, accepted}
-use Rattle.table.proofs.open.Statement.{statement}
-use Rattle.table.proofs.open.Tie as tie
+use Rattle.table_open.proofs.Opened.{out-of-range, wrong-length, accepted}
+use Rattle.table_open.proofs.open.Statement.{statement}
+use Rattle.table_open.proofs.open.Tie as tie
 
 ranged : (c : tie.Then1) → inRange (c .before .before .before .args .b1) (c .before .before .before .args .b2) ≡ true
 ranged c = sym (c .before .in-range .ensures) ∙ c .if1 .taken

@@ -1,11 +1,12 @@
--- `table::put_header` meets its contract.
+-- `table_open::put_header` meets its contract.
 -- Assumes nothing.
 use native.Mathlib.Omega.{arith}
 use lib.ListN.{length-set}
 use borrow.Author.Needs.{needs}
-use Rattle.table.proofs.Opened.{header-set}
-use Rattle.table.proofs.put_header.Statement.{statement}
-use Rattle.table.proofs.put_header.Tie as tie
+use Rattle.concrete.specs.Calls.{rows, solutions}
+use Rattle.table_open.proofs.Opened.{header-set}
+use Rattle.table_open.proofs.put_header.Statement.{statement}
+use Rattle.table_open.proofs.put_header.Tie as tie
 
 slice-write-t : tie.Need-slice-write-t
 slice-write-t c = search needs
@@ -23,7 +24,7 @@ same-length : tie.Need-same-length
 same-length c = search needs
 
 returns : tie.Need-returns
-returns c = header-set (c .args .t .now) (c .args .b1) (c .args .b2) (c .pre)
+returns c = header-set rows solutions (c .args .t .now) (c .args .b1) (c .args .b2) (c .pre)
 
 pub put-header-spec : {M : Type 1} → statement M
 put-header-spec =

@@ -16,21 +16,17 @@ use Rattle.bucket.specs.Bucket.{emptyBucket}
 use Rattle.bucket.specs.Words.{bucketWords, wordsOf, Shaped}
 use Rattle.bucket.proofs.Words.{length-words, empty-shaped}
 use Rattle.concrete.specs.Table.{openTable}
-use Rattle.concrete.specs.Layout.{buckets1At, buckets2At, baseCountAt, liveCountAt, header, baseNumbers, levelNumbers, basePairs, numbersOf, bucketPlace, inRange, lengthOf}
+use Rattle.concrete.specs.Layout.{buckets1At, buckets2At, baseCountAt, liveCountAt, header, baseNumbers, levelNumbers, basePairs, heads, numbersOf, bucketPlace, inRange, lengthOf}
 use Rattle.concrete.specs.Calls.{rows, solutions, turnedDown, openCall}
-use Rattle.concrete.proofs.Numbers.{length-level}
+use Rattle.concrete.proofs.Numbers.{length-level, length-heads}
 
 level-append : (bs cs : List Bucket) → levelNumbers (bs ++ cs) ≡ levelNumbers bs ++ levelNumbers cs
 level-append [] cs = refl
 level-append (b ∷ bs) cs = ap (λ (l : List ℕ). wordsOf b ++ l) (level-append bs cs) ∙ sym (append-assoc (wordsOf b) (levelNumbers bs) (levelNumbers cs))
 
--- the header is written
-pub header-set : (t : List ℕ) (b1 b2 : ℕ) → header ≤ length t → set (set (set (set t buckets1At b1) buckets2At b2) baseCountAt 0) liveCountAt 0 ≡ b1 ∷ b2 ∷ 0 ∷ 0 ∷ drop header t
-header-set [] b1 b2 h = absurd (omega arith)
-header-set (a ∷ []) b1 b2 h = absurd (omega arith)
-header-set (a ∷ b ∷ []) b1 b2 h = absurd (omega arith)
-header-set (a ∷ b ∷ c ∷ []) b1 b2 h = absurd (omega arith)
-header-set (a ∷ b ∷ c ∷ d ∷ t) b1 b2 h = refl
+-- k elements from a on, as they are lent
+pub length-stretch : (a k : ℕ) (xs : List ℕ) → a + k ≤ length xs → length (take (a + k - a) (drop a xs)) ≡ k
+length-stretch a k xs h = length-take-le (a + k - a) (drop a xs) (omega (arith, length-drop a xs)) ∙ omega arith
 
 module _ (n r : ℕ) where
   abbrev E : Bucket
@@ -38,6 +34,15 @@ module _ (n r : ℕ) where
 
   abbrev w : ℕ
   w = bucketWords n r
+
+  -- the header is written
+  pub header-set : (t : List ℕ) (b1 b2 : ℕ) → header ≤ length t
+      → set (set (set (set t buckets1At b1) buckets2At b2) baseCountAt 0) liveCountAt 0 ≡ heads (openTable n r b1 b2) ++ drop header t
+  header-set [] b1 b2 h = absurd (omega arith)
+  header-set (a ∷ []) b1 b2 h = absurd (omega arith)
+  header-set (a ∷ b ∷ []) b1 b2 h = absurd (omega arith)
+  header-set (a ∷ b ∷ c ∷ []) b1 b2 h = absurd (omega arith)
+  header-set (a ∷ b ∷ c ∷ d ∷ t) b1 b2 h = sym (ap₂ {C = List ℕ} (λ i j. i ∷ j ∷ 0 ∷ 0 ∷ t) (length-replicate b1 E) (length-replicate b2 E))
 
   -- one more empty bucket is stored
   pub level-more : (i at : ℕ) (words part : List ℕ) (k : ℕ) → at + w ≤ length words → part ≡ wordsOf E → take at words ≡ levelNumbers (replicate i E)
@@ -54,10 +59,16 @@ module _ (n r : ℕ) where
       ∙ ap (λ (k : ℕ). k * w) (length-replicate m E)
 
   module _ (b1 b2 : ℕ) (t H L : List ℕ) (p : ℕ) (place : p ≡ bucketPlace n r (b1 + b2)) (size : length t ≡ lengthOf n r b1 b2)
-      (headed : H ≡ b1 ∷ b2 ∷ 0 ∷ 0 ∷ drop header t) (buckets : L ≡ levelNumbers (replicate (b1 + b2) E)) where
+      (headed : H ≡ heads (openTable n r b1 b2) ++ drop header t) (buckets : L ≡ levelNumbers (replicate (b1 + b2) E)) where
     -- the header and the buckets are written
     abbrev filled : List ℕ
     filled = putMid header (p - header) H L
+
+    abbrev hs : List ℕ
+    hs = heads (openTable n r b1 b2)
+
+    length-hs : length hs ≡ header
+    length-hs = length-heads n r (openTable n r b1 b2)
 
     abbrev rest : List ℕ
     rest = drop (p - header) (drop header t)
@@ -68,17 +79,23 @@ module _ (n r : ℕ) where
     length-rest : length rest ≡ baseNumbers
     length-rest = omega (arith, length-drop (p - header) (drop header t), length-drop header t)
 
-    filled-is : filled ≡ (b1 ∷ b2 ∷ 0 ∷ 0 ∷ L) ++ rest
-    filled-is = ap (λ (h : List ℕ). putMid header (p - header) h L) headed
+    filled-is : filled ≡ (hs ++ L) ++ rest
+    filled-is =
+        ap (λ (h : List ℕ). putMid header (p - header) h L) headed
+        ∙ ap₂ (λ (a b : List ℕ). a ++ (L ++ drop (p - header) b)) (take-at hs (drop header t) header length-hs) (drop-at hs (drop header t) header length-hs)
+        ∙ sym (append-assoc hs L rest)
+
+    length-front : length (hs ++ L) ≡ p
+    length-front = omega (arith, length-append hs L, length-hs, length-L)
 
     length-filled : length filled ≡ length t
-    length-filled = ap length filled-is ∙ omega (arith, length-append L rest, length-L, length-rest)
+    length-filled = ap length filled-is ∙ omega (arith, length-append (hs ++ L) rest, length-front, length-rest)
 
-    front : take p filled ≡ b1 ∷ b2 ∷ 0 ∷ 0 ∷ L
-    front = ap (take p) filled-is ∙ take-at (b1 ∷ b2 ∷ 0 ∷ 0 ∷ L) rest p (omega (arith, length-L))
+    front : take p filled ≡ hs ++ L
+    front = ap (take p) filled-is ∙ take-at (hs ++ L) rest p length-front
 
     back : drop p filled ≡ rest
-    back = ap (drop p) filled-is ∙ drop-at (b1 ∷ b2 ∷ 0 ∷ 0 ∷ L) rest p (omega (arith, length-L))
+    back = ap (drop p) filled-is ∙ drop-at (hs ++ L) rest p length-front
 
     -- and the base pairs
     pub laid-out : (zs : List ℕ) → zs ≡ replicate (length (take (length filled - p) (drop p filled))) 0
@@ -92,9 +109,9 @@ module _ (n r : ℕ) where
         let pairs : zs ≡ basePairs [] = z ∙ ap (λ (m : ℕ). replicate m 0) room in
         let both : L ≡ levelNumbers (replicate b1 E) ++ levelNumbers (replicate b2 E) = buckets ∙ ap levelNumbers (sym (replicate-append-replicate b1 b2 E)) ∙ level-append (replicate b1 E) (replicate b2 E) in
         ap₂ (λ (a b : List ℕ). a ++ (zs ++ b)) front gone
-        ∙ ap₂ {C = List ℕ} (λ a b. b1 ∷ b2 ∷ 0 ∷ 0 ∷ (a ++ b)) both (append-nil zs ∙ pairs)
-        ∙ ap {B = List ℕ} (λ l. b1 ∷ b2 ∷ 0 ∷ 0 ∷ l) (append-assoc (levelNumbers (replicate b1 E)) (levelNumbers (replicate b2 E)) (basePairs []))
-        ∙ sym (ap₂ {C = List ℕ} (λ a b. a ∷ b ∷ 0 ∷ 0 ∷ (levelNumbers (replicate b1 E) ++ (levelNumbers (replicate b2 E) ++ basePairs []))) (length-replicate b1 E) (length-replicate b2 E))
+        ∙ ap₂ (λ (a b : List ℕ). (hs ++ a) ++ b) both (append-nil zs ∙ pairs)
+        ∙ append-assoc hs (levelNumbers (replicate b1 E) ++ levelNumbers (replicate b2 E)) (basePairs [])
+        ∙ ap (λ (l : List ℕ). hs ++ l) (append-assoc (levelNumbers (replicate b1 E)) (levelNumbers (replicate b2 E)) (basePairs []))
 
 -- ---- the causes of an opening
 

@@ -1,4 +1,4 @@
--- `table::empty_buckets` meets its contract: i buckets are stored.
+-- `table_open::empty_buckets` meets its contract: i buckets are stored.
 -- Assumes nothing.
 use mathlib.Core.Path.{_≡_, refl, sym, ap, _∙_}
 use Prim.Native.Nat.{ℕ, _+_, _-_, _*_, _≤_}
@@ -11,10 +11,9 @@ use Rattle.bucket.specs.Words.{bucketWords, wordsOf}
 use Rattle.bucket.specs.Bucket.{emptyBucket}
 use Rattle.concrete.specs.Layout.{levelNumbers}
 use Rattle.concrete.specs.Calls.{rows, solutions}
-use Rattle.table.proofs.Stretch.{length-stretch}
-use Rattle.table.proofs.Opened.{level-more}
-use Rattle.table.proofs.empty_buckets.Statement.{statement}
-use Rattle.table.proofs.empty_buckets.Tie as tie
+use Rattle.table_open.proofs.Opened.{length-stretch, level-more}
+use Rattle.table_open.proofs.empty_buckets.Statement.{statement}
+use Rattle.table_open.proofs.empty_buckets.Tie as tie
 
 abbrev Inv-loop : tie.InvT-loop
 Inv-loop words₀ count empty at₀ i₀ words at i =

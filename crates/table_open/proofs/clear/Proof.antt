@@ -1,4 +1,4 @@
--- `table::clear` meets its contract: the numbers before i are 0.
+-- `table_open::clear` meets its contract: the numbers before i are 0.
 -- Assumes nothing.
 use mathlib.Core.Path.{_≡_, refl, ap, _∙_}
 use mathlib.Core.List.{_++_, append-nil}
@@ -7,8 +7,8 @@ use native.Mathlib.Omega.{arith}
 use lib.ListN.{length, set, drop, replicate, length-set, drop-of-length-le}
 use borrow.Author.Needs.{needs}
 use borrow.Author.Fill.{fill-more}
-use Rattle.table.proofs.clear.Statement.{statement}
-use Rattle.table.proofs.clear.Tie as tie
+use Rattle.table_open.proofs.clear.Statement.{statement}
+use Rattle.table_open.proofs.clear.Tie as tie
 
 abbrev Inv-loop : tie.InvT-loop
 Inv-loop words₀ i₀ words i = (i ≤ length words₀) × (length words ≡ length words₀) × (words ≡ replicate i 0 ++ drop i words₀)

@@ -1,12 +1,12 @@
--- `table::lay_out` meets its contract.
+-- `table_open::lay_out` meets its contract.
 -- Assumes nothing.
 use native.Mathlib.Omega.{arith}
 use borrow.Author.Needs.{needs}
 use Rattle.concrete.specs.Calls.{rows, solutions}
 use Rattle.layout.proofs.Shape.{range}
-use Rattle.table.proofs.Opened.{laid-out}
-use Rattle.table.proofs.lay_out.Statement.{statement}
-use Rattle.table.proofs.lay_out.Tie as tie
+use Rattle.table_open.proofs.Opened.{laid-out}
+use Rattle.table_open.proofs.lay_out.Statement.{statement}
+use Rattle.table_open.proofs.lay_out.Tie as tie
 
 put-header-requires : tie.Need-put-header-requires
 put-header-requires c κs = search needs
