@@ -1,5 +1,5 @@
--- Laws of causes. For a call: show `Given` along its tests (`unless`, `if-so`), then `exactly`; `number-exactly` and `accepted-exactly` read off
--- what that says of one cause, and of none.
+-- Laws of causes. For a call: show `Given` along its tests (`unless`, `if-so`; `unless-met`, `if-met` where a test says just whether the cause is
+-- met), then `exactly`. `number-exactly` and `accepted-exactly` read off what that says of one cause, and of none.
 -- Assumes nothing.
 use Prim.Native.Nat.{ℕ, _<_}
 use native.Mathlib.Nat.{lt-irrefl, lt-trans}

@@ -11,13 +11,14 @@ use lib.ListN.{length, getD}
 use borrow.Author.Tests.{ltb-true, lt-ltb, leb-false, lt-leb, eqb-false, ne-eqb}
 use Rattle.lists.specs.Entries.{Entry, find, update, remove}
 use Rattle.lists.proofs.Entries.{insert-length, none≢some}
-use Rattle.lists.proofs.Tests.{cases}
+use Rattle.lists.proofs.Tests.{cases, cond-true}
 use Rattle.answer.specs.declared.Answer.{Answer}
 use Rattle.answer.specs.declared.Answer.the-variants.{WrongTable, NotSound}
 use Rattle.answer.specs.Numbers.{numberOf, valueOf}
 use Rattle.answer.specs.Causes.{Cause, InOrder, Exactly}
 use Rattle.answer.proofs.Causes.{One, OneEach, one-value, one-if, Given, exactly, unless-met, if-met}
 use Rattle.identifier.specs.Identifier.{wordOf}
+use Rattle.identifier.specs.Causes.{wrongLength, wrongByte}
 use Rattle.identifier.specs.declared.Read.the-variants.{Word}
 use Rattle.identifier.proofs.Causes.{one-byte, identifier-given}
 use Rattle.identifier.proofs.Words.{word-lt}
@@ -29,8 +30,8 @@ use Rattle.concrete.specs.Layout.{leading, buckets1At, buckets2At, inRan
 use Rattle.concrete.specs.Test.{shapeTest}
 use Rattle.concrete.specs.Calls.{rows, solutions, shaped, sound, FlatSound, Outcome, turnedDown, openCall, served, callRead, call}
 use Rattle.concrete.specs.History.{PlanFits, flatState}
-use Rattle.concrete.specs.Causes.{wrongRoom, Misshapen, wrongTable, notSound, LivePlan, notLive, openCauses, openReturns, wordCauses, callCauses, callReturns}
-use Rattle.concrete.proofs.Calls.{served-match, sound-stands-flat, sound-exactly}
+use Rattle.concrete.specs.Causes.{wrongRoom, Misshapen, wrongTable, notSound, LivePlan, notLive, openCauses, openReturns, wordCauses, callCauses, soundCauses, callReturns}
+use Rattle.concrete.proofs.Calls.{stands-test, served-match, sound-stands-flat, sound-exactly}
 
 -- ---- tests and what they say
 
@@ -80,23 +81,20 @@ open-exactly b1 b2 t =
 one-plan : (t i : List ℕ) → One (LivePlan t i)
 one-plan t i u v p q = cc
 
-one-each : (t : List ℕ) (c : Call Token) → OneEach (callCauses t c) (callReturns t c)
-one-each t c = (one-if 1 _ (length (subject c)), (one-byte (subject c), (one-if 4 _ (length t), (one-if 5 _ 0, word c))))
-  where
-    word : (c : Call Token) → OneEach (wordCauses t c) (callReturns t c)
-    word (add i p) = (one-plan t i, (one-if 8 _ 0, one-value (suc (length (flatState t .live)))))
-    word (change i p) = (one-if 7 _ 0, one-plan t i)
-    word (withdraw i) = (one-if 7 _ 0, one-plan t i)
-    word (query i) = (one-if 7 _ 0, one-plan t i)
+one-each : (t : List ℕ) (c : Call Token) → OneEach (wordCauses t c) (callReturns t c)
+one-each t (add i p) = (one-plan t i, (one-if 8 _ 0, one-value (suc (length (flatState t .live)))))
+one-each t (change i p) = (one-if 7 _ 0, one-plan t i)
+one-each t (withdraw i) = (one-if 7 _ 0, one-plan t i)
+one-each t (query i) = (one-if 7 _ 0, one-plan t i)
+
+word-order : (t : List ℕ) (c : Call Token) → InOrder 5 (wordCauses t c)
+word-order t (add i p) = (lit< tt, (lit< tt, tt))
+word-order t (change i p) = (lit< tt, tt)
+word-order t (withdraw i) = (lit< tt, tt)
+word-order t (query i) = (lit< tt, tt)
 
 pub call-order : (t : List ℕ) (c : Call Token) → InOrder 0 (callCauses t c)
-call-order t c = (lit< tt, (lit< tt, (lit< tt, (lit< tt, word c))))
-  where
-    word : (c : Call Token) → InOrder 5 (wordCauses t c)
-    word (add i p) = (lit< tt, (lit< tt, tt))
-    word (change i p) = (lit< tt, tt)
-    word (withdraw i) = (lit< tt, tt)
-    word (query i) = (lit< tt, tt)
+call-order t c = (lit< tt, (lit< tt, (lit< tt, (lit< tt, word-order t c))))
 
 module _ (t : List ℕ) where
   -- the model's answers by the word: change, withdrawal and query, which would leave the live words l
@@ -123,20 +121,30 @@ module _ (t : List ℕ) where
   step-given (withdraw i) = live-given i (remove (wordOf i) (flatState t .live)) (find (wordOf i) (flatState t .live)) refl
   step-given (query i) = live-given i (flatState t .live) (find (wordOf i) (flatState t .live)) refl
 
-  module _ (b : (i : ℕ) → getD t i 0 < 2 ^ rows) (c : Call Token) (f : PlanFits c) where
+  module _ (c : Call Token) (f : PlanFits c) where
     -- a sound table answers as the model does
     served-given : shaped t ≡ true → FlatSound t → Given (wordCauses t c) (callReturns t c) (served t (wordOf (subject c)) c .answer)
     served-given k h =
         subst⁻¹ (Given (wordCauses t c) (callReturns t c))
         (served-match t (flatState t) (sound-stands-flat t k h) (wordOf (subject c)) (word-lt (subject c)) c f .says) (step-given c)
 
-    read-given : Given (wrongTable t ∷ notSound t ∷ wordCauses t c) (callReturns t c) (callRead t c (Word (wordOf (subject c))) .answer)
-    read-given =
-        table-given t b answerOf (served t (wordOf (subject c)) c) (turnedDown NotSound t) (turnedDown (WrongTable (length t)) t) refl refl
-        (wordCauses t c) (callReturns t c) served-given
-
-    pub call-exactly : Exactly (callCauses t c) (callReturns t c) (call t c .answer)
+    -- the causes cs after 1 and 2
+    by-read : (cs : List Cause) → OneEach cs (callReturns t c) → Given cs (callReturns t c) (callRead t c (Word (wordOf (subject c))) .answer)
+        → Exactly (wrongLength (subject c) ∷ wrongByte (subject c) ∷ cs) (callReturns t c) (call t c .answer)
     unfolding call
-    call-exactly =
-        exactly (callCauses t c) (callReturns t c) (call t c .answer) (one-each t c)
-        (identifier-given (subject c) answerOf (callRead t c) (λ a. refl) (wrongTable t ∷ notSound t ∷ wordCauses t c) (callReturns t c) (λ e. read-given))
+    by-read cs o g =
+        exactly (wrongLength (subject c) ∷ wrongByte (subject c) ∷ cs) (callReturns t c) (call t c .answer)
+        (one-if 1 _ (length (subject c)), (one-byte (subject c), o))
+        (identifier-given (subject c) answerOf (callRead t c) (λ a. refl) cs (callReturns t c) (λ e. g))
+
+    pub call-exactly : ((i : ℕ) → getD t i 0 < 2 ^ rows) → Exactly (callCauses t c) (callReturns t c) (call t c .answer)
+    call-exactly b =
+        by-read (wrongTable t ∷ notSound t ∷ wordCauses t c) (one-if 4 _ (length t), (one-if 5 _ 0, one-each t c))
+        (table-given t b answerOf (served t (wordOf (subject c)) c) (turnedDown NotSound t) (turnedDown (WrongTable (length t)) t) refl refl
+        (wordCauses t c) (callReturns t c) served-given)
+
+    -- a sound table meets neither 4 nor 5
+    pub sound-call : shaped t ≡ true → FlatSound t → Exactly (soundCauses t c) (callReturns t c) (call t c .answer)
+    sound-call k h =
+        by-read (wordCauses t c) (one-each t c)
+        (subst⁻¹ (λ (o : Outcome). Given (wordCauses t c) (callReturns t c) (o .answer)) (cond-true _ _ k ∙ cond-true _ _ (stands-test t (flatState t) (sound-stands-flat t k h))) (served-given k h))

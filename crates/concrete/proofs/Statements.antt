@@ -31,7 +31,7 @@ use Rattle.concrete.specs.AtOnce.{addedAtOnce}
 use Rattle.concrete.specs.Sound.{SoundTable}
 use Rattle.concrete.specs.Calls.{rows, solutions, tableOf, planIn, shaped, sound, FlatSound, openCall, queried, served, call}
 use Rattle.concrete.specs.History.{PlanFits, Put, request, tables, states, Opened, acceptedCalls, flatState, Same}
-use Rattle.concrete.specs.Causes.{openCauses, openReturns, callCauses, callReturns}
+use Rattle.concrete.specs.Causes.{openCauses, openReturns, callCauses, soundCauses, callReturns}
 use Rattle.concrete.proofs.Numbers as Numbers
 use Rattle.concrete.proofs.Numbers.{ShapedTable}
 use Rattle.concrete.proofs.AtOnce as AtOnce
@@ -107,7 +107,7 @@ open-causes = Causes.open-exactly
 -- the numbers of a table have 64 bits; the plan of a call is a byte
 module _ (t : List ℕ) (b : (i : ℕ) → getD t i 0 < 2 ^ 64) (c : Call Token) (f : PlanFits c) where
   pub call-causes : Exactly (callCauses t c) (callReturns t c) (call t c .answer)
-  call-causes = Causes.call-exactly t b c f
+  call-causes = Causes.call-exactly t c f b
 
   -- read for one cause x: the call gives its number, with v, exactly if x is met with v and no cause before it is met
   pub call-cause : (before : List Cause) (x : Cause) (after : List Cause) → callCauses t c ≡ before ++ (x ∷ after) → (v : ℕ)
@@ -235,6 +235,10 @@ module _ (t : List ℕ) (o : Opened t) (ps : List Put) where
 
   pub never-4-5 : (p : Put) → (numberOf (request (after tables t ps) (p .request) .answer) ≡ 4 → ⊥) × (numberOf (request (after tables t ps) (p .request) .answer) ≡ 5 → ⊥)
   never-4-5 = History.never t o ps
+
+  -- so the answer to each further call is that of the first cause met, of 1, 2 and those of its word
+  pub list-causes : (c : Call Token) → PlanFits c → Exactly (soundCauses (after tables t ps) c) (callReturns (after tables t ps) c) (call (after tables t ps) c .answer)
+  list-causes c f = Causes.sound-call (after tables t ps) c f (always-sound .0) (always-sound .2)
 
   -- "After each call its occupied rows and base entries hold just the live words, and its stored bounds are these": the model's
   pub holds-live : List·Permᴰ (entriesOf rows unmixOf (tableOf (after tables t ps))) (after states (opened (o .size)) ps .live)

@@ -73,8 +73,13 @@ wordCauses t (change i p) = notLive t i ∷ []
 wordCauses t (withdraw i) = notLive t i ∷ []
 wordCauses t (query i) = notLive t i ∷ []
 
+-- every call meets those of the identifier first, then those of the table
 abbrev pub callCauses : List ℕ → Call Token → List Cause
 callCauses t c = wrongLength (subject c) ∷ wrongByte (subject c) ∷ wrongTable t ∷ notSound t ∷ wordCauses t c
+
+-- on a sound table: in a list of calls "the table itself never gives cause 4 or 5"
+abbrev pub soundCauses : List ℕ → Call Token → List Cause
+soundCauses t c = wrongLength (subject c) ∷ wrongByte (subject c) ∷ wordCauses t c
 
 -- "add the live count, change and withdraw the earlier plan, query the plan": after an add the word added counts as live
 abbrev pub callReturns : List ℕ → Call Token → ℕ → Type 0
