@@ -13,12 +13,13 @@ use Rattle.lists.proofs.Tests.{cases}
 use Rattle.codec.specs.Bytes.{eqList}
 use Rattle.answer.specs.declared.Answer.the-variants.{Accepted, WrongBuckets}
 use Rattle.model.specs.Model.{State, Call, add, change}
+use Rattle.model.specs.Request as R
 use Rattle.model.specs.Request.{Token}
 use Rattle.model.specs.Machine.{accepted}
 use Rattle.concrete.specs.Table.{openTable}
 use Rattle.concrete.specs.Layout.{inRange, lengthOf, numbersOf}
 use Rattle.concrete.specs.Calls.{rows, solutions, openCall}
-use Rattle.concrete.specs.History.{PlanFits, flatState}
+use Rattle.concrete.specs.History.{PlanFits, Put, flatState}
 use Rattle.concrete.proofs.Calls.{FlatStands}
 use Rattle.concrete.proofs.Statements.{refines, opening-stands, stands-sound, sound-stands}
 use Rattle.text.specs.declared.Number.{Number}
@@ -108,7 +109,8 @@ ask-alike none none h c f = (refl, tt)
 ask-alike none (some s) h c f = absurd h
 ask-alike (some t) none h c f = absurd h
 ask-alike (some t) (some s) h c f =
-    (ap printed (refines .says t s (record { call = c; fits = f }) h), refines .goes t s (record { call = c; fits = f }) h)
+    let p : Put = record { request = R.ask c; fits = f } in
+    (ap printed (refines .says t s p h), refines .goes t s p h)
 
 pub obey-alike : (m : Option (List ℕ)) (k : Option State) → BothStand m k → (c : Command) → CommandFits c → Alike (obey tables m c) (obey states k c)
 obey-alike m k h (opening b1 b2) f = open-alike m k h b1 b2
