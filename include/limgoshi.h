@@ -9,11 +9,11 @@
  * Threads. There is no static data: calls are safe side by side unless one writes a buffer that another uses.
  *
  * Saving a table. It is its numbers, without pointers: store them as they are, in the byte order of the machine, and read them back into any
- * buffer of that length. If a number was changed on the way, the next call finds that (cause 4 or 5), or the numbers are those of
- * another sound table and every call answers for that one.
+ * buffer of that length. If a number was changed on the way, the next call finds that (cause 4 or 5), or the numbers are those of another
+ * sound table, and every call answers for that one.
  *
- * Time and stack. Each call on a table first tests the whole table; the times named are orders of magnitude on a present-day processor, from the smallest
- * table to the largest. A call needs at most this much stack, in bytes, memcpy, memmove and memset included: */
+ * Time. Every call on a table but open tests the whole table. The times below are orders of magnitude on a present-day processor; where there
+ * are two, for the smallest and the largest table. */
 #ifndef LIMGOSHI_H
 #define LIMGOSHI_H
 
@@ -24,11 +24,6 @@
 extern "C" {
 #endif
 
-#define LIMGOSHI_STACK_ADD 70000u  /* limgoshi_add */
-#define LIMGOSHI_STACK_LOOKUP 500u /* limgoshi_plane_lookup */
-#define LIMGOSHI_STACK 5000u       /* every other */
-
-/* Limits. */
 #define LIMGOSHI_ID_MAX 20u       /* an identifier is 1 to 20 bytes: letters, digits and * - _ = : + | @ . */
 #define LIMGOSHI_BUCKETS1_MAX 48u /* buckets of level 1: 1 to 48 */
 #define LIMGOSHI_BUCKETS2_MAX 32u /* buckets of level 2: 1 to 32 */
@@ -39,6 +34,11 @@ extern "C" {
 
 /* Bytes of a plane with b1 and b2 buckets and this many base entries: 142 to 5,930. */
 #define LIMGOSHI_PLANE_BYTES(b1, b2, entries) (10u + 66u * ((b1) + (b2)) + 10u * (entries))
+
+/* Bytes of stack that a call needs at most. Where memcpy, memmove and memset are bound lazily, the first call needs about 3,200 more. */
+#define LIMGOSHI_STACK_ADD 70000u  /* limgoshi_add */
+#define LIMGOSHI_STACK_LOOKUP 500u /* limgoshi_plane_lookup */
+#define LIMGOSHI_STACK 5000u       /* any other */
 
 /* The causes in the order in which they are tested, each with what *value then is. */
 enum {
@@ -63,31 +63,31 @@ enum {
 #endif
 
 /* Opens an empty table with b1 and b2 buckets in a buffer of LIMGOSHI_TABLE_NUMBERS(b1, b2) numbers, whatever these were.
- * Value: 0. Causes: 3, 4 (only for another length). 1 microsecond. */
+ * Value: 0. Causes: 3, 4 (for another length alone). Time: below 1 microsecond. Stack: LIMGOSHI_STACK. */
 LIMGOSHI_ANSWER limgoshi_open(uint64_t *table, size_t table_len, uint64_t b1, uint64_t b2, uint64_t *value);
 
 /* Adds an identifier with its plan.
- * Value: the number of live identifiers. Causes: 1, 2, 4, 5, 6, 8. 10 to 200 microseconds. The one call with a large stack. */
+ * Value: the number of live identifiers. Causes: 1, 2, 4, 5, 6, 8. Time: 8 to 200 microseconds. Stack: LIMGOSHI_STACK_ADD. */
 LIMGOSHI_ANSWER limgoshi_add(uint64_t *table, size_t table_len, const uint8_t *id, size_t id_len, uint8_t plan, uint64_t *value);
 
 /* Changes the plan of a live identifier.
- * Value: the earlier plan. Causes: 1, 2, 4, 5, 7. 10 to 200 microseconds. */
+ * Value: the earlier plan. Causes: 1, 2, 4, 5, 7. Time: 8 to 200 microseconds. Stack: LIMGOSHI_STACK. */
 LIMGOSHI_ANSWER limgoshi_change(uint64_t *table, size_t table_len, const uint8_t *id, size_t id_len, uint8_t plan, uint64_t *value);
 
 /* Withdraws a live identifier.
- * Value: the earlier plan. Causes: 1, 2, 4, 5, 7. 10 to 200 microseconds. */
+ * Value: the earlier plan. Causes: 1, 2, 4, 5, 7. Time: 8 to 200 microseconds. Stack: LIMGOSHI_STACK. */
 LIMGOSHI_ANSWER limgoshi_withdraw(uint64_t *table, size_t table_len, const uint8_t *id, size_t id_len, uint64_t *value);
 
 /* Finds the plan of a live identifier.
- * Value: the plan. Causes: 1, 2, 4, 5, 7. 10 to 200 microseconds. */
+ * Value: the plan. Causes: 1, 2, 4, 5, 7. Time: 8 to 200 microseconds. Stack: LIMGOSHI_STACK. */
 LIMGOSHI_ANSWER limgoshi_query(const uint64_t *table, size_t table_len, const uint8_t *id, size_t id_len, uint64_t *value);
 
 /* Writes the plane of a table to the front of out; what lies past it is untouched.
- * Value: the plane's length. Causes: 4, 5, 9. 10 to 200 microseconds. */
+ * Value: the plane's length. Causes: 4, 5, 9. Time: 8 to 200 microseconds. Stack: LIMGOSHI_STACK. */
 LIMGOSHI_ANSWER limgoshi_write_plane(const uint64_t *table, size_t table_len, uint8_t *out, size_t out_len, uint64_t *value);
 
 /* Finds the plan that a plane gives an identifier: for a live one its plan, for any other some number. The whole plane is checked at each call.
- * Value: the plan. Causes: 1, 2, 10. 0.1 microseconds. */
+ * Value: the plan. Causes: 1, 2, 10. Time: 0.1 microseconds. Stack: LIMGOSHI_STACK_LOOKUP. */
 LIMGOSHI_ANSWER limgoshi_plane_lookup(const uint8_t *id, size_t id_len, const uint8_t *plane, size_t plane_len, uint64_t *value);
 
 #ifdef __cplusplus

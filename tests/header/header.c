@@ -1,6 +1,6 @@
 /* The header against the archive, with nothing else: every named cause is provoked in every function that can give it, every limit and macro is
  * tried at its edges, and *value is looked at after every call. A call that is turned down must leave table and output as they were.
- * C11 and C++11. Prints what is wrong and leaves with status 1, or prints the number of answers compared. */
+ * C11 and C++11. Prints what is wrong and leaves with status 1, or prints the causes that each function gave and the number of answers compared. */
 #include <assert.h>
 #include <inttypes.h>
 #include <stdio.h>
@@ -21,6 +21,17 @@ static uint64_t table[7000], table_before[7000];
 static uint8_t out[7000], out_before[7000];
 static uint64_t value;
 static int failed, compared;
+
+/* The function that was called last, and the causes that each has given. */
+enum { OPEN, ADD, CHANGE, WITHDRAW, QUERY, WRITE_PLANE, PLANE_LOOKUP, FUNCTIONS };
+static int called, given[FUNCTIONS][LIMGOSHI_WRONG_PLANE + 1];
+#define limgoshi_open(...) (called = OPEN, limgoshi_open(__VA_ARGS__))
+#define limgoshi_add(...) (called = ADD, limgoshi_add(__VA_ARGS__))
+#define limgoshi_change(...) (called = CHANGE, limgoshi_change(__VA_ARGS__))
+#define limgoshi_withdraw(...) (called = WITHDRAW, limgoshi_withdraw(__VA_ARGS__))
+#define limgoshi_query(...) (called = QUERY, limgoshi_query(__VA_ARGS__))
+#define limgoshi_write_plane(...) (called = WRITE_PLANE, limgoshi_write_plane(__VA_ARGS__))
+#define limgoshi_plane_lookup(...) (called = PLANE_LOOKUP, limgoshi_plane_lookup(__VA_ARGS__))
 
 /* Identifiers. */
 static const uint8_t *bytes(const char *text) { return (const uint8_t *)text; }
@@ -47,6 +58,8 @@ static void before(void)
 static void after(int line, const char *call, uint64_t got, uint64_t cause, uint64_t want)
 {
     compared++;
+    if (got <= LIMGOSHI_WRONG_PLANE)
+        given[called][got] = 1;
     if (got != cause || value != want) {
         printf("header.c:%d: %s: answer %" PRIu64 ", value %" PRIu64 ", and not %" PRIu64 ", %" PRIu64 "\n", line, call, got, value, cause, want);
         failed = 1;
@@ -69,8 +82,7 @@ static void after(int line, const char *call, uint64_t got, uint64_t cause, uint
             wrong(__LINE__, #fact); \
     } while (0)
 
-/* The four calls on an identifier and a table, by number. */
-enum { ADD, CHANGE, WITHDRAW, QUERY, TABLE_CALLS };
+/* The four calls on an identifier and a table. */
 static uint64_t table_call(int which, uint64_t *t, size_t n, const uint8_t *id, size_t length)
 {
     switch (which) {
@@ -100,7 +112,7 @@ static size_t make_plane(unsigned b1, unsigned b2, unsigned entries)
     return at + 5;
 }
 
-/* Every pair of bucket numbers, and those next to the range: table of the right length, one more and one less; output of the right length, one less. */
+/* Every pair of bucket numbers and those next to the range: a table of the right length, one more, one less; an output of the right length, one less. */
 static void openings(void)
 {
     for (unsigned b1 = 0; b1 <= B1_MAX + 1; b1++) {
@@ -133,7 +145,7 @@ static void identifiers(void)
     memset(id, 'x', sizeof id);
     for (size_t k = 0; k <= sizeof id; k += k == 1 ? LIMGOSHI_ID_MAX - 1 : 1) { /* 0, 1, 20, 21 */
         int right = k >= 1 && k <= LIMGOSHI_ID_MAX;
-        for (int which = CHANGE; which < TABLE_CALLS; which++)
+        for (int which = CHANGE; which <= QUERY; which++)
             ANSWERS(table_call(which, table, n, id, k), right ? LIMGOSHI_NOT_LIVE : LIMGOSHI_WRONG_LENGTH, right ? 0 : k);
         ANSWERS(limgoshi_plane_lookup(id, k, out, length, &value), right ? LIMGOSHI_ACCEPTED : LIMGOSHI_WRONG_LENGTH, right ? 0 : k);
         ANSWERS(table_call(ADD, table, n, id, k), right ? LIMGOSHI_ACCEPTED : LIMGOSHI_WRONG_LENGTH, k == LIMGOSHI_ID_MAX ? 2 : k);
@@ -143,7 +155,7 @@ static void identifiers(void)
         id[2] = (uint8_t)b;
         id[4] = b == '/' ? '/' : 'x'; /* the first counts */
         ANSWERS(limgoshi_plane_lookup(id, 5, out, length, &value), right ? LIMGOSHI_ACCEPTED : LIMGOSHI_WRONG_BYTE, right ? 0 : 2);
-        for (int which = CHANGE; which < TABLE_CALLS; which++)
+        for (int which = CHANGE; which <= QUERY; which++)
             ANSWERS(table_call(which, table, n, id, 5), right ? LIMGOSHI_NOT_LIVE : LIMGOSHI_WRONG_BYTE, right ? 0 : 2);
         if (!right)
             ANSWERS(table_call(ADD, table, n, id, 5), LIMGOSHI_WRONG_BYTE, 2);
@@ -174,7 +186,7 @@ static void values(void)
 static void order(void)
 {
     size_t n = LIMGOSHI_TABLE_NUMBERS(3, 2);
-    for (int which = 0; which < TABLE_CALLS; which++) {
+    for (int which = ADD; which <= QUERY; which++) {
         ANSWERS(table_call(which, table, n - 1, bytes("/////////////////////"), 21), LIMGOSHI_WRONG_LENGTH, 21);
         ANSWERS(table_call(which, table, n - 1, bytes("bus/17"), 6), LIMGOSHI_WRONG_BYTE, 3);
         for (size_t k = 0; k < 5; k++)
@@ -210,7 +222,7 @@ static void nulls(void)
     size_t n = LIMGOSHI_TABLE_NUMBERS(3, 2), length = LIMGOSHI_PLANE_BYTES(3, 2, 0);
     ANSWERS(limgoshi_open(NULL, 0, 1, 1, &value), LIMGOSHI_WRONG_TABLE, 0);
     ANSWERS(limgoshi_open(NULL, 0, 0, 1, &value), LIMGOSHI_WRONG_BUCKETS, 0);
-    for (int which = 0; which < TABLE_CALLS; which++) {
+    for (int which = ADD; which <= QUERY; which++) {
         ANSWERS(table_call(which, NULL, 0, bytes("bus-17"), 6), LIMGOSHI_WRONG_TABLE, 0);
         ANSWERS(table_call(which, table, n, NULL, 0), LIMGOSHI_WRONG_LENGTH, 0);
         ANSWERS(table_call(which, NULL, 0, NULL, 0), LIMGOSHI_WRONG_LENGTH, 0);
@@ -259,6 +271,7 @@ static void planes(void)
 static unsigned fill(size_t n, unsigned b1, unsigned b2)
 {
     unsigned entries = 0, live = 0, tried = 0;
+    size_t most = LIMGOSHI_PLANE_BYTES(b1, b2, LIMGOSHI_BASE_MAX);
     uint64_t answer = LIMGOSHI_ACCEPTED;
     ANSWERS(limgoshi_open(table, n, b1, b2, &value), LIMGOSHI_ACCEPTED, 0);
     for (; (entries < LIMGOSHI_BASE_MAX || answer != LIMGOSHI_FULL) && tried < 10000; tried++) {
@@ -271,7 +284,7 @@ static unsigned fill(size_t n, unsigned b1, unsigned b2)
         }
         live++;
         after(__LINE__, "limgoshi_add", answer, LIMGOSHI_ACCEPTED, live);
-        ANSWERS(limgoshi_write_plane(table, n, out, LIMGOSHI_PLANE_BYTES(b1, b2, LIMGOSHI_BASE_MAX), &value), LIMGOSHI_ACCEPTED, LIMGOSHI_PLANE_BYTES(b1, b2, out[4]));
+        ANSWERS(limgoshi_write_plane(table, n, out, most, &value), LIMGOSHI_ACCEPTED, LIMGOSHI_PLANE_BYTES(b1, b2, out[4]));
         entries = out[4];
         size_t length = LIMGOSHI_PLANE_BYTES(b1, b2, entries);
         ANSWERS(limgoshi_write_plane(table, n, out, length - 1, &value), LIMGOSHI_SHORT_OUTPUT, length);
@@ -326,6 +339,14 @@ int main(void)
     nulls();
     planes();
     full();
+    static const char *const names[FUNCTIONS] = {"open", "add", "change", "withdraw", "query", "write_plane", "plane_lookup"};
+    for (int f = 0; f < FUNCTIONS; f++) {
+        printf("limgoshi_%s", names[f]);
+        for (int cause = 1; cause <= LIMGOSHI_WRONG_PLANE; cause++)
+            if (given[f][cause])
+                printf(" %d", cause);
+        printf("\n");
+    }
     printf("header: %d answers compared\n", compared);
     return failed;
 }
