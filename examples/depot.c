@@ -128,7 +128,7 @@ static bool write_file(const char *name, const uint8_t *bytes, size_t length)
     char draft[4096];
     int n = snprintf(draft, sizeof draft, "%s.new", name);
     if (n < 0 || (size_t)n >= sizeof draft) {
-        fprintf(stderr, "%s: name too long\n", name);
+        fprintf(stderr, "depot: name of the plane file too long\n");
         return false;
     }
     FILE *file = fopen(draft, "wb");
@@ -139,7 +139,7 @@ static bool write_file(const char *name, const uint8_t *bytes, size_t length)
     bool written = fwrite(bytes, 1, length, file) == length && fflush(file) == 0 && fsync(fileno(file)) == 0;
     written = fclose(file) == 0 && written;
     if (!written || rename(draft, name) != 0) {
-        perror(draft);
+        perror(written ? name : draft);
         remove(draft);
         return false;
     }
