@@ -1,67 +1,194 @@
-/* A depot: opens a table, adds the cards of a text file (a line each: identifier, space, plan) and writes the plane file.
- * Use: depot B1 B2 CARDS-FILE PLANE-FILE */
+/* A depot: opens a table, adds the cards of a text file and writes the plane file.
+ * Use: depot B1 B2 CARDS-FILE PLANE-FILE
+ *
+ * A line of the cards file is an identifier, one space, a plan and a line feed, and nothing else. A last line without line feed is refused,
+ * since a file that was cut may end in a wrong plan. If any line is refused, no plane is written and an older plane file stays as it was.
+ * Status 0: the plane is written; 1: cards refused; 2: wrong use, or a file that cannot be read or written. */
+#define _POSIX_C_SOURCE 200809L
 #include <inttypes.h>
+#include <stdbool.h>
 #include <stdio.h>
-#include <stdlib.h>
 #include <string.h>
+#include <unistd.h>
 
 #include "limgoshi.h"
 
+#define LINE_ROOM 80u /* no right line is as long */
+
+static uint64_t table[LIMGOSHI_TABLE_NUMBERS(LIMGOSHI_BUCKETS1_MAX, LIMGOSHI_BUCKETS2_MAX)];
+static uint8_t plane[LIMGOSHI_PLANE_BYTES(LIMGOSHI_BUCKETS1_MAX, LIMGOSHI_BUCKETS2_MAX, LIMGOSHI_BASE_MAX)];
+
+/* A decimal number without sign or leading zeros, at most `most`; -1 if the text is anything else. */
+static int read_number(const char *text, size_t length, int most)
+{
+    int n = 0;
+    if (length == 0 || (length > 1 && text[0] == '0'))
+        return -1;
+    for (size_t i = 0; i < length; i++) {
+        if (text[i] < '0' || text[i] > '9')
+            return -1;
+        n = 10 * n + (text[i] - '0');
+        if (n > most)
+            return -1;
+    }
+    return n;
+}
+
+/* Reads a line without its line feed: the bytes that there is room for, and the whole length. *end is the line feed, or EOF. */
+static size_t read_line(FILE *file, char line[LINE_ROOM], int *end)
+{
+    size_t length = 0;
+    while ((*end = getc(file)) != EOF && *end != '\n') {
+        if (length < LINE_ROOM)
+            line[length] = (char)*end;
+        length++;
+    }
+    return length;
+}
+
+/* Parts a line into identifier and plan. Returns what is wrong with it, or NULL. */
+static const char *read_card(const char *line, size_t length, int end, size_t *id_length, uint8_t *plan)
+{
+    if (end == EOF)
+        return length == 0 ? "no cards" : "no line feed at the end: is the file cut?";
+    if (length == 0)
+        return "line is empty";
+    if (length > LINE_ROOM)
+        return "line is too long";
+    if (line[length - 1] == '\r')
+        return "carriage return at the end: a line ends in a line feed alone";
+    const char *space = memchr(line, ' ', length);
+    if (space == NULL)
+        return "no space: a line is an identifier, one space and a plan";
+    *id_length = (size_t)(space - line);
+    size_t plan_length = length - *id_length - 1;
+    if (memchr(space + 1, ' ', plan_length) != NULL)
+        return "more than one space: a line is an identifier, one space and a plan";
+    if (plan_length == 0)
+        return "no plan after the space";
+    int n = read_number(space + 1, plan_length, UINT8_MAX);
+    if (n < 0)
+        return "plan is not a decimal number from 0 to 255 (no sign, no leading zeros, nothing after it)";
+    *plan = (uint8_t)n;
+    return NULL;
+}
+
+/* Says why a card was turned down. */
+static void say_cause(uint64_t cause, uint64_t value)
+{
+    switch (cause) {
+    case LIMGOSHI_WRONG_LENGTH:
+        fprintf(stderr, "identifier of %" PRIu64 " bytes: 1 to %u are allowed\n", value, LIMGOSHI_ID_MAX);
+        break;
+    case LIMGOSHI_WRONG_BYTE:
+        fprintf(stderr, "byte %" PRIu64 " of the identifier is not allowed: letters, digits and * - _ = : + | @ . are\n", value + 1);
+        break;
+    case LIMGOSHI_LIVE:
+        fprintf(stderr, "identifier was given before, with plan %" PRIu64 " (capitals make no difference)\n", value);
+        break;
+    case LIMGOSHI_FULL:
+        fprintf(stderr, "no room: the table needs more buckets\n");
+        break;
+    default:
+        fprintf(stderr, "turned down with cause %" PRIu64 ", value %" PRIu64 "\n", cause, value);
+    }
+}
+
+/* Adds the cards of a file, and says of each line that is refused where it is and what is wrong. True if none is. */
+static bool add_cards(FILE *file, const char *name, size_t numbers)
+{
+    bool right = true;
+    for (unsigned long at = 1;; at++) {
+        char line[LINE_ROOM];
+        int end;
+        size_t length = read_line(file, line, &end);
+        if (ferror(file) || (end == EOF && length == 0 && at > 1))
+            return right;
+        size_t id_length;
+        uint8_t plan;
+        uint64_t value;
+        const char *wrong = read_card(line, length, end, &id_length, &plan);
+        if (wrong != NULL) {
+            fprintf(stderr, "%s:%lu: %s\n", name, at, wrong);
+            right = false;
+            continue;
+        }
+        uint64_t cause = limgoshi_add(table, numbers, (const uint8_t *)line, id_length, plan, &value);
+        if (cause != LIMGOSHI_ACCEPTED) {
+            fprintf(stderr, "%s:%lu: ", name, at);
+            say_cause(cause, value);
+            right = false;
+        }
+    }
+}
+
+/* Writes a file whole or not at all: under another name first, which then takes the place of the old file. */
+static bool write_file(const char *name, const uint8_t *bytes, size_t length)
+{
+    char draft[4096];
+    int n = snprintf(draft, sizeof draft, "%s.new", name);
+    if (n < 0 || (size_t)n >= sizeof draft) {
+        fprintf(stderr, "%s: name too long\n", name);
+        return false;
+    }
+    FILE *file = fopen(draft, "wb");
+    if (file == NULL) {
+        perror(draft);
+        return false;
+    }
+    bool written = fwrite(bytes, 1, length, file) == length && fflush(file) == 0 && fsync(fileno(file)) == 0;
+    written = fclose(file) == 0 && written;
+    if (!written || rename(draft, name) != 0) {
+        perror(draft);
+        remove(draft);
+        return false;
+    }
+    return true;
+}
+
 int main(int argc, char **argv)
 {
-    static uint64_t table[LIMGOSHI_TABLE_NUMBERS(LIMGOSHI_BUCKETS1_MAX, LIMGOSHI_BUCKETS2_MAX)];
-    static uint8_t plane[LIMGOSHI_PLANE_BYTES(LIMGOSHI_BUCKETS1_MAX, LIMGOSHI_BUCKETS2_MAX, LIMGOSHI_BASE_MAX)];
-    char line[128];
     uint64_t value;
-    int refused = 0;
-
     if (argc != 5) {
         fprintf(stderr, "use: depot B1 B2 CARDS-FILE PLANE-FILE\n");
         return 2;
     }
-    uint64_t b1 = strtoull(argv[1], NULL, 10);
-    uint64_t b2 = strtoull(argv[2], NULL, 10);
-    if (b1 > LIMGOSHI_BUCKETS1_MAX || b2 > LIMGOSHI_BUCKETS2_MAX) {
-        fprintf(stderr, "depot: at most %u and %u buckets\n", LIMGOSHI_BUCKETS1_MAX, LIMGOSHI_BUCKETS2_MAX);
+    int b1 = read_number(argv[1], strlen(argv[1]), LIMGOSHI_BUCKETS1_MAX);
+    int b2 = read_number(argv[2], strlen(argv[2]), LIMGOSHI_BUCKETS2_MAX);
+    if (b1 < 1 || b2 < 1) {
+        fprintf(stderr, "depot: B1 is a number from 1 to %u, B2 from 1 to %u\n", LIMGOSHI_BUCKETS1_MAX, LIMGOSHI_BUCKETS2_MAX);
         return 2;
     }
-    size_t numbers = LIMGOSHI_TABLE_NUMBERS(b1, b2);
-    uint64_t cause = limgoshi_open(table, numbers, b1, b2, &value);
+    size_t numbers = LIMGOSHI_TABLE_NUMBERS((size_t)b1, (size_t)b2);
+    uint64_t cause = limgoshi_open(table, numbers, (uint64_t)b1, (uint64_t)b2, &value);
     if (cause != LIMGOSHI_ACCEPTED) {
         fprintf(stderr, "depot: open: cause %" PRIu64 "\n", cause);
         return 1;
     }
 
     FILE *cards = fopen(argv[3], "r");
-    if (!cards) {
+    if (cards == NULL) {
         perror(argv[3]);
         return 2;
     }
-    while (fgets(line, sizeof line, cards)) {
-        char *space = strchr(line, ' ');
-        if (!space) {
-            fprintf(stderr, "depot: no plan in: %s", line);
-            refused = 1;
-            continue;
-        }
-        cause = limgoshi_add(table, numbers, (const uint8_t *)line, (size_t)(space - line), (uint8_t)strtoul(space + 1, NULL, 10), &value);
-        if (cause != LIMGOSHI_ACCEPTED) {
-            fprintf(stderr, "depot: add: cause %" PRIu64 ", %" PRIu64 ": %s", cause, value, line);
-            refused = 1;
-        }
+    bool right = add_cards(cards, argv[3], numbers);
+    if (ferror(cards)) {
+        perror(argv[3]);
+        return 2;
     }
     fclose(cards);
+    if (!right) {
+        fprintf(stderr, "depot: cards refused: %s is not written\n", argv[4]);
+        return 1;
+    }
 
     cause = limgoshi_write_plane(table, numbers, plane, sizeof plane, &value);
     if (cause != LIMGOSHI_ACCEPTED) {
         fprintf(stderr, "depot: plane: cause %" PRIu64 "\n", cause);
         return 1;
     }
-    FILE *out = fopen(argv[4], "wb");
-    if (!out || fwrite(plane, 1, (size_t)value, out) != value || fclose(out) != 0) {
-        perror(argv[4]);
+    if (!write_file(argv[4], plane, (size_t)value))
         return 2;
-    }
     printf("%" PRIu64 " bytes\n", value);
-    return refused;
+    return 0;
 }

@@ -1,27 +1,56 @@
 /* A charging post: reads a plane file and prints the plan of each identifier given.
- * Use: post PLANE-FILE IDENTIFIER... */
+ * Use: post PLANE-FILE IDENTIFIER..
+ *
+ * Status 0: a plan is printed for each; 1: an identifier or the plane is turned down; 2: wrong use, or a file that cannot be read or written. */
 #include <inttypes.h>
 #include <stdio.h>
 #include <string.h>
 
 #include "limgoshi.h"
 
+/* The longest plane, and one byte more to find a file that is longer. */
+static uint8_t plane[LIMGOSHI_PLANE_BYTES(LIMGOSHI_BUCKETS1_MAX, LIMGOSHI_BUCKETS2_MAX, LIMGOSHI_BASE_MAX) + 1];
+
+/* Says why a lookup was turned down. */
+static void say_cause(const char *file, const char *id, uint64_t cause, uint64_t value)
+{
+    switch (cause) {
+    case LIMGOSHI_WRONG_LENGTH:
+        fprintf(stderr, "%s: identifier of %" PRIu64 " bytes: 1 to %u are allowed\n", id, value, LIMGOSHI_ID_MAX);
+        break;
+    case LIMGOSHI_WRONG_BYTE:
+        fprintf(stderr, "%s: byte %" PRIu64 " is not allowed: letters, digits and * - _ = : + | @ . are\n", id, value + 1);
+        break;
+    case LIMGOSHI_WRONG_PLANE:
+        fprintf(stderr, "%s: not a plane, or damaged: wrong at offset %" PRIu64 "\n", file, value);
+        break;
+    default:
+        fprintf(stderr, "%s: turned down with cause %" PRIu64 ", value %" PRIu64 "\n", id, cause, value);
+    }
+}
+
 int main(int argc, char **argv)
 {
-    static uint8_t plane[LIMGOSHI_PLANE_BYTES(LIMGOSHI_BUCKETS1_MAX, LIMGOSHI_BUCKETS2_MAX, LIMGOSHI_BASE_MAX) + 1];
-    int refused = 0;
-
-    if (argc < 2) {
-        fprintf(stderr, "use: post PLANE-FILE IDENTIFIER...\n");
+    int status = 0;
+    if (argc < 3) {
+        fprintf(stderr, "use: post PLANE-FILE IDENTIFIER..\n");
         return 2;
     }
     FILE *file = fopen(argv[1], "rb");
-    if (!file) {
+    if (file == NULL) {
         perror(argv[1]);
         return 2;
     }
     size_t length = fread(plane, 1, sizeof plane, file);
+    if (ferror(file)) {
+        perror(argv[1]);
+        return 2;
+    }
     fclose(file);
+    if (length == sizeof plane) {
+        fprintf(stderr, "%s: longer than any plane\n", argv[1]);
+        return 1;
+    }
 
     for (int i = 2; i < argc; i++) {
         uint64_t value;
@@ -29,9 +58,13 @@ int main(int argc, char **argv)
         if (cause == LIMGOSHI_ACCEPTED) {
             printf("%s plan %" PRIu64 "\n", argv[i], value);
         } else {
-            printf("%s turned down: cause %" PRIu64 ", %" PRIu64 "\n", argv[i], cause, value);
-            refused = 1;
+            say_cause(argv[1], argv[i], cause, value);
+            status = 1;
         }
     }
-    return refused;
+    if (fflush(stdout) != 0) {
+        perror("post");
+        return 2;
+    }
+    return status;
 }
