@@ -22,7 +22,7 @@ FILENAME == ARGV[1] {
     }
 }
 END {
-    print lines + 0 " lines: " accepted + 0 " accepted, " refused + 0 " refused, " unread + 0 " not read"
+    print lines + 0 (lines == 1 ? " line: " : " lines: ") accepted + 0 " accepted, " refused + 0 " refused, " unread + 0 " not read"
     exit (lines + 0 != answers + 0 ? 2 : refused + unread > 0)
 }
 
