@@ -1,0 +1,172 @@
+# For bin/desk: puts the line program's answers, the first file, into words beside the lines, whose bytes the second has as numbers.
+# Exit status: 0 every line was accepted, 1 one was not, 2 there are not as many answers as lines.
+BEGIN {
+    form["open"] = "open B1 B2"
+    form["add"] = "add ID PLAN"
+    form["set"] = "set ID PLAN"
+    form["del"] = "del ID"
+    form["get"] = "get ID"
+}
+FILENAME == ARGV[1] {
+    answer[FNR] = $0
+    answers = FNR
+    next
+}
+{
+    for (i = 1; i <= NF; i++) {
+        if ($i == 10) {
+            end_line()
+        } else {
+            at[++size] = $i + 0
+        }
+    }
+}
+END {
+    print lines + 0 (lines == 1 ? " line: " : " lines: ") accepted + 0 " accepted, " refused + 0 " refused, " unread + 0 " not read"
+    exit (lines + 0 != answers + 0 ? 2 : refused + unread > 0)
+}
+
+# a byte as it is shown: nothing but printable ASCII reaches a terminal
+function shown(b) {
+    return b >= 32 && b < 127 ? sprintf("%c", b) : sprintf("\\x%02x", b)
+}
+
+function end_line(  i, text) {
+    lines++
+    fields = 1
+    split("", field)
+    for (i = 1; i <= size && i <= 63; i++) {
+        text = text shown(at[i])
+        if (at[i] == 32) {
+            fields++
+        } else {
+            field[fields] = field[fields] shown(at[i])
+        }
+    }
+    printf "%-30s   %s\n", lines ": " text (size > 63 ? "..." : ""), words(answer[lines])
+    size = 0
+}
+
+function words(a) {
+    if (a ~ /^ok [0-9]+$/) {
+        accepted++
+        return "accepted: " returned(field[1], substr(a, 4))
+    }
+    if (a ~ /^no [0-9]+$/) {
+        refused++
+        return "refused: " cause(substr(a, 4) + 0)
+    }
+    unread++
+    return "not read: " fault()
+}
+
+# what the number n says that an accepted line returns
+function returned(verb, n) {
+    if (verb == "open") {
+        opened = 1
+        split("", since)
+        return "the table is open and empty"
+    }
+    if (verb == "add") {
+        since[toupper(field[2])] = lines
+        return "it has plan " field[3] "; live identifiers: " n
+    }
+    if (verb == "set") {
+        return "it has plan " field[3] "; it had plan " n
+    }
+    if (verb == "del") {
+        delete since[toupper(field[2])]
+        return "it is withdrawn; it had plan " n
+    }
+    return "it has plan " n
+}
+
+# the causes that a line can meet
+function cause(n,  id) {
+    id = toupper(field[2])
+    if (n == 1) {
+        return id == "" ? "the identifier is empty" : "the identifier has " id_bytes() " bytes, at most 20 are allowed"
+    }
+    if (n == 2) {
+        return "the identifier has " stranger() "; allowed are letters, digits and * - _ = : + | @ ."
+    }
+    if (n == 3) {
+        return "a table has 1 to 48 buckets at level 1 and 1 to 32 at level 2"
+    }
+    if (n == 6) {
+        return "it is live already" (id in since ? ", since line " since[id] : "") "; set changes its plan"
+    }
+    if (n == 7) {
+        return "it is not live"
+    }
+    if (n == 8) {
+        return "no room for it, the base list is full; a table with more buckets has more room"
+    }
+    return "cause " n
+}
+
+# the bytes of the second field
+function id_bytes(  i, n) {
+    for (i = length(field[1]) + 2; i <= size && at[i] != 32; i++) {
+        n++
+    }
+    return n + 0
+}
+
+# the first byte of the second field that is not allowed
+function stranger(  i) {
+    for (i = length(field[1]) + 2; i <= size && at[i] != 32; i++) {
+        if (at[i] > 127) {
+            return "a character that is not ASCII (byte " shown(at[i]) ")"
+        }
+        if (shown(at[i]) !~ /^[A-Za-z0-9*_=:+|@.-]$/) {
+            return "\"" shown(at[i]) "\""
+        }
+    }
+    return "a byte that is not allowed"
+}
+
+# why a line was not read
+function fault(  verb, limit, f) {
+    verb = field[1]
+    if (size > 63) {
+        return "the line has " size " bytes, at most 63 are allowed"
+    }
+    if (size == 0) {
+        return "the line is empty"
+    }
+    if (at[1] == 32) {
+        return "the line begins with a space"
+    }
+    if (!(verb in form)) {
+        return "\"" verb "\" is none of open, add, set, del, get" (tolower(verb) in form ? ", in small letters" : "")
+    }
+    if (fields > split(form[verb], f, " ") && at[size] == 32) {
+        return "the line ends with a space"
+    }
+    if (fields != split(form[verb], f, " ")) {
+        return "its form is \"" form[verb] "\", with single spaces"
+    }
+    limit = verb == "open" ? 999 : 255
+    if (verb == "open" && misread(field[2], limit) != "") {
+        return "B1 " misread(field[2], limit)
+    }
+    if (fields == 3 && misread(field[3], limit) != "") {
+        return (verb == "open" ? "B2 " : "the plan ") misread(field[3], limit)
+    }
+    return opened ? "the line program does not know it" : "no table is open yet; open B1 B2 opens one"
+}
+
+# what is wrong with the field s as a number to limit, or nothing
+function misread(s, limit) {
+    if (s == "") {
+        return "is missing"
+    }
+    if (s !~ /^[0-9]+$/) {
+        return "\"" s "\" is not a number in digits"
+    }
+    if (s ~ /^0./) {
+        return "\"" s "\" has a leading zero"
+    }
+    return s + 0 > limit ? s " is over " limit : ""
+}
