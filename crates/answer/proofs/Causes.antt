@@ -1,15 +1,15 @@
 -- Laws of causes. For a call: show `Given` along its tests (`unless`, `if-so`; `unless-met`, `if-met` where a test says just whether the cause is
 -- met), then `exactly`. `number-exactly` and `accepted-exactly` read off what that says of one cause, and of none.
 -- Assumes nothing.
-use Prim.Native.Nat.{ℕ, _<_}
-use native.Mathlib.Nat.{lt-irrefl, lt-trans}
+use Prim.Native.Nat.{ℕ, _≤_, _<_}
+use native.Mathlib.Nat.{le-refl}
 use native.Mathlib.Omega.{arith}
-use mathlib.Core.Path.{_≡_, refl, sym, _∙_, subst, subst⁻¹}
+use mathlib.Core.Path.{_≡_, refl, sym, _∙_, subst}
 use mathlib.Core.Logic.{_⊎_, inl, inr, _↔_}
 use mathlib.Core.Bool.{Bool, true, false, cond, true≢false}
 use mathlib.Core.List.{List, [], _∷_, _++_}
 use Rattle.answer.specs.Numbers.{numberOf, valueOf}
-use Rattle.answer.specs.Causes.{Cause, causeIf, Unmet, NoneMet, InOrder, FirstMet, Exactly}
+use Rattle.answer.specs.Causes.{Cause, causeIf, Unmet, NoneMet, InOrder, NotAmong, Apart, FirstMet, Exactly}
 use Rattle.answer.specs.declared.Answer.{Answer}
 
 -- ---- one answer
@@ -82,19 +82,28 @@ module _ {A : Type 0} (answer : A → Answer) (k : ℕ) (P : Type 0) (value : �
 
 -- ---- what it says of one cause, and of none
 
--- a number given is 0 or that of one of the causes
-given-number : (cs : List Cause) (returns : ℕ → Type 0) (n k v : ℕ) → InOrder n cs → FirstMet cs returns k v → (k ≡ 0) ⊎ (n < k)
-given-number [] returns n k v o f = inl (f .0)
-given-number (c ∷ cs) returns n k v o (inl p) = inr (subst⁻¹ (λ (j : ℕ). n < j) (p .0) (o .0))
-given-number (c ∷ cs) returns n k v o (inr p) = go (given-number cs returns (c .number) k v (o .1) (p .1))
-  where
-    go : (k ≡ 0) ⊎ (c .number < k) → (k ≡ 0) ⊎ (n < k)
-    go (inl z) = inl z
-    go (inr l) = inr (lt-trans (o .0) l)
+-- numbers that ascend are apart
+above-none : (n : ℕ) (cs : List Cause) → InOrder n cs → (k : ℕ) → k ≤ n → NotAmong k cs
+above-none n [] o k l = tt
+above-none n (c ∷ cs) o k l =
+    let h : n < c .number = o .0 in
+    (λ e. let e : k ≡ c .number = e in omega arith, above-none (c .number) cs (o .1) k (omega arith))
 
-number-above : (bs : List Cause) (c : Cause) (cs : List Cause) (n : ℕ) → InOrder n (bs ++ (c ∷ cs)) → n < c .number
-number-above [] c cs n o = o .0
-number-above (b ∷ bs) c cs n o = lt-trans (o .0) (number-above bs c cs (b .number) (o .1))
+pub in-order-apart : (n : ℕ) (cs : List Cause) → InOrder n cs → Apart cs
+in-order-apart n [] o = tt
+in-order-apart n (c ∷ cs) o =
+    let h : n < c .number = o .0 in
+    (λ e. let e : c .number ≡ 0 = e in omega arith, (above-none (c .number) cs (o .1) (c .number) (le-refl (c .number)), in-order-apart (c .number) cs (o .1)))
+
+-- a number that no cause has is not given
+given-zero : (cs : List Cause) (returns : ℕ → Type 0) (k v : ℕ) → NotAmong k cs → FirstMet cs returns k v → k ≡ 0
+given-zero [] returns k v o f = f .0
+given-zero (c ∷ cs) returns k v o (inl p) = absurd (o .0 (p .0))
+given-zero (c ∷ cs) returns k v o (inr p) = given-zero cs returns k v (o .1) (p .1)
+
+not-at : (k : ℕ) (bs : List Cause) (c : Cause) (cs : List Cause) → NotAmong k (bs ++ (c ∷ cs)) → k ≡ c .number → ⊥
+not-at k [] c cs o = o .0
+not-at k (b ∷ bs) c cs o = not-at k bs c cs (o .1)
 
 -- a cause of another number is passed
 past : (c : Cause) (cs : List Cause) (returns : ℕ → Type 0) (k v : ℕ) → (k ≡ c .number → ⊥) → (P Q : Type 0) → FirstMet cs returns k v ↔ (P × Q)
@@ -106,37 +115,31 @@ past c cs returns k v other P Q e = (there, λ p. inr (p .0 .0, e .1 (p .0 .1, p
     there (inr p) = let q = e .0 (p .1) in ((p .0, q .0), q .1)
 
 -- the number of c is given exactly if c is met and none before it
-pub first-at : (bs : List Cause) (c : Cause) (cs : List Cause) (returns : ℕ → Type 0) (n : ℕ) → InOrder n (bs ++ (c ∷ cs)) → (v : ℕ)
+pub first-at : (bs : List Cause) (c : Cause) (cs : List Cause) (returns : ℕ → Type 0) → Apart (bs ++ (c ∷ cs)) → (v : ℕ)
     → FirstMet (bs ++ (c ∷ cs)) returns (c .number) v ↔ (NoneMet bs × c .met v)
-first-at [] c cs returns n o v = (there, λ p. inl (refl, p .1))
+first-at [] c cs returns o v = (there, λ p. inl (refl, p .1))
   where
-    not-later : (c .number ≡ 0) ⊎ (c .number < c .number) → ⊥
-    not-later (inl z) = let l : n < c .number = o .0 in omega arith
-    not-later (inr l) = lt-irrefl (c .number) l
-
     there : FirstMet (c ∷ cs) returns (c .number) v → Unit {0} × c .met v
     there (inl p) = (tt, p .1)
-    there (inr p) = absurd (not-later (given-number cs returns (c .number) (c .number) v (o .1) (p .1)))
-first-at (b ∷ bs) c cs returns n o v =
-    let l : b .number < c .number = number-above bs c cs (b .number) (o .1) in
-    past b (bs ++ (c ∷ cs)) returns (c .number) v (λ e. lt-irrefl (b .number) (subst (λ (j : ℕ). b .number < j) e l)) (NoneMet bs) (c .met v)
-    (first-at bs c cs returns (b .number) (o .1) v)
+    there (inr p) = absurd (o .0 (given-zero cs returns (c .number) v (o .1 .0) (p .1)))
+first-at (b ∷ bs) c cs returns o v =
+    past b (bs ++ (c ∷ cs)) returns (c .number) v (λ e. not-at (b .number) bs c cs (o .1 .0) (sym e)) (NoneMet bs) (c .met v)
+    (first-at bs c cs returns (o .1 .1) v)
 
 -- 0 is given exactly if none is met
-pub none-met : (cs : List Cause) (returns : ℕ → Type 0) (n : ℕ) → InOrder n cs → (v : ℕ) → FirstMet cs returns 0 v ↔ (NoneMet cs × returns v)
-none-met [] returns n o v = (λ p. (tt, p .1), λ p. (refl, p .1))
-none-met (c ∷ cs) returns n o v =
-    past c cs returns 0 v (λ e. let l : n < c .number = o .0 in omega arith) (NoneMet cs) (returns v) (none-met cs returns (c .number) (o .1) v)
+pub none-met : (cs : List Cause) (returns : ℕ → Type 0) → Apart cs → (v : ℕ) → FirstMet cs returns 0 v ↔ (NoneMet cs × returns v)
+none-met [] returns o v = (λ p. (tt, p .1), λ p. (refl, p .1))
+none-met (c ∷ cs) returns o v = past c cs returns 0 v (λ e. o .0 (sym e)) (NoneMet cs) (returns v) (none-met cs returns (o .1 .1) v)
 
 -- the same of an answer
-pub number-exactly : (bs : List Cause) (c : Cause) (cs : List Cause) (returns : ℕ → Type 0) (a : Answer) → InOrder 0 (bs ++ (c ∷ cs)) → Exactly (bs ++ (c ∷ cs)) returns a
+pub number-exactly : (bs : List Cause) (c : Cause) (cs : List Cause) (returns : ℕ → Type 0) (a : Answer) → Apart (bs ++ (c ∷ cs)) → Exactly (bs ++ (c ∷ cs)) returns a
     → (v : ℕ) → ((numberOf a ≡ c .number) × (valueOf a ≡ v)) ↔ (NoneMet bs × c .met v)
 number-exactly bs c cs returns a o e v =
-    let f = first-at bs c cs returns 0 o v in
+    let f = first-at bs c cs returns o v in
     (λ p. f .0 (e (c .number) v .0 p), λ q. e (c .number) v .1 (f .1 q))
 
-pub accepted-exactly : (cs : List Cause) (returns : ℕ → Type 0) (a : Answer) → InOrder 0 cs → Exactly cs returns a
+pub accepted-exactly : (cs : List Cause) (returns : ℕ → Type 0) (a : Answer) → Apart cs → Exactly cs returns a
     → (v : ℕ) → ((numberOf a ≡ 0) × (valueOf a ≡ v)) ↔ (NoneMet cs × returns v)
 accepted-exactly cs returns a o e v =
-    let f = none-met cs returns 0 o v in
+    let f = none-met cs returns o v in
     (λ p. f .0 (e 0 v .0 p), λ q. e 0 v .1 (f .1 q))

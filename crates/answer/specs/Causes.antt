@@ -30,6 +30,16 @@ abbrev pub InOrder : ℕ → List Cause → Type 0
 InOrder n [] = Unit {0}
 InOrder n (c ∷ cs) = (n < c .number) × InOrder (c .number) cs
 
+-- none of them has the number k
+abbrev pub NotAmong : ℕ → List Cause → Type 0
+NotAmong k [] = Unit {0}
+NotAmong k (c ∷ cs) = (k ≡ c .number → ⊥) × NotAmong k cs
+
+-- no two of them have one number, and none has 0
+abbrev pub Apart : List Cause → Type 0
+Apart [] = Unit {0}
+Apart (c ∷ cs) = (c .number ≡ 0 → ⊥) × (NotAmong (c .number) cs × Apart cs)
+
 -- k is the number of the first cause met and v is returned with it; where none is met, k is 0 and v what the accepted call returns
 abbrev pub FirstMet : List Cause → (ℕ → Type 0) → ℕ → ℕ → Type 0
 FirstMet [] returns k v = (k ≡ 0) × returns v

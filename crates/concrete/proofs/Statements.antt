@@ -13,8 +13,8 @@ use Rattle.gf2.specs.Bound.{Largest}
 use Rattle.hash.specs.Mix.{mixOf, unmixOf}
 use Rattle.answer.specs.declared.Answer.the-variants.{Accepted, NotLive, Full}
 use Rattle.answer.specs.Numbers.{numberOf, valueOf}
-use Rattle.answer.specs.Causes.{Cause, NoneMet, InOrder, Exactly}
-use Rattle.answer.proofs.Causes.{number-exactly, accepted-exactly}
+use Rattle.answer.specs.Causes.{Cause, NoneMet, InOrder, Apart, Exactly}
+use Rattle.answer.proofs.Causes.{in-order-apart, number-exactly, accepted-exactly}
 use Rattle.identifier.specs.declared.Read.the-variants.{Word}
 use Rattle.bucket.specs.declared.Bucket.{Bucket}
 use Rattle.bucket_words.specs.Words.{bucketWords, wordsOf, bucketFrom}
@@ -113,13 +113,13 @@ module _ (t : List ℕ) (b : (i : ℕ) → getD t i 0 < 2 ^ 64) (c : Call Token)
   pub call-cause : (before : List Cause) (x : Cause) (after : List Cause) → callCauses t c ≡ before ++ (x ∷ after) → (v : ℕ)
       → ((numberOf (call t c .answer) ≡ x .number) × (valueOf (call t c .answer) ≡ v)) ↔ (NoneMet before × x .met v)
   call-cause before x after e =
-      number-exactly before x after (callReturns t c) (call t c .answer) (subst (InOrder 0) e (Causes.call-order t c))
+      number-exactly before x after (callReturns t c) (call t c .answer) (subst Apart e (in-order-apart 0 (callCauses t c) (Causes.call-order t c)))
       (subst (λ (cs : List Cause). Exactly cs (callReturns t c) (call t c .answer)) e call-causes)
 
   -- "A call is accepted if it meets no cause"
   pub call-accepted : (v : ℕ)
       → ((numberOf (call t c .answer) ≡ 0) × (valueOf (call t c .answer) ≡ v)) ↔ (NoneMet (callCauses t c) × callReturns t c v)
-  call-accepted = accepted-exactly (callCauses t c) (callReturns t c) (call t c .answer) (Causes.call-order t c) call-causes
+  call-accepted = accepted-exactly (callCauses t c) (callReturns t c) (call t c .answer) (in-order-apart 0 (callCauses t c) (Causes.call-order t c)) call-causes
 
 -- "Order is the table's order"
 pub open-order : (b1 b2 : ℕ) (t : List ℕ) → InOrder 0 (openCauses b1 b2 t)
