@@ -4,6 +4,7 @@ use Prim.Native.Nat.{ℕ, _-_, _≤_}
 use mathlib.Core.List.{List}
 use Rattle.codec.specs.Parts.{partAt}
 use Rattle.model.specs.Model.{Call, add, change, withdraw, query}
+use Rattle.model.specs.Request.{Token}
 use Rattle.text.specs.declared.Verb.{Verb}
 use Rattle.text.specs.declared.Verb.the-variants.{Add, Set, Del, Get}
 use Rattle.text.specs.declared.Number.{Number}
@@ -17,7 +18,7 @@ abbrev pub between : ℕ → ℕ → List ℕ → List ℕ
 between start end s = partAt (end - start) start s
 
 -- the call that a verb asks for
-abbrev pub callOf : Verb → List ℕ → ℕ → Call (List ℕ)
+abbrev pub callOf : Verb → List ℕ → ℕ → Call Token
 callOf Add i p = add i p
 callOf Set i p = change i p
 callOf Del i p = withdraw i
