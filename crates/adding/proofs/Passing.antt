@@ -21,7 +21,7 @@ use Rattle.concrete.proofs.Numbers.{header-read}
 use Rattle.arriving.specs.Arrival.{entriesFrom, entriesOf, storedAt, toSecond, Passed, Kept, FlatKept}
 use Rattle.arriving.proofs.Tables.{second-room, second-here, second-sound, second-stored, second-kept, numbers-table, numbers-kept}
 use Rattle.arriving.proofs.Arrival.{entries-next, entries-length}
-use Rattle.adding.specs.Arrivals.{seconds, allToSecond, takeOver, Drafted, Alike}
+use Rattle.adding.specs.Arrivals.{seconds, allToSecond, takeOver, Drafted, SameSize}
 use Rattle.adding.proofs.Arrivals.{all-law, base-grows, second-length, taken-all}
 
 module _ (S : ℕ → ℕ) (o : Outgoing) where
@@ -96,7 +96,7 @@ module _ (n r : ℕ) (S : ℕ → ℕ) where
 
 module _ (n r : ℕ) (S : ℕ → ℕ) where
   pub record Taking (d : List ℕ) (T : Table) (vs t : List ℕ) (i : ℕ) : Type 0 where
-    pub alike : Alike n r t d
+    pub same-size : SameSize n r t d
     pub same : takeOver n r S (tableFrom n r d) (drop i vs) (tableFrom n r t) ≡ takeOver n r S (tableFrom n r d) vs T
 
   module _ (d : List ℕ) (T : Table) (vs t : List ℕ) (i : ℕ) (h : Taking d T vs t i) where
@@ -108,39 +108,39 @@ module _ (n r : ℕ) (S : ℕ → ℕ) where
 
     module _ (v : ℕ) (p : ℕ) (e : p ≡ bucketPlace n r (getD d buckets1At 0 + index S (getD d buckets2At 0) v)) where
       there : p ≡ bucketPlace n r (getD t buckets1At 0 + index S (getD t buckets2At 0) v)
-      there = e ∙ sym (ap₂ (λ (a m : ℕ). bucketPlace n r (a + index S m v)) (h .alike .buckets1) (h .alike .buckets2))
+      there = e ∙ sym (ap₂ (λ (a m : ℕ). bucketPlace n r (a + index S m v)) (h .same-size .buckets1) (h .same-size .buckets2))
 
       pub taking-room : p + bucketWords n r ≤ length t
-      taking-room = second-room n r t (h .alike .one) S v p there
+      taking-room = second-room n r t (h .same-size .one) S v p there
 
       module _ (b : Bucket) (u : List ℕ) (q : b ≡ bucketFrom n r (drop p d)) (w : u ≡ storedAt n r p b t) where
         abbrev Y : Table
         Y = withSecond A (put S (A .level2) v (bucketOf n r S (E .level2) v))
 
         kept : Kept n r Y
-        kept = second-kept n r A (h .alike .one .table) _ _ (second-sound n r d (h .alike .other) S v p e)
+        kept = second-kept n r A (h .same-size .one .table) _ _ (second-sound n r d (h .same-size .other) S v p e)
 
         is : u ≡ numbersOf Y
         is =
-            w ∙ second-stored n r t (h .alike .one) S v p there b
-            ∙ ap (λ (c : Bucket). numbersOf (withSecond A (put S (A .level2) v c))) (q ∙ second-here n r d (h .alike .other) S v p e)
+            w ∙ second-stored n r t (h .same-size .one) S v p there b
+            ∙ ap (λ (c : Bucket). numbersOf (withSecond A (put S (A .level2) v c))) (q ∙ second-here n r d (h .same-size .other) S v p e)
 
         table : tableFrom n r u ≡ Y
         table = numbers-table n r Y kept u is
 
         pub taking-next : drop i vs ≡ v ∷ drop (suc i) vs → Taking d T vs u (i + 1)
         taking-next c = record {
-          alike = record {
+          same-size = record {
             one = numbers-kept n r Y kept u is;
-            other = h .alike .other;
-            buckets1 = sym (header-read n r u .0) ∙ ap (λ (Z : Table). length (Z .level1)) table ∙ header-read n r t .0 ∙ h .alike .buckets1;
-            buckets2 = sym (header-read n r u .1) ∙ ap (λ (Z : Table). length (Z .level2)) table ∙ length-set (A .level2) _ _ ∙ header-read n r t .1 ∙ h .alike .buckets2;
+            other = h .same-size .other;
+            buckets1 = sym (header-read n r u .0) ∙ ap (λ (Z : Table). length (Z .level1)) table ∙ header-read n r t .0 ∙ h .same-size .buckets1;
+            buckets2 = sym (header-read n r u .1) ∙ ap (λ (Z : Table). length (Z .level2)) table ∙ length-set (A .level2) _ _ ∙ header-read n r t .1 ∙ h .same-size .buckets2;
           };
           same = ap₂ (λ (Z : Table) (j : ℕ). takeOver n r S E (drop j vs) Z) table (add-one i) ∙ ap (λ (l : List ℕ). takeOver n r S E l A) (sym c) ∙ h .same;
         }
 
     pub taking-ends : length vs ≤ i → t ≡ numbersOf (takeOver n r S E vs T)
-    taking-ends l = sym (h .alike .one .numbers) ∙ ap numbersOf (ap (λ (ws : List ℕ). takeOver n r S E ws A) (sym (drop-of-length-le vs l)) ∙ h .same)
+    taking-ends l = sym (h .same-size .one .numbers) ∙ ap numbersOf (ap (λ (ws : List ℕ). takeOver n r S E ws A) (sym (drop-of-length-le vs l)) ∙ h .same)
 
 -- ---- then the table is as the draft
 
@@ -161,8 +161,8 @@ module _ (n r : ℕ) (S : ℕ → ℕ) (t : List ℕ) (h : FlatKept n r t) (es :
   U-is : withBase (withSecond T₀ (U .level2)) (U .base) ≡ U
   U-is = let e = all-law n r S T₀ es in ap (λ (X : Table). withBase (withSecond T₀ (X .level2)) (X .base)) e ∙ sym e
 
-  pub draft-alike : Alike n r t d
-  draft-alike = record {
+  pub draft-same-size : SameSize n r t d
+  draft-same-size = record {
     one = h;
     other = numbers-kept n r U kept-U d (c .table refl);
     buckets1 = sym (header-read n r t .0) ∙ ap (λ (X : Table). length (X .level1)) (U-is ∙ sym table-d) ∙ header-read n r d .0;
@@ -187,11 +187,11 @@ module _ (n r : ℕ) (S : ℕ → ℕ) (t : List ℕ) (h : FlatKept n r t) (es :
     table1 : tableFrom n r t1 ≡ T1
     table1 = numbers-table n r T1 kept1 t1 t1-is
 
-    pub drafted-alike : Alike n r t1 d
-    drafted-alike = record {
+    pub drafted-same-size : SameSize n r t1 d
+    drafted-same-size = record {
       one = numbers-kept n r T1 kept1 t1 t1-is;
-      other = draft-alike .other;
-      buckets1 = sym (header-read n r t1 .0) ∙ ap (λ (X : Table). length (X .level1)) table1 ∙ header-read n r t .0 ∙ draft-alike .buckets1;
+      other = draft-same-size .other;
+      buckets1 = sym (header-read n r t1 .0) ∙ ap (λ (X : Table). length (X .level1)) table1 ∙ header-read n r t .0 ∙ draft-same-size .buckets1;
       buckets2 = sym (header-read n r t1 .1) ∙ ap (λ (X : Table). length (X .level2)) table1 ∙ ap (λ (X : Table). length (X .level2)) (sym table-d) ∙ header-read n r d .1;
     }
 

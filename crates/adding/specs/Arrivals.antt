@@ -38,7 +38,7 @@ module _ (n r : ℕ) where
     pub table : done ≡ true → after ≡ numbersOf U
 
   -- two lists of numbers that hold sound buckets, with equal bucket numbers
-  pub record Alike (t u : List ℕ) : Type 0 where
+  pub record SameSize (t u : List ℕ) : Type 0 where
     pub one : FlatKept n r t
     pub other : FlatKept n r u
     pub buckets1 : getD t buckets1At 0 ≡ getD u buckets1At 0

@@ -23,7 +23,7 @@ ghost use Rattle.concrete.specs.Layout.{numbersOf};
 ghost use Rattle.concrete.specs.Calls.{rows, solutions, tableOf, served, call};
 ghost use Rattle.table.specs.Ready.{Ready};
 ghost use Rattle.arriving.specs.Arrival.{Passed, FlatKept};
-ghost use Rattle.adding.specs.Arrivals.{seconds, allToSecond, takeOver, Drafted, Alike, entering};
+ghost use Rattle.adding.specs.Arrivals.{seconds, allToSecond, takeOver, Drafted, SameSize, entering};
 
 // The words that leave level 1 arrive at level 2 one after the other, on a draft. False as soon as the base list has no room: then nothing is
 // said of the draft.
@@ -47,7 +47,7 @@ pub(crate) fn carry(t: &mut [u64], out: Outgoing) -> bool
 
 // The level 2 buckets of these words become those of another table.
 pub(crate) fn take_buckets(t: &mut [u64], from: &[u64], out: Outgoing)
-    requires { do ⌜ Alike rows solutions (now t) (now from) × (out .count ≤ (← ⟦Outgoing::MOST⟧)) ⌝ }
+    requires { do ⌜ SameSize rows solutions (now t) (now from) × (out .count ≤ (← ⟦Outgoing::MOST⟧)) ⌝ }
     ensures { λ _. ⌜ now (t .exit) ≡ numbersOf (takeOver rows solutions mixOf (tableOf (now (from .entry))) (words (seconds mixOf out)) (tableOf (now (t .entry)))) ⌝ }
 {
     let vectors = out.vectors;
@@ -62,7 +62,7 @@ pub(crate) fn take_buckets(t: &mut [u64], from: &[u64], out: Outgoing)
 
 // The base list becomes that of another table.
 pub(crate) fn take_base(t: &mut [u64], from: &[u64])
-    requires { ⌜ Alike rows solutions (now t) (now from) ⌝ }
+    requires { ⌜ SameSize rows solutions (now t) (now from) ⌝ }
     ensures { λ _. ⌜ now (t .exit) ≡ numbersOf (withBase (tableOf (now (t .entry))) (tableOf (now (from .entry)) .base)) ⌝ }
 {
     let a = layout::base_place(t);

@@ -28,25 +28,29 @@ rows = 64
 abbrev pub solutions : ℕ
 solutions = 8
 
+-- the solution words of each bucket of the table t: there is one layout
+abbrev pub solutionsIn : List ℕ → ℕ
+solutionsIn t = solutions
+
 -- the table that the numbers hold
 abbrev pub tableOf : List ℕ → Table
-tableOf t = L.tableFrom rows solutions t
+tableOf t = L.tableFrom rows (solutionsIn t) t
 
 -- the plan of the word w in the table, if it is live
 abbrev pub planIn : List ℕ → ℕ → Option ℕ
-planIn t w = T.planIn rows solutions mixOf (tableOf t) w
+planIn t w = T.planIn rows (solutionsIn t) mixOf (tableOf t) w
 
 -- cause 4 is not met
 abbrev pub shaped : List ℕ → Bool
-shaped t = E.shapeTest rows solutions t
+shaped t = E.shapeTest rows (solutionsIn t) t
 
 -- document 01's sound table
 abbrev pub FlatSound : List ℕ → Type 0
-FlatSound t = D.FlatSound rows solutions mixOf unmixOf t
+FlatSound t = D.FlatSound rows (solutionsIn t) mixOf unmixOf t
 
 -- cause 5 is not met
 abbrev pub sound : List ℕ → Bool
-sound t = E.soundTest rows solutions mixOf unmixOf t
+sound t = E.soundTest rows (solutionsIn t) mixOf unmixOf t
 
 -- an answer, and the numbers of the table after it
 pub record Outcome : Type 0 where
@@ -84,9 +88,9 @@ joined t u none =
 
 -- a call for the word w on a sound table
 unfoldable pub served : List ℕ → ℕ → Call Token → Outcome
-served t w (add i p) = joined t (T.addedTo rows solutions mixOf (tableOf t) (record { word = w; plan = p })) (planIn t w)
-served t w (change i p) = replaced t (T.changedIn rows solutions mixOf (tableOf t) w p) (planIn t w)
-served t w (withdraw i) = replaced t (T.withdrawnFrom rows solutions mixOf (tableOf t) w) (planIn t w)
+served t w (add i p) = joined t (T.addedTo rows (solutionsIn t) mixOf (tableOf t) (record { word = w; plan = p })) (planIn t w)
+served t w (change i p) = replaced t (T.changedIn rows (solutionsIn t) mixOf (tableOf t) w p) (planIn t w)
+served t w (withdraw i) = replaced t (T.withdrawnFrom rows (solutionsIn t) mixOf (tableOf t) w) (planIn t w)
 served t w (query i) = queried t (planIn t w)
 
 -- the causes that every call meets first: 1 and 2, 4, 5

@@ -8,7 +8,8 @@ use lib.ListN.{length}
 use borrow.Author.Tests.{eq-eqb, ne-eqb}
 use Rattle.bucket.specs.declared.Bucket.{Bucket}
 use Rattle.bucket.specs.declared.Tried.{Tried}
-use Rattle.bucket_words.specs.Words.{wordsOf, bucketFrom}
+use Rattle.bucket_words.specs.Words.{bucketWords, wordsOf, bucketFrom}
+use Rattle.concrete.specs.Calls.{rows, solutions}
 use Rattle.probe.specs.Steps.{probed}
 
 module _ (step : Bucket → Tried) (p : List ℕ) where
@@ -16,15 +17,15 @@ module _ (step : Bucket → Tried) (p : List ℕ) where
   abbrev pub Gives : ℕ → List ℕ → Type 0
   Gives n ws = (n ≡ probed step p .number) × (ws ≡ probed step p .words)
 
-  pub wrong : (length p ≡ 74 → ⊥) → Gives 2 p
+  pub wrong : (length p ≡ bucketWords rows solutions → ⊥) → Gives 2 p
   unfolding probed
-  wrong h = rw (ne-eqb (length p) 74 h) (refl, refl)
+  wrong h = rw (ne-eqb (length p) (bucketWords rows solutions) h) (refl, refl)
 
-  module _ (t : Tried) (h : length p ≡ 74) (e : t ≡ step (bucketFrom 64 8 p)) where
+  module _ (t : Tried) (h : length p ≡ bucketWords rows solutions) (e : t ≡ step (bucketFrom rows solutions p)) where
     pub not-done : t .done ≡ false → Gives 0 p
     unfolding probed
-    not-done d = rw (eq-eqb (length p) 74 h, ← e, d) (refl, refl)
+    not-done d = rw (eq-eqb (length p) (bucketWords rows solutions) h, ← e, d) (refl, refl)
 
     pub was-done : (ws : List ℕ) → t .done ≡ true → ws ≡ wordsOf (t .bucket) → Gives 1 ws
     unfolding probed
-    was-done ws d q = rw (eq-eqb (length p) 74 h, ← e, d, q) (refl, refl)
+    was-done ws d q = rw (eq-eqb (length p) (bucketWords rows solutions) h, ← e, d, q) (refl, refl)

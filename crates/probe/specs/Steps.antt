@@ -9,6 +9,7 @@ use Rattle.bucket.specs.declared.Tried.{Tried}
 use Rattle.bucket.specs.Bucket.{rowOf}
 use Rattle.bucket_words.specs.Words.{bucketWords, wordsOf, bucketFrom}
 use Rattle.eliminate.specs.Elimination.{soundRows}
+use Rattle.concrete.specs.Calls.{rows, solutions}
 
 -- a number, and words
 pub record Probed : Type 0 where
@@ -21,11 +22,11 @@ done p t = cond (t .done) (record { number = 1; words = wordsOf (t .bucket) }) (
 
 -- 2 where the words are not as many as a bucket has
 unfoldable pub probed : (Bucket → Tried) → List ℕ → Probed
-probed step p = cond (eqb (length p) (bucketWords 64 8)) (done p (step (bucketFrom 64 8 p))) (record { number = 2; words = p })
+probed step p = cond (eqb (length p) (bucketWords rows solutions)) (done p (step (bucketFrom rows solutions p))) (record { number = 2; words = p })
 
 -- the row of k in the bucket of these words, 64 where k is not live; 65 where they are not as many as a bucket has
 unfoldable pub probedRow : ℕ → List ℕ → ℕ
-probedRow k p = cond (eqb (length p) (bucketWords 64 8)) (rowOf 64 k (bucketFrom 64 8 p)) 65
+probedRow k p = cond (eqb (length p) (bucketWords rows solutions)) (rowOf 64 k (bucketFrom rows solutions p)) 65
 
 -- row i of the matrix K of a bucket, 0 where there is none
 abbrev pub matrixRow : ℕ → Bucket → ℕ
@@ -33,4 +34,4 @@ matrixRow i b = cond (soundRows 64 (b .mark) (b .cols) .ok) (cond (ltb i 64) (ge
 
 -- the same of the bucket of these words, where they are as many as a bucket has
 unfoldable pub probedMatrix : ℕ → List ℕ → ℕ
-probedMatrix i p = cond (eqb (length p) (bucketWords 64 8)) (matrixRow i (bucketFrom 64 8 p)) 0
+probedMatrix i p = cond (eqb (length p) (bucketWords rows solutions)) (matrixRow i (bucketFrom rows solutions p)) 0

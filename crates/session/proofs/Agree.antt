@@ -90,50 +90,50 @@ BothStand (some t) none = ⊥
 BothStand (some t) (some s) = FlatStands t s
 
 -- the same is printed, and what is open stands again
-abbrev pub Alike : Turn (List ℕ) → Turn State → Type 0
-Alike x y = (x .output ≡ y .output) × BothStand (x .state) (y .state)
+abbrev pub SameTurn : Turn (List ℕ) → Turn State → Type 0
+SameTurn x y = (x .output ≡ y .output) × BothStand (x .state) (y .state)
 
 module _ (m : Option (List ℕ)) (k : Option State) (h : BothStand m k) where
-  open-alike : (b1 b2 : ℕ) → Alike (obey tables m (opening b1 b2)) (obey states k (opening b1 b2))
-  open-alike b1 b2 =
+  open-same : (b1 b2 : ℕ) → SameTurn (obey tables m (opening b1 b2)) (obey states k (opening b1 b2))
+  open-same b1 b2 =
       cases (inRange b1 b2)
       (λ r. rw (open-is b1 b2 .0 r, r)
       (refl, opening-stands (numbersOf (openTable rows solutions b1 b2)) (record { size = record { buckets1 = b1; buckets2 = b2 }; before = zeros b1 b2; accepted = open-is b1 b2 .0 r })))
       (λ r. rw (open-is b1 b2 .1 r, r) (refl, h))
 
-  refuse-alike : Alike (refuse tables m) (refuse states k)
-  refuse-alike = (refl, h)
+  refuse-same : SameTurn (refuse tables m) (refuse states k)
+  refuse-same = (refl, h)
 
-ask-alike : (m : Option (List ℕ)) (k : Option State) → BothStand m k → (c : Call Token) → PlanFits c → Alike (obey tables m (ask c)) (obey states k (ask c))
-ask-alike none none h c f = (refl, tt)
-ask-alike none (some s) h c f = absurd h
-ask-alike (some t) none h c f = absurd h
-ask-alike (some t) (some s) h c f =
+ask-same : (m : Option (List ℕ)) (k : Option State) → BothStand m k → (c : Call Token) → PlanFits c → SameTurn (obey tables m (ask c)) (obey states k (ask c))
+ask-same none none h c f = (refl, tt)
+ask-same none (some s) h c f = absurd h
+ask-same (some t) none h c f = absurd h
+ask-same (some t) (some s) h c f =
     let p : Put = record { request = R.ask c; fits = f } in
     (ap printed (refines .says t s p h), refines .goes t s p h)
 
-pub obey-alike : (m : Option (List ℕ)) (k : Option State) → BothStand m k → (c : Command) → CommandFits c → Alike (obey tables m c) (obey states k c)
-obey-alike m k h (opening b1 b2) f = open-alike m k h b1 b2
-obey-alike m k h (ask c) f = ask-alike m k h c f
-obey-alike m k h bad f = refuse-alike m k h
+pub obey-same : (m : Option (List ℕ)) (k : Option State) → BothStand m k → (c : Command) → CommandFits c → SameTurn (obey tables m c) (obey states k c)
+obey-same m k h (opening b1 b2) f = open-same m k h b1 b2
+obey-same m k h (ask c) f = ask-same m k h c f
+obey-same m k h bad f = refuse-same m k h
 
-turn-alike : (m : Option (List ℕ)) (k : Option State) → BothStand m k → (s : List ℕ) → Alike (turn tables m s) (turn states k s)
-turn-alike m k h s =
+turn-same : (m : Option (List ℕ)) (k : Option State) → BothStand m k → (s : List ℕ) → SameTurn (turn tables m s) (turn states k s)
+turn-same m k h s =
     cases (leb (suc (length s)) lineLimit)
-    (λ e. rw e (obey-alike m k h (commandOf s) (command-fits s)))
-    (λ e. rw e (refuse-alike m k h))
+    (λ e. rw e (obey-same m k h (commandOf s) (command-fits s)))
+    (λ e. rw e (refuse-same m k h))
 
-from-alike : (m : Option (List ℕ)) (k : Option State) → BothStand m k → (ps : List (List ℕ)) → outputFrom tables m ps ≡ outputFrom states k ps
-from-alike m k h [] = refl
-from-alike m k h (s ∷ []) = refl
-from-alike m k h (s ∷ r ∷ rs) =
-    let a = turn-alike m k h s in
-    ap₂ _++_ (a .0) (from-alike (turn tables m s .state) (turn states k s .state) (a .1) (r ∷ rs))
+from-same : (m : Option (List ℕ)) (k : Option State) → BothStand m k → (ps : List (List ℕ)) → outputFrom tables m ps ≡ outputFrom states k ps
+from-same m k h [] = refl
+from-same m k h (s ∷ []) = refl
+from-same m k h (s ∷ r ∷ rs) =
+    let a = turn-same m k h s in
+    ap₂ _++_ (a .0) (from-same (turn tables m s .state) (turn states k s .state) (a .1) (r ∷ rs))
 
 -- "so statement 3 covers what the program answers"
 pub as-model : (s : List ℕ) → output s ≡ outputOf states s
 unfolding output
-as-model s = from-alike none none tt (parted lf (counted s))
+as-model s = from-same none none tt (parted lf (counted s))
 
 -- ---- the table is sound at each line
 
@@ -152,4 +152,4 @@ both-ready (some t) none h = absurd h
 both-ready (some t) (some s) h = let r = stands-sound t s h in record { shape = r .0; sound = r .2 }
 
 pub ready-next : (m : Option (List ℕ)) → AllReady m → (s : List ℕ) → AllReady (turn tables m s .state)
-ready-next m h s = both-ready (turn tables m s .state) (turn states (stateOf m) s .state) (turn-alike m (stateOf m) (ready-both m h) s .1)
+ready-next m h s = both-ready (turn tables m s .state) (turn states (stateOf m) s .state) (turn-same m (stateOf m) (ready-both m h) s .1)

@@ -5,7 +5,7 @@ use native.Mathlib.Omega.{arith}
 use mathlib.Core.Path.{_≡_, refl}
 use lib.ListN.{length}
 use Rattle.hash.specs.Mix.{mixOf}
-use Rattle.concrete.specs.Calls.{tableOf}
+use Rattle.concrete.specs.Calls.{rows, solutions, tableOf}
 use Rattle.adding.specs.Arrivals.{seconds}
 use Rattle.adding.proofs.Passing.{Carrying, seconds-next, seconds-length, carrying-next, carrying-stops, carrying-ends}
 use borrow.Author.Needs.{needs}
@@ -14,7 +14,7 @@ use Rattle.adding.proofs.carry.Tie as tie
 
 abbrev Inv-loop : tie.InvT-loop
 Inv-loop t₀ vectors plans count i₀ t i =
-    (i ≤ count) × ((length t ≡ length t₀) × Carrying 64 8 mixOf (tableOf t₀) (seconds mixOf (record { count = count; vectors = vectors; plans = plans })) t i)
+    (i ≤ count) × ((length t ≡ length t₀) × Carrying rows solutions mixOf (tableOf t₀) (seconds mixOf (record { count = count; vectors = vectors; plans = plans })) t i)
 
 abbrev μ-loop : tie.MeasureT-loop
 μ-loop t₀ vectors plans count i₀ t i = count - i
@@ -55,7 +55,7 @@ loop-again c =
       search needs,
       (
         search needs,
-        carrying-next 64 8 mixOf _ _ _ _ (l .inv .1 .1) _ (seconds-next mixOf o (l .i) (a .before .before .before .loop-test .taken) _ e) _ _ (a .arrive-second .ensures) (c .if1 .taken),
+        carrying-next rows solutions mixOf _ _ _ _ (l .inv .1 .1) _ (seconds-next mixOf o (l .i) (a .before .before .before .loop-test .taken) _ e) _ _ (a .arrive-second .ensures) (c .if1 .taken),
       ),
     )
 
@@ -67,7 +67,7 @@ returns c =
     let a = c .before .before .before in
     let l = a .before .before .before .before .loop in
     let o = a .before .before .before .before .before .before .before .before .args .out in
-    carrying-stops 64 8 mixOf _ _ _ _ (l .inv .1 .1) _ (seconds-next mixOf o (l .i) (a .before .before .before .loop-test .taken) _ (a .before .second .ensures)) _ _ (a .arrive-second .ensures) (c .if1 .left)
+    carrying-stops rows solutions mixOf _ _ _ _ (l .inv .1 .1) _ (seconds-next mixOf o (l .i) (a .before .before .before .loop-test .taken) _ (a .before .second .ensures)) _ _ (a .arrive-second .ensures) (c .if1 .left)
 
 same-length-2 : tie.Need-same-length-2 Inv-loop μ-loop
 same-length-2 c = c .before .loop .inv .1 .0
@@ -76,7 +76,7 @@ returns-2 : tie.Need-returns-2 Inv-loop μ-loop
 returns-2 c =
     let o = c .before .before .before .before .before .args .out in
     let h = c .loop-test .left in
-    carrying-ends 64 8 mixOf _ _ _ _ (c .before .loop .inv .1 .1) (omega (arith, seconds-length mixOf o))
+    carrying-ends rows solutions mixOf _ _ _ _ (c .before .loop .inv .1 .1) (omega (arith, seconds-length mixOf o))
 
 pub carry-spec : {M : Type 1} → statement M
 carry-spec =

@@ -9,6 +9,7 @@ use Rattle.hash.specs.Mix.{mixOf}
 use Rattle.settle.specs.Settle.{thresholdOf}
 use Rattle.table.specs.Ready.{Ready}
 use Rattle.arriving.proofs.Settled.{straight-as, straight-left}
+use Rattle.concrete.specs.Calls.{rows, solutions}
 use Rattle.adding.specs.Arrivals.{entering}
 use Rattle.adding.proofs.Tables.{first-room}
 use Rattle.adding.proofs.Added.{passed-as, Counted, counted-straight, counted-second, full-second, ready-kept, count-room, entered-full, entered-done}
@@ -24,33 +25,33 @@ abbrev As : tie.Start → Answer → List ℕ → List ℕ → Type 0
 As s a u t = (a ≡ entering t (word s) .answer) × (u ≡ entering t (word s) .table)
 
 -- the word went straight in
-straight : (c : tie.Then1) → let s = c .before .before .before .before .before .before .before .before in Counted 64 8 mixOf (s .args .t .now) (word s) (c .before .before .before .put-straight .last .0)
+straight : (c : tie.Then1) → let s = c .before .before .before .before .before .before .before .before in Counted rows solutions mixOf (s .args .t .now) (word s) (c .before .before .before .put-straight .last .0)
 straight c =
     let d = c .before .before .before in
     let s = d .before .before .before .before .before in
-    counted-straight 64 8 mixOf _ (ready-kept _ (s .pre)) (word s) (s .fits .w .fits) _ (d .before .before .first-place .ensures) _
-    (straight-as 64 8 thresholdOf _ (word s) _ (c .if1 .taken) (d .put-straight .ensures))
+    counted-straight rows solutions mixOf _ (ready-kept _ (s .pre)) (word s) (s .fits .w .fits) _ (d .before .before .first-place .ensures) _
+    (straight-as rows solutions thresholdOf _ (word s) _ (c .if1 .taken) (d .put-straight .ensures))
 
 -- it did not: the table is as it was
 same : (c : tie.Else1) → c .before .before .before .put-straight .last .0 ≡ c .before .before .before .before .before .before .before .before .args .t .now
-same c = straight-left 64 8 thresholdOf _ (word (c .before .before .before .before .before .before .before .before)) _ (c .if1 .left) (c .before .before .before .put-straight .ensures)
+same c = straight-left rows solutions thresholdOf _ (word (c .before .before .before .before .before .before .before .before)) _ (c .if1 .left) (c .before .before .before .put-straight .ensures)
 
 ready : (c : tie.Else1) → Ready (c .before .before .before .put-straight .last .0)
 ready c = subst⁻¹ Ready (same c) (c .before .before .before .before .before .before .before .before .pre)
 
 -- level 1 does not hold it, and level 2 took it
-passed : (c : tie.Then3) → let e = c .before .before .before .before .before .before .before .before .before in Counted 64 8 mixOf (e .before .before .before .put-straight .last .0) (word (e .before .before .before .before .before .before .before .before)) (c .before .before .before .arrive-second .last .0)
+passed : (c : tie.Then3) → let e = c .before .before .before .before .before .before .before .before .before in Counted rows solutions mixOf (e .before .before .before .put-straight .last .0) (word (e .before .before .before .before .before .before .before .before)) (c .before .before .before .arrive-second .last .0)
 passed c =
     let e = c .before .before .before .before .before .before .before .before .before in
     let s = e .before .before .before .before .before .before .before .before in
-    counted-second 64 8 mixOf _ (ready-kept _ (ready e)) (word s) (s .fits .w .fits) _ refl (sym (c .before .before .before .before .before .before .before .holds-first .ensures) ∙ c .before .before .before .before .before .before .if2 .left) _ (c .before .before .before .before .second .ensures) _
-    (passed-as 64 8 _ _ _ _ _ (c .if3 .taken) (c .before .before .before .arrive-second .ensures))
+    counted-second rows solutions mixOf _ (ready-kept _ (ready e)) (word s) (s .fits .w .fits) _ refl (sym (c .before .before .before .before .before .before .before .holds-first .ensures) ∙ c .before .before .before .before .before .before .if2 .left) _ (c .before .before .before .before .second .ensures) _
+    (passed-as rows solutions _ _ _ _ _ (c .if3 .taken) (c .before .before .before .arrive-second .ensures))
 
 first-place-requires : tie.Need-first-place-requires
 first-place-requires c κs = search needs
 
 put-straight-requires : tie.Need-put-straight-requires
-put-straight-requires c κs = let s = c .before .before .before .before in first-room 64 8 _ (ready-kept _ (s .pre)) mixOf (s .args .w) _ (c .before .first-place .ensures)
+put-straight-requires c κs = let s = c .before .before .before .before in first-room rows solutions _ (ready-kept _ (s .pre)) mixOf (s .args .w) _ (c .before .first-place .ensures)
 
 count-one-requires : tie.Need-count-one-requires
 count-one-requires c κs = let s = c .before .before .before .before .before .before .before .before .before in count-room _ (s .pre) (word s) _ (straight (c .before))
@@ -100,8 +101,8 @@ returns-4 c =
     let s = e .before .before .before .before .before .before .before .before in
     subst (As s _ _) (same e)
     (entered-full _ (s .args .w) (s .args .plan) _
-    (full-second 64 8 mixOf _ (ready-kept _ (ready e)) (word s) (s .fits .w .fits) _ refl (sym (c .before .before .before .before .before .before .before .holds-first .ensures) ∙ c .before .before .before .before .before .before .if2 .left) _ (c .before .before .before .before .second .ensures) _
-    (passed-as 64 8 _ _ _ _ _ (c .if3 .left) (c .before .before .before .arrive-second .ensures))))
+    (full-second rows solutions mixOf _ (ready-kept _ (ready e)) (word s) (s .fits .w .fits) _ refl (sym (c .before .before .before .before .before .before .before .holds-first .ensures) ∙ c .before .before .before .before .before .before .if2 .left) _ (c .before .before .before .before .second .ensures) _
+    (passed-as rows solutions _ _ _ _ _ (c .if3 .left) (c .before .before .before .arrive-second .ensures))))
 
 pub enter-spec : {M : Type 1} → statement M
 enter-spec =

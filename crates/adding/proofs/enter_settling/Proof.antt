@@ -5,7 +5,7 @@ use mathlib.Core.Bool.{true}
 use Rattle.lists.specs.Entries.{Entry}
 use Rattle.hash.specs.Mix.{mixOf}
 use Rattle.settle.specs.Settle.{SoundBucket}
-use Rattle.concrete.specs.Calls.{tableOf}
+use Rattle.concrete.specs.Calls.{rows, solutions, tableOf}
 use Rattle.arriving.specs.Arrival.{Passed}
 use Rattle.adding.specs.Arrivals.{seconds, allToSecond}
 use Rattle.adding.proofs.Tables.{first-room, first-here, first-sound}
@@ -19,15 +19,15 @@ word s = record { word = s .args .w; plan = s .args .plan }
 
 -- the words that left level 1 went on
 on : (c : tie.Then1) → let d = c .before .before .before .before .before .before in
-    Passed 64 8 (d .before .before .before .before .before .args .t .now) (allToSecond 64 8 mixOf (tableOf (d .before .before .before .before .before .args .t .now)) (seconds mixOf (d .settled-at .result .out))) true (c .before .before .before .pass-on .last .0)
-on c = passed-as 64 8 _ _ _ _ _ (c .if1 .taken) (c .before .before .before .pass-on .ensures)
+    Passed rows solutions (d .before .before .before .before .before .args .t .now) (allToSecond rows solutions mixOf (tableOf (d .before .before .before .before .before .args .t .now)) (seconds mixOf (d .settled-at .result .out))) true (c .before .before .before .pass-on .last .0)
+on c = passed-as rows solutions _ _ _ _ _ (c .if1 .taken) (c .before .before .before .pass-on .ensures)
 
 counted : (c : tie.After-count-one-arg) → let s = c .before .before .before .before .before .before .before .before .before .before .before .before .before .before .before .before .before in
-    Counted 64 8 mixOf (s .args .t .now) (word s) (c .before .before .before .store-at .last .0)
+    Counted rows solutions mixOf (s .args .t .now) (word s) (c .before .before .before .store-at .last .0)
 counted c =
     let d = c .before .before .before .before .before .before .before .before .before .before .before .before in
     let s = d .before .before .before .before .before in
-    enter-counted 64 8 mixOf _ (ready-kept _ (s .pre)) (word s) (s .fits .w .fits) _ (d .before .before .first-place .ensures) 65 _ (d .settled-at .ensures) _ (on (c .before .before .before .before .before .before)) _ (c .before .before .before .store-at .ensures)
+    enter-counted rows solutions mixOf _ (ready-kept _ (s .pre)) (word s) (s .fits .w .fits) _ (d .before .before .first-place .ensures) 65 _ (d .settled-at .ensures) _ (on (c .before .before .before .before .before .before)) _ (c .before .before .before .store-at .ensures)
 
 first-place-requires : tie.Need-first-place-requires
 first-place-requires c κs = search needs
@@ -37,19 +37,19 @@ settled-at-requires c κs =
     let s = c .before .before .before .before in
     let k = ready-kept _ (s .pre) in
     let p = c .before .first-place .ensures in
-    (first-room 64 8 _ k mixOf (s .args .w) _ p, subst⁻¹ (SoundBucket 64 8) (first-here 64 8 _ k mixOf (s .args .w) _ p) (first-sound 64 8 _ k mixOf (s .args .w) _ p))
+    (first-room rows solutions _ k mixOf (s .args .w) _ p, subst⁻¹ (SoundBucket rows solutions) (first-here rows solutions _ k mixOf (s .args .w) _ p) (first-sound rows solutions _ k mixOf (s .args .w) _ p))
 
 pass-on-requires : tie.Need-pass-on-requires
 pass-on-requires c κs =
     let s = c .before .before .before .before .before .before .before in
     let k = ready-kept _ (s .pre) in
-    (k, enter-few 64 8 mixOf _ k (word s) (s .fits .w .fits) _ (c .before .before .before .before .first-place .ensures) 65 _ (c .before .before .settled-at .ensures))
+    (k, enter-few rows solutions mixOf _ k (word s) (s .fits .w .fits) _ (c .before .before .before .before .first-place .ensures) 65 _ (c .before .before .settled-at .ensures))
 
 store-at-requires : tie.Need-store-at-requires
 store-at-requires c κs =
     let d = c .before .before .before .before .before .before .before .before in
     let s = d .before .before .before .before .before in
-    enter-room 64 8 mixOf _ (ready-kept _ (s .pre)) (word s) (s .fits .w .fits) _ (d .before .before .first-place .ensures) 65 _ (d .settled-at .ensures) _ (on (c .before .before))
+    enter-room rows solutions mixOf _ (ready-kept _ (s .pre)) (word s) (s .fits .w .fits) _ (d .before .before .first-place .ensures) 65 _ (d .settled-at .ensures) _ (on (c .before .before))
 
 count-one-requires : tie.Need-count-one-requires
 count-one-requires c κs =
@@ -72,8 +72,8 @@ returns-2 : tie.Need-returns-2
 returns-2 c =
     let d = c .before .before .before .before .before .before in
     let s = d .before .before .before .before .before in
-    entered-full (s .args .t .now) (s .args .w) (s .args .plan) _ (enter-full 64 8 mixOf _ (ready-kept _ (s .pre)) (word s) (s .fits .w .fits) _ (d .before .before .first-place .ensures) 65 _ (d .settled-at .ensures) _
-    (passed-as 64 8 _ _ _ _ _ (c .if1 .left) (c .before .before .before .pass-on .ensures)))
+    entered-full (s .args .t .now) (s .args .w) (s .args .plan) _ (enter-full rows solutions mixOf _ (ready-kept _ (s .pre)) (word s) (s .fits .w .fits) _ (d .before .before .first-place .ensures) 65 _ (d .settled-at .ensures) _
+    (passed-as rows solutions _ _ _ _ _ (c .if1 .left) (c .before .before .before .pass-on .ensures)))
 
 pub enter-settling-spec : {M : Type 1} → statement M
 enter-settling-spec =

@@ -5,10 +5,10 @@ use mathlib.Core.Bool.{true}
 use mathlib.Core.List.{List}
 use Rattle.lists.specs.Entries.{Entry}
 use Rattle.hash.specs.Mix.{mixOf}
-use Rattle.concrete.specs.Calls.{tableOf}
+use Rattle.concrete.specs.Calls.{rows, solutions, tableOf}
 use Rattle.arriving.specs.Arrival.{FlatKept}
 use Rattle.adding.specs.Arrivals.{seconds, allToSecond, Drafted}
-use Rattle.adding.proofs.Passing.{draft-alike, drafted-alike, drafted, from-draft, not-drafted}
+use Rattle.adding.proofs.Passing.{draft-same-size, drafted-same-size, drafted, from-draft, not-drafted}
 use borrow.Author.Needs.{needs}
 use Rattle.adding.proofs.pass_drafted.Statement.{statement}
 use Rattle.adding.proofs.pass_drafted.Tie as tie
@@ -23,7 +23,7 @@ carry-requires : tie.Need-carry-requires
 carry-requires c κs =
     let s = c .before .before .before .before .before .before .before .before in
     let kept = s .pre .0 in
-    let copied = subst⁻¹ (FlatKept 64 8) (c .before .before .before .put .ensures) kept in
+    let copied = subst⁻¹ (FlatKept rows solutions) (c .before .before .before .put .ensures) kept in
     (search needs, s .pre .1 .1)
 
 -- not done: the table is as it was
@@ -31,24 +31,24 @@ returns-2 : tie.Need-returns-2
 returns-2 c =
     let d = c .before .before .before in
     let q = d .before .before .before .before .put .ensures in
-    not-drafted 64 8 _ _ _ (from-draft 64 8 mixOf (moved (d .before .before .before .before .before .before .before .before .before)) _ _ _ _ _ (d .carry .ensures) (c .if1 .left) (search needs))
+    not-drafted rows solutions _ _ _ (from-draft rows solutions mixOf (moved (d .before .before .before .before .before .before .before .before .before)) _ _ _ _ _ (d .carry .ensures) (c .if1 .left) (search needs))
 
 -- done: the words go on, as the draft shows
 on : (c : tie.Then1) → let s = c .before .before .before .before .before .before .before .before .before .before .before .before in
-    Drafted 64 8 (allToSecond 64 8 mixOf (tableOf (s .args .t .now)) (moved s)) true (c .before .before .before .carry .last .0)
+    Drafted rows solutions (allToSecond rows solutions mixOf (tableOf (s .args .t .now)) (moved s)) true (c .before .before .before .carry .last .0)
 on c =
     let d = c .before .before .before in
     let q = d .before .before .before .before .put .ensures in
-    from-draft 64 8 mixOf (moved (d .before .before .before .before .before .before .before .before .before)) _ _ _ _ _ (d .carry .ensures) (c .if1 .taken) (search needs)
+    from-draft rows solutions mixOf (moved (d .before .before .before .before .before .before .before .before .before)) _ _ _ _ _ (d .carry .ensures) (c .if1 .taken) (search needs)
 
 take-buckets-requires : tie.Need-take-buckets-requires
-take-buckets-requires c κs = let s = c .before .before .before .before .before .before .before .before .before .before .before .before .before .before in (draft-alike 64 8 mixOf _ (s .pre .0) (moved s) _ (on (c .before .before)), s .pre .1 .1)
+take-buckets-requires c κs = let s = c .before .before .before .before .before .before .before .before .before .before .before .before .before .before in (draft-same-size rows solutions mixOf _ (s .pre .0) (moved s) _ (on (c .before .before)), s .pre .1 .1)
 
 take-base-requires : tie.Need-take-base-requires
 take-base-requires c κs =
     let b = c .before .before .before .before .before .before .before in
     let s = b .before .before .before .before .before .before .before .before .before .before .before .before in
-    drafted-alike 64 8 mixOf _ (s .pre .0) (moved s) _ (on b) _ (c .before .before .before .before .take-buckets .ensures)
+    drafted-same-size rows solutions mixOf _ (s .pre .0) (moved s) _ (on b) _ (c .before .before .before .before .take-buckets .ensures)
 
 same-length : tie.Need-same-length
 same-length c = search needs
@@ -60,7 +60,7 @@ returns : tie.Need-returns
 returns c =
     let b = c .before .before .before .before .before .before .before .before .before .before in
     let s = b .before .before .before .before .before .before .before .before .before .before .before .before in
-    drafted 64 8 mixOf _ (s .pre .0) (moved s) _ (on b) _ (c .before .before .before .before .before .before .before .take-buckets .ensures) _ (c .before .before .take-base .ensures)
+    drafted rows solutions mixOf _ (s .pre .0) (moved s) _ (on b) _ (c .before .before .before .before .before .before .before .take-buckets .ensures) _ (c .before .before .take-base .ensures)
 
 same-length-3 : tie.Need-same-length-3
 same-length-3 c = search needs

@@ -6,6 +6,7 @@ use lib.ListN.{length, take, replicate, length-replicate}
 use lib.Seq.{length-take-le}
 use Rattle.hash.specs.Mix.{mixOf}
 use Rattle.concrete.specs.Layout.{longest}
+use Rattle.concrete.specs.Calls.{rows, solutions}
 use Rattle.adding.proofs.Tables.{not-longer}
 use Rattle.adding.proofs.Passing.{pass-none, pass-one}
 use borrow.Author.Needs.{needs}
@@ -13,7 +14,7 @@ use Rattle.adding.proofs.pass_on.Statement.{statement}
 use Rattle.adding.proofs.pass_on.Tie as tie
 
 returns : tie.Need-returns
-returns c = pass-none 64 8 mixOf _ (c .before .before .pre .0) _ (c .if1 .taken)
+returns c = pass-none rows solutions mixOf _ (c .before .before .pre .0) _ (c .if1 .taken)
 
 array-read-second : tie.Need-array-read-second
 array-read-second c = search needs
@@ -31,13 +32,13 @@ same-length : tie.Need-same-length
 same-length c = search needs
 
 returns-2 : tie.Need-returns-2
-returns-2 c = pass-one 64 8 mixOf _ (c .before .before .before .before .before .before .before .before .before .before .pre .0) _ _ _ _ (c .before .before .before .before .before .before .before .if2 .taken) (c .before .before .before .second .ensures) (c .before .before .arrive-second .ensures)
+returns-2 c = pass-one rows solutions mixOf _ (c .before .before .before .before .before .before .before .before .before .before .pre .0) _ _ _ _ (c .before .before .before .before .before .before .before .if2 .taken) (c .before .before .before .second .ensures) (c .before .before .arrive-second .ensures)
 
-shortened : (s : tie.Start) → length {A = ℕ} (take (length (s .args .t .now)) (replicate (longest 64 8) 0)) ≡ length (s .args .t .now)
-shortened s = length-take-le (length (s .args .t .now)) (replicate (longest 64 8) 0) (subst⁻¹ (λ (k : ℕ). length (s .args .t .now) ≤ k) (length-replicate {A = ℕ} (longest 64 8) 0) (not-longer 64 8 _ (s .pre .0)))
+shortened : (s : tie.Start) → length {A = ℕ} (take (length (s .args .t .now)) (replicate (longest rows solutions) 0)) ≡ length (s .args .t .now)
+shortened s = length-take-le (length (s .args .t .now)) (replicate (longest rows solutions) 0) (subst⁻¹ (λ (k : ℕ). length (s .args .t .now) ≤ k) (length-replicate {A = ℕ} (longest rows solutions) 0) (not-longer rows solutions _ (s .pre .0)))
 
 array-borrow-prefix-draft : tie.Need-array-borrow-prefix-draft
-array-borrow-prefix-draft c = not-longer 64 8 _ (c .before .before .before .before .pre .0)
+array-borrow-prefix-draft c = not-longer rows solutions _ (c .before .before .before .before .pre .0)
 
 slice-aggregate-pass-drafted : tie.Need-slice-aggregate-pass-drafted
 slice-aggregate-pass-drafted c = sym (shortened (c .before .before .before .before .before))

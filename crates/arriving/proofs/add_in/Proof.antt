@@ -2,6 +2,7 @@
 -- Assumes nothing.
 use Rattle.lists.specs.Entries.{Entry}
 use Rattle.settle.specs.Settle.{thresholdOf}
+use Rattle.concrete.specs.Calls.{rows, solutions}
 use Rattle.arriving.proofs.Settled.{step-in, step-past, step-depends}
 use borrow.Author.Needs.{needs}
 use Rattle.arriving.proofs.add_in.Statement.{statement}
@@ -33,7 +34,7 @@ returns c =
     let a = c .before .before .before .before .before .before in
     let t = a .before .before .before in
     let s = t .before .before .before .before in
-    step-in 64 8 thresholdOf (word s) (s .args .part .now) (a .before .load .result) (a .add .result) (a .before .load .ensures) (a .add .ensures) _ _
+    step-in rows solutions thresholdOf (word s) (s .args .part .now) (a .before .load .result) (a .add .result) (a .before .load .ensures) (a .add .ensures) _ _
     (t .before .before .threshold .ensures) (t .if1 .taken) (c .before .before .before .before .before .if2 .taken) (c .before .before .store .ensures)
 
 same-length-2 : tie.Need-same-length-2
@@ -43,12 +44,12 @@ returns-2 : tie.Need-returns-2
 returns-2 c =
     let a = c .before in
     let s = a .before .before .before .before .before .before .before in
-    step-depends 64 8 thresholdOf (word s) (s .args .part .now) (a .before .load .result) (a .add .result) (a .before .load .ensures) (a .add .ensures) (c .if2 .left)
+    step-depends rows solutions thresholdOf (word s) (s .args .part .now) (a .before .load .result) (a .add .result) (a .before .load .ensures) (a .add .ensures) (c .if2 .left)
 
 returns-3 : tie.Need-returns-3
 returns-3 c =
     let s = c .before .before .before .before in
-    step-past 64 8 thresholdOf (word s) (s .args .part .now) _ (c .before .before .threshold .ensures) (c .if1 .left)
+    step-past rows solutions thresholdOf (word s) (s .args .part .now) _ (c .before .before .threshold .ensures) (c .if1 .left)
 
 pub add-in-spec : {M : Type 1} → statement M
 add-in-spec =

@@ -6,7 +6,7 @@ use mathlib.Core.List.{List}
 use Rattle.lists.specs.Entries.{Entry}
 use Rattle.hash.specs.Mix.{mixOf}
 use Rattle.settle.specs.Settle.{thresholdOf}
-use Rattle.concrete.specs.Calls.{tableOf}
+use Rattle.concrete.specs.Calls.{rows, solutions, tableOf}
 use Rattle.arriving.specs.Arrival.{toSecond, Passed, FlatKept}
 use Rattle.arriving.proofs.Tables.{shape, second-room}
 use Rattle.arriving.proofs.Settled.{straight-as, straight-left, arrive-straight}
@@ -18,10 +18,10 @@ abbrev word : tie.Start → Entry
 word s = record { word = s .args .v; plan = s .args .plan }
 
 second-place-requires : tie.Need-second-place-requires
-second-place-requires c κs = shape 64 8 _ (c .before .before .pre)
+second-place-requires c κs = shape rows solutions _ (c .before .before .pre)
 
 put-straight-requires : tie.Need-put-straight-requires
-put-straight-requires c κs = let s = c .before .before .before .before in second-room 64 8 _ (s .pre) mixOf (s .args .v) _ (c .before .second-place .ensures)
+put-straight-requires c κs = let s = c .before .before .before .before in second-room rows solutions _ (s .pre) mixOf (s .args .v) _ (c .before .second-place .ensures)
 
 same-length : tie.Need-same-length
 same-length c = search needs
@@ -30,13 +30,13 @@ returns : tie.Need-returns
 returns c =
     let d = c .before .before .before in
     let s = d .before .before .before .before .before in
-    arrive-straight 64 8 mixOf _ (s .pre) (word s) _ (d .before .before .second-place .ensures) (s .fits .v .fits) _ (straight-as 64 8 thresholdOf _ (word s) _ (c .if1 .taken) (d .put-straight .ensures))
+    arrive-straight rows solutions mixOf _ (s .pre) (word s) _ (d .before .before .second-place .ensures) (s .fits .v .fits) _ (straight-as rows solutions thresholdOf _ (word s) _ (c .if1 .taken) (d .put-straight .ensures))
 
 settle-second-requires : tie.Need-settle-second-requires
 settle-second-requires c κs =
     let d = c .before .before .before .before in
     let s = d .before .before .before .before .before in
-    subst⁻¹ (FlatKept 64 8) (straight-left 64 8 thresholdOf _ (word s) _ (c .before .if1 .left) (d .put-straight .ensures)) (s .pre)
+    subst⁻¹ (FlatKept rows solutions) (straight-left rows solutions thresholdOf _ (word s) _ (c .before .if1 .left) (d .put-straight .ensures)) (s .pre)
 
 same-length-2 : tie.Need-same-length-2
 same-length-2 c = search needs
@@ -45,7 +45,7 @@ returns-2 : tie.Need-returns-2
 returns-2 c =
     let d = c .before .before .before .before .before .before .before in
     let s = d .before .before .before .before .before in
-    subst (λ (t : List ℕ). Passed 64 8 t (toSecond 64 8 mixOf (tableOf t) (word s)) (c .before .before .settle-second .result) (c .before .before .settle-second .last .0)) (straight-left 64 8 thresholdOf _ (word s) _ (c .before .before .before .before .if1 .left) (d .put-straight .ensures)) (c .before .before .settle-second .ensures)
+    subst (λ (t : List ℕ). Passed rows solutions t (toSecond rows solutions mixOf (tableOf t) (word s)) (c .before .before .settle-second .result) (c .before .before .settle-second .last .0)) (straight-left rows solutions thresholdOf _ (word s) _ (c .before .before .before .before .if1 .left) (d .put-straight .ensures)) (c .before .before .settle-second .ensures)
 
 pub arrive-second-spec : {M : Type 1} → statement M
 arrive-second-spec =

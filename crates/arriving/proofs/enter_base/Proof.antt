@@ -7,7 +7,7 @@ use mathlib.Core.List.{List}
 use lib.ListN.{length}
 use Rattle.lists.specs.Entries.{Entry, insertAll}
 use Rattle.concrete.specs.Layout.{basePairs}
-use Rattle.concrete.specs.Calls.{tableOf}
+use Rattle.concrete.specs.Calls.{rows, solutions, tableOf}
 use Rattle.arriving.specs.Arrival.{entriesOf}
 use Rattle.arriving.proofs.Tables.{count0, shape, long, place-le, last-pairs, last-read, last-room, last-put}
 use Rattle.arriving.proofs.Arrival.{entries-length, insert-all-length}
@@ -16,14 +16,14 @@ use Rattle.arriving.proofs.enter_base.Statement.{statement}
 use Rattle.arriving.proofs.enter_base.Tie as tie
 
 base-place-requires : tie.Need-base-place-requires
-base-place-requires c κs = shape 64 8 _ (c .before .before .pre .0)
+base-place-requires c κs = shape rows solutions _ (c .before .before .pre .0)
 
 -- the base list lies in the table
 within : (c : tie.After-slice-known2) → c .before .base-place .result ≤ length (c .before .before .before .before .args .t .now)
-within c = place-le 64 8 _ (c .before .before .before .before .pre .0) _ (c .before .base-place .ensures)
+within c = place-le rows solutions _ (c .before .before .before .before .pre .0) _ (c .before .base-place .ensures)
 
 slice-read-count : tie.Need-slice-read-count
-slice-read-count c = let h = long 64 8 _ (c .before .before .before .before .pre .0) in omega arith
+slice-read-count c = let h = long rows solutions _ (c .before .before .before .before .pre .0) in omega arith
 
 mul-insert-all : tie.Need-mul-insert-all
 mul-insert-all c = let h = within c in search needs
@@ -38,7 +38,7 @@ part-insert-all-end : tie.Need-part-insert-all-end
 part-insert-all-end c = search needs
 
 insert-all-requires : tie.Need-insert-all-requires
-insert-all-requires c κs = let b = c .before in let p = b .before .before .before .before .pre in (last-pairs 64 8 _ (p .0) _ (b .before .base-place .ensures), p .1)
+insert-all-requires c κs = let b = c .before in let p = b .before .before .before .before .pre in (last-pairs rows solutions _ (p .0) _ (b .before .base-place .ensures), p .1)
 
 add-t : tie.Need-add-t
 add-t c = let h = c .before .before .before .before .before .before .before .before .pre .1 in omega arith
@@ -46,7 +46,7 @@ add-t c = let h = c .before .before .before .before .before .before .before .bef
 slice-write-t : tie.Need-slice-write-t
 slice-write-t c =
     let b = c .before .before .before .before in
-    last-room 64 8 _ (b .before .before .before .before .pre .0) _ (b .before .base-place .ensures) (c .before .before .insert-all .last .0)
+    last-room rows solutions _ (b .before .before .before .before .pre .0) _ (b .before .base-place .ensures) (c .before .before .insert-all .last .0)
 
 same-length : tie.Need-same-length
 same-length c = search needs
@@ -59,8 +59,8 @@ returns c =
     let h = s .pre .0 in
     let o = s .args .out in
     let es : List Entry = entriesOf o in
-    last-put 64 8 _ h _ e _ _ _ (c .before .before .insert-all .ensures ∙ ap (λ (bs : List Entry). basePairs (insertAll es bs)) (last-read 64 8 _ h _ e))
-    (omega (arith, insert-all-length es (tableOf (s .args .t .now) .base), entries-length (o .count) (o .vectors) (o .plans), count0 64 8 _ h))
+    last-put rows solutions _ h _ e _ _ _ (c .before .before .insert-all .ensures ∙ ap (λ (bs : List Entry). basePairs (insertAll es bs)) (last-read rows solutions _ h _ e))
+    (omega (arith, insert-all-length es (tableOf (s .args .t .now) .base), entries-length (o .count) (o .vectors) (o .plans), count0 rows solutions _ h))
 
 pub enter-base-spec : {M : Type 1} → statement M
 enter-base-spec =

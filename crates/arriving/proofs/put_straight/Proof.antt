@@ -1,6 +1,7 @@
 -- `arriving::put_straight` meets its contract.
 -- Assumes nothing.
 use Rattle.settle.specs.Settle.{thresholdOf}
+use Rattle.concrete.specs.Calls.{rows, solutions}
 use Rattle.arriving.proofs.Settled.{straight-at}
 use borrow.Author.Needs.{needs}
 use Rattle.arriving.proofs.put_straight.Statement.{statement}
@@ -30,7 +31,7 @@ same-length c = search needs
 returns : tie.Need-returns
 returns c =
     let s = c .before .before .before .before .before .args in
-    straight-at 64 8 thresholdOf (s .at) (record { word = s .v; plan = s .plan }) (s .t .now) _ _ (c .before .before .add-in .ensures)
+    straight-at rows solutions thresholdOf (s .at) (record { word = s .v; plan = s .plan }) (s .t .now) _ _ (c .before .before .add-in .ensures)
 
 pub put-straight-spec : {M : Type 1} → statement M
 put-straight-spec =

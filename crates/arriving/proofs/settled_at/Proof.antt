@@ -5,6 +5,7 @@ use Rattle.bucket.specs.declared.Bucket.{Bucket}
 use Rattle.settle.specs.Settle.{SoundBucket, thresholdOf, settle}
 use Rattle.settle.specs.Outgoing.{settledOf}
 use borrow.Author.Needs.{needs}
+use Rattle.concrete.specs.Calls.{rows, solutions}
 use Rattle.arriving.proofs.settled_at.Statement.{statement}
 use Rattle.arriving.proofs.settled_at.Tie as tie
 
@@ -12,7 +13,7 @@ bucket-at-requires : tie.Need-bucket-at-requires
 bucket-at-requires c κs = search needs
 
 settle-requires : tie.Need-settle-requires
-settle-requires c κs = subst⁻¹ (SoundBucket 64 8) (c .bucket-at .ensures) (c .before .before .pre .1)
+settle-requires c κs = subst⁻¹ (SoundBucket rows solutions) (c .bucket-at .ensures) (c .before .before .pre .1)
 
 returns : tie.Need-returns
 returns c =
