@@ -1,5 +1,6 @@
 // The library for C and Rust: one entry for each call, over table and plane. Each returns the number of the answer (0: accepted) and puts
-// the number that goes with it into `value`; include/limgoshi.h declares them. No entry has a `requires`.
+// the number that goes with it into `value`; include/limgoshi.h declares them. No entry has a `requires`; each contract says what every buffer
+// that is handed in holds afterwards.
 // Cites answer, table_open, table, adding, plane and writing. Programs in other languages call it.
 ghost use mathlib.Core.Path.{_≡_};
 ghost use Rattle.answer.specs.Numbers.{numberOf, valueOf};
