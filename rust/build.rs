@@ -4,7 +4,7 @@ fn main() {
     if std::env::var_os("CARGO_FEATURE_LINKED").is_some() {
         let root = std::env::var("CARGO_MANIFEST_DIR").unwrap();
         println!("cargo:rustc-link-search=native={root}/../target/staticlib");
-        for name in ["probe", "limgoshi"] {
+        for name in ["run_probe", "limgoshi"] {
             println!("cargo:rustc-link-lib=static={name}");
             println!("cargo:rerun-if-changed={root}/../target/staticlib/lib{name}.a");
         }

@@ -1,7 +1,7 @@
 // A bucket as its words in a part of a table: columns, mark, solutions, bound, as load and store find and leave them there.
 // Definitions: specs/Words.antt, at every number of rows and of solution words. Laws: proofs/Words.antt (there and back) and
 // proofs/Parts.antt (what each of store's writes leaves).
-// Cites bucket, gf2 and lists; concrete, layout and what works on tables build on it.
+// Cites bucket, gf2 and lists; table, table_layout and what works on tables build on it.
 use bucket::Bucket;
 ghost use mathlib.Core.Path.{_≡_};
 ghost use lib.ListN.{length};

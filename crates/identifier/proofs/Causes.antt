@@ -14,7 +14,7 @@ use Rattle.answer.specs.Causes.{Cause}
 use Rattle.answer.proofs.Causes.{One, Given}
 use Rattle.answer.specs.declared.Answer.{Answer}
 use Rattle.answer.specs.declared.Answer.the-variants.{WrongLength, WrongByte}
-use Rattle.identifier.specs.Identifier.{sized, allowed, wordOf, firstRefused, readOf}
+use Rattle.identifier.specs.Identifier.{mostBytes, sized, allowed, wordOf, firstRefused, readOf}
 use Rattle.identifier.specs.Causes.{wrongLength, AllowedTo, wrongByte}
 use Rattle.identifier.specs.declared.Read.{Read}
 use Rattle.identifier.specs.declared.Read.the-variants.{Word, Refused}
@@ -108,12 +108,12 @@ module _ (s : List ℕ) where
 -- ---- as the first causes of a call
 
 -- "of 0 or over 20 bytes"
-pub unsized-exactly : (n : ℕ) → (sized n ≡ false) ↔ ((n ≡ 0) ⊎ (20 < n))
-unsized-exactly n = (λ e. by-test (leb 1 n) (λ l. inr (leb-false n 20 (rw l at e))) (λ l. inl (let h = leb-false 1 n l in omega arith)), back)
+pub unsized-exactly : (n : ℕ) → (sized n ≡ false) ↔ ((n ≡ 0) ⊎ (mostBytes < n))
+unsized-exactly n = (λ e. by-test (leb 1 n) (λ l. inr (leb-false n mostBytes (rw l at e))) (λ l. inl (let h = leb-false 1 n l in omega arith)), back)
   where
-    back : (n ≡ 0) ⊎ (20 < n) → sized n ≡ false
+    back : (n ≡ 0) ⊎ (mostBytes < n) → sized n ≡ false
     back (inl z) = rw z
-    back (inr l) = let h : 1 ≤ n = omega arith in rw (le-leb 1 n h, lt-leb n 20 l)
+    back (inr l) = let h : 1 ≤ n = omega arith in rw (le-leb 1 n h, lt-leb n mostBytes l)
 
 -- two first bytes not allowed are one
 pub one-byte : (s : List ℕ) → One (wrongByte s .met)

@@ -7,11 +7,11 @@ use mathlib.Core.Bool.{true, false}
 use mathlib.Core.List.{List}
 use lib.ListN.{length, getD}
 use Rattle.answer.specs.Causes.{Cause, causeIf}
-use Rattle.identifier.specs.Identifier.{allowed}
+use Rattle.identifier.specs.Identifier.{allowed, mostBytes}
 
 -- "identifier of 0 or over 20 bytes"; its length
 abbrev pub wrongLength : List ℕ → Cause
-wrongLength s = causeIf 1 ((length s ≡ 0) ⊎ (20 < length s)) (length s)
+wrongLength s = causeIf 1 ((length s ≡ 0) ⊎ (mostBytes < length s)) (length s)
 
 -- the bytes before index i are allowed
 abbrev pub AllowedTo : List ℕ → ℕ → Type 0

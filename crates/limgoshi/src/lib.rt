@@ -1,13 +1,13 @@
 // The library for C and Rust: one entry for each call, over table and plane. Each returns the number of the answer (0: accepted) and puts
 // the number that goes with it into `value`; include/limgoshi.h declares them. No entry has a `requires`; each contract says what every buffer
 // that is handed in holds afterwards.
-// Cites answer, table_open, table, adding, plane and writing. Programs in other languages call it.
+// Cites answer, table_open, table_calls, table_add, plane and plane_write. Programs in other languages call it.
 ghost use mathlib.Core.Path.{_≡_};
 ghost use Rattle.answer.specs.Numbers.{numberOf, valueOf};
 ghost use Rattle.model.specs.Model.{add, change, withdraw, query};
-ghost use Rattle.concrete.specs.Calls.{openCall, call};
+ghost use Rattle.table.specs.Calls.{openCall, call};
 ghost use Rattle.plane.specs.Lookup.{lookupCall};
-ghost use Rattle.writing.specs.Write.{writeCall};
+ghost use Rattle.plane_write.specs.Write.{writeCall};
 
 // Opens an empty table with b1 and b2 buckets.
 #[no_mangle]
@@ -24,7 +24,7 @@ pub extern "C" fn limgoshi_open(t: &mut [u64], b1: u64, b2: u64, value: &mut u64
 pub extern "C" fn limgoshi_add(t: &mut [u64], id: &[u8], plan: u8, value: &mut u64) -> u64
     ensures { λ r. ⌜ (r ≡ numberOf (call (now (t .entry)) (add (now (id .entry)) plan) .answer)) × (now (value .exit) ≡ valueOf (call (now (t .entry)) (add (now (id .entry)) plan) .answer)) × (now (t .exit) ≡ call (now (t .entry)) (add (now (id .entry)) plan) .table) × (now (id .exit) ≡ now (id .entry)) ⌝ }
 {
-    let added = adding::add(t, id, plan);
+    let added = table_add::add(t, id, plan);
     *value = answer::value(added);
     answer::number(added)
 }
@@ -34,7 +34,7 @@ pub extern "C" fn limgoshi_add(t: &mut [u64], id: &[u8], plan: u8, value: &mut u
 pub extern "C" fn limgoshi_query(t: &[u64], id: &[u8], value: &mut u64) -> u64
     ensures { λ r. ⌜ (r ≡ numberOf (call (now (t .entry)) (query (now (id .entry))) .answer)) × (now (value .exit) ≡ valueOf (call (now (t .entry)) (query (now (id .entry))) .answer)) × (now (t .exit) ≡ call (now (t .entry)) (query (now (id .entry))) .table) × (now (id .exit) ≡ now (id .entry)) ⌝ }
 {
-    let found = table::query(t, id);
+    let found = table_calls::query(t, id);
     *value = answer::value(found);
     answer::number(found)
 }
@@ -44,7 +44,7 @@ pub extern "C" fn limgoshi_query(t: &[u64], id: &[u8], value: &mut u64) -> u64
 pub extern "C" fn limgoshi_change(t: &mut [u64], id: &[u8], plan: u8, value: &mut u64) -> u64
     ensures { λ r. ⌜ (r ≡ numberOf (call (now (t .entry)) (change (now (id .entry)) plan) .answer)) × (now (value .exit) ≡ valueOf (call (now (t .entry)) (change (now (id .entry)) plan) .answer)) × (now (t .exit) ≡ call (now (t .entry)) (change (now (id .entry)) plan) .table) × (now (id .exit) ≡ now (id .entry)) ⌝ }
 {
-    let changed = table::change(t, id, plan);
+    let changed = table_calls::change(t, id, plan);
     *value = answer::value(changed);
     answer::number(changed)
 }
@@ -54,7 +54,7 @@ pub extern "C" fn limgoshi_change(t: &mut [u64], id: &[u8], plan: u8, value: &mu
 pub extern "C" fn limgoshi_withdraw(t: &mut [u64], id: &[u8], value: &mut u64) -> u64
     ensures { λ r. ⌜ (r ≡ numberOf (call (now (t .entry)) (withdraw (now (id .entry))) .answer)) × (now (value .exit) ≡ valueOf (call (now (t .entry)) (withdraw (now (id .entry))) .answer)) × (now (t .exit) ≡ call (now (t .entry)) (withdraw (now (id .entry))) .table) × (now (id .exit) ≡ now (id .entry)) ⌝ }
 {
-    let withdrawn = table::withdraw(t, id);
+    let withdrawn = table_calls::withdraw(t, id);
     *value = answer::value(withdrawn);
     answer::number(withdrawn)
 }
@@ -64,7 +64,7 @@ pub extern "C" fn limgoshi_withdraw(t: &mut [u64], id: &[u8], value: &mut u64) -
 pub extern "C" fn limgoshi_write_plane(t: &[u64], out: &mut [u8], value: &mut u64) -> u64
     ensures { λ r. ⌜ (r ≡ numberOf (writeCall (now (t .entry)) (now (out .entry)) .answer)) × (now (value .exit) ≡ valueOf (writeCall (now (t .entry)) (now (out .entry)) .answer)) × (now (out .exit) ≡ writeCall (now (t .entry)) (now (out .entry)) .output) × (now (t .exit) ≡ now (t .entry)) ⌝ }
 {
-    let written = writing::write(t, out);
+    let written = plane_write::write(t, out);
     *value = answer::value(written);
     answer::number(written)
 }

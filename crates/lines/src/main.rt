@@ -1,7 +1,7 @@
 // The line program: it reads the first 64 KiB of standard input and writes what session's `run` prints for them to standard output, and
 // nothing else. A read that fails ends it before anything is written; a write that fails ends it after a first part of the output. Either
 // writes a line to standard error, which is empty where both went well.
-// stdin and stdout are document 01's session; `runs/` at the root has the edges. Cites session. Nothing cites it.
+// stdin and stdout are document 01's lines_run; `runs/` at the root has the run_edges. Cites lines_run. Nothing cites it.
 use libc::STDERR_FILENO;
 use libc::STDIN_FILENO;
 use libc::STDOUT_FILENO;
@@ -36,23 +36,23 @@ fn read_input(buffer: &mut [u8]) -> Input
 }
 
 // Zeros for the bytes of the input that count.
-fn input_buffer() -> [u8; session::INPUT_LIMIT]
-    ensures { λ r. do ⌜ (← ⟦session::INPUT_LIMIT⟧ .entry) ≡ length r ⌝ }
+fn input_buffer() -> [u8; lines_run::INPUT_LIMIT]
+    ensures { λ r. do ⌜ (← ⟦lines_run::INPUT_LIMIT⟧ .entry) ≡ length r ⌝ }
 {
-    [0; session::INPUT_LIMIT]
+    [0; lines_run::INPUT_LIMIT]
 }
 
 // Zeros for the longest output.
-fn output_buffer() -> [u8; session::MOST_OUTPUT]
-    ensures { λ r. do ⌜ (← ⟦session::MOST_OUTPUT⟧ .entry) ≡ length r ⌝ }
+fn output_buffer() -> [u8; lines_run::MOST_OUTPUT]
+    ensures { λ r. do ⌜ (← ⟦lines_run::MOST_OUTPUT⟧ .entry) ≡ length r ⌝ }
 {
-    [0; session::MOST_OUTPUT]
+    [0; lines_run::MOST_OUTPUT]
 }
 
 // Writes what is printed for the input.
 fn write_output(input: &[u8]) {
     let mut out = output_buffer();
-    let n = session::run(input, &mut out);
+    let n = lines_run::run(input, &mut out);
     if !io::write_all(STDOUT_FILENO, &out[..n]) {
         io::write_all(
             STDERR_FILENO,

@@ -17,7 +17,7 @@ use Rattle.codec.proofs.Equal.{equal-eq}
 use Rattle.codec.proofs.Round.{Bytes, to-from, fromBytes-lt}
 use Rattle.bucket.specs.Bucket.{largestBound}
 use Rattle.model.specs.Model.{baseLimit}
-use Rattle.concrete.specs.Layout.{inRange}
+use Rattle.table.specs.Layout.{inRange}
 use Rattle.plane.specs.declared.Wrong.the-variants.{Nowhere}
 use Rattle.plane.specs.Record.{Format, bucketBytes, entryBytes, endLength, Kind, sizeOf, recordOf, bucketRecords, entryRecords, bytesOf, readAll, wordBytes, wordFrom, headerKind, headerBody, headerRecord, bucketBody, bucketRecord, bucketFrom, entryBody, entryRecord, entryFrom, endKind, endBody, endBytes, endRecord, bucketLength, entryLength}
 use Rattle.plane.specs.Plane.{endFits, fits, wrongIn, allAllowed, boundAllowed, entryAllowed, exceeding, buckets1, buckets2, bucketCount, baseCount, planeBytes, planeFrom, bucketsAt, whole, bucketsWrong, entriesWrong, wrongAt}

@@ -12,7 +12,7 @@ use Rattle.lists.specs.Entries.{Entry}
 use Rattle.codec.specs.Bytes.{toBytes}
 use Rattle.bucket.specs.Bucket.{largestBound}
 use Rattle.model.specs.Model.{baseLimit}
-use Rattle.concrete.specs.Layout.{mostBuckets1, mostBuckets2}
+use Rattle.table.specs.Layout.{mostBuckets1, mostBuckets2}
 use Rattle.plane.specs.Record.{Format, bytesOf, wordBytes, PlaneBucket, bucketRecord, entryKind, entryBytes, entryRecord, headerRecord, endRecord}
 use Rattle.plane.specs.Plane.{Plane, planeBytes}
 use Rattle.plane.specs.Fits.{Every, FitsBucket, FitsEntry, Fits}

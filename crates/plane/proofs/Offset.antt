@@ -14,7 +14,7 @@ use lib.ListN.{length, getD, drop, length-drop}
 use lib.Seq.{getD-drop, drop-drop}
 use Rattle.lists.specs.Lists.{countFrom}
 use Rattle.lists.proofs.Tests.{cases}
-use Rattle.concrete.proofs.Causes.{and-fails}
+use Rattle.table.proofs.Causes.{and-fails}
 use Rattle.plane.specs.declared.Wrong.{Wrong}
 use Rattle.plane.specs.declared.Wrong.the-variants.{Nowhere, At}
 use Rattle.plane.specs.Record.{Format, Kind, sizeOf, bucketRecords, entryKind, entryBody, entryRecords, endKind, endBody, endLength}

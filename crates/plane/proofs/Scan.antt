@@ -13,7 +13,7 @@ use lib.ListN.{length, getD, drop, length-drop}
 use lib.Seq.{drop-drop}
 use Rattle.lists.proofs.Tests.{true→T, cases}
 use Rattle.model.specs.Model.{baseLimit}
-use Rattle.concrete.specs.Layout.{inRange, mostBuckets1, mostBuckets2}
+use Rattle.table.specs.Layout.{inRange, mostBuckets1, mostBuckets2}
 use Rattle.plane.specs.declared.Wrong.{Wrong}
 use Rattle.plane.specs.declared.Wrong.the-variants.{Nowhere, At}
 use Rattle.plane.specs.Record.{Format, Kind, sizeOf, bucketRecords, entryRecords, headerKind, headerBody, entryKind, entryBody, entryFrom, bucketLength, entryLength, endLength}

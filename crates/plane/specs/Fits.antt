@@ -8,7 +8,7 @@ use lib.ListN.{length}
 use Rattle.lists.specs.Entries.{Entry, Ascending}
 use Rattle.bucket.specs.Bucket.{largestBound}
 use Rattle.model.specs.Model.{baseLimit}
-use Rattle.concrete.specs.Layout.{inRange}
+use Rattle.table.specs.Layout.{inRange}
 use Rattle.plane.specs.Record.{Format, wordBytes, PlaneBucket}
 use Rattle.plane.specs.Plane.{Plane, planeBytes}
 

@@ -13,7 +13,7 @@ use Rattle.lists.specs.Lists.{countFrom}
 use Rattle.codec.specs.Bytes.{eqList}
 use Rattle.bucket.specs.Bucket.{largestBound}
 use Rattle.model.specs.Model.{baseLimit}
-use Rattle.concrete.specs.Layout.{inRange}
+use Rattle.table.specs.Layout.{inRange}
 use Rattle.plane.specs.Record.{Format, headerKind, headerBody, bucketBody, bucketLength, bucketFrom, entryKind, entryBody, entryLength, entryFrom, endKind, endBody, endBytes}
 use Rattle.plane.specs.Plane.{buckets1, buckets2, bucketCount, baseCount, bucketsAt, entriesAt, endAt, planeLength}
 

@@ -10,7 +10,7 @@ use Rattle.codec.specs.Bytes.{eqList}
 use Rattle.lists.specs.Entries.{Entry}
 use Rattle.bucket.specs.Bucket.{largestBound}
 use Rattle.model.specs.Model.{baseLimit}
-use Rattle.concrete.specs.Layout.{inRange}
+use Rattle.table.specs.Layout.{inRange}
 use Rattle.plane.specs.declared.Wrong.{Wrong}
 use Rattle.plane.specs.declared.Wrong.the-variants.{Nowhere, At}
 use Rattle.plane.specs.Record.{Format, Kind, sizeOf, PlaneBucket, bucketRecords, entryRecords, bytesOf, readAll, headerKind, headerBody, headerRecord, bucketRecord, bucketFrom, entryRecord, entryFrom, endKind, endBody, endBytes, endRecord, bucketLength, entryLength, endLength}

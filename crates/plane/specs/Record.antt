@@ -5,7 +5,7 @@ use mathlib.Core.List.{List, [], _∷_, _++_}
 use lib.ListN.{getD, take, drop}
 use Rattle.codec.specs.Bytes.{fromBytes, toBytes}
 use Rattle.lists.specs.Entries.{Entry}
-use Rattle.concrete.specs.Calls.{solutions}
+use Rattle.table.specs.Calls.{solutions}
 
 -- the bytes of things, one after the other
 unfoldable pub bytesOf : {A : Type 0} → (A → List ℕ) → List A → List ℕ

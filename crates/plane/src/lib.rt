@@ -3,23 +3,23 @@
 // bytes say), specs/Lookup.antt (the call), specs/Fits.antt (its limits), specs/Offset.antt (the offset of what is wrong, without the
 // scan), specs/Causes.antt. Laws: proofs/Scan.antt (a scan of records of any kind), proofs/Round.antt and proofs/Exact.antt (just the
 // planes within the limits have bytes that are wrong nowhere), proofs/Offset.antt, proofs/Causes.antt; the statements stand with the writer.
-// Cites codec, identifier, bucket, concrete and layout (the numbers of buckets). The writer and the library for C cite it.
+// Cites codec, identifier, bucket, table and table_layout (the numbers of buckets). The writer and the library for C cite it.
 use answer::Answer;
 use bucket::Bucket;
 use identifier::Identifier;
 use identifier::Read;
-use layout::Table;
+use table_layout::Table;
 ghost use mathlib.Core.Path.{_≡_};
 ghost use Prim.Native.Nat.{suc, _+_, _*_, _≤_, _<_};
 ghost use lib.ListN.{length, getD, drop};
 ghost use Rattle.lists.specs.Entries.{find};
 ghost use Rattle.gf2.specs.Vectors.{product};
 ghost use Rattle.model.specs.Model.{baseLimit};
-ghost use Rattle.concrete.specs.Layout.{mostBuckets1, mostBuckets2};
+ghost use Rattle.table.specs.Layout.{mostBuckets1, mostBuckets2};
 ghost use Rattle.plane.specs.declared.Wrong.the-variants.{Nowhere};
 ghost use Rattle.plane.specs.Record.{format1, readAll, bucketLength, entryLength, bucketFrom, entryFrom};
 ghost use Rattle.plane.specs.Plane.{bucketsAt, whole, headerFits, bucketFits, bucketsWrong, entriesWrong, endFits, endWrong, recordsWrong, wrongAt, planeFrom};
-ghost use Rattle.concrete.specs.Calls.{solutions};
+ghost use Rattle.table.specs.Calls.{solutions};
 ghost use Rattle.plane.specs.Lookup.{orStranger, levelPlan, secondPlan, planFrom, looked, lookupCall};
 
 // Where a plane is wrong first.
@@ -124,7 +124,7 @@ pub(crate) fn header_fits(p: &[u8]) -> bool
     if p[Record::FORMAT_AT] != Record::FORMAT {
         return false;
     }
-    if !layout::in_range(wide(p[Record::BUCKETS_1_AT]), wide(p[Record::BUCKETS_2_AT])) {
+    if !table_layout::in_range(wide(p[Record::BUCKETS_1_AT]), wide(p[Record::BUCKETS_2_AT])) {
         return false;
     }
     wide(p[Record::BASE_COUNT_AT]) <= Table::BASE_ENTRIES

@@ -1,158 +1,221 @@
--- The calls: what each does where its word is live or not, and where a cause before that is met.
+-- The numbers of document 01's table stand for a state of the model: opening does, and each call keeps that and gives the model's answer.
 -- Assumes nothing.
-use Prim.Native.Nat.{ℕ, _-_, _^_, _≤_, _<_}
-use native.Mathlib.Nat.{sub-zero}
+use Prim.Native.Nat.{ℕ, _^_, _≤_, _<_}
 use native.Mathlib.Omega.{arith}
-use mathlib.Core.Path.{_≡_, refl, sym, ap, _∙_}
-use mathlib.Core.Bool.{true, false}
-use mathlib.Core.List.{List, []}
+use mathlib.Core.Path.{_≡_, refl, sym, ap, ap₂, _∙_, subst, subst⁻¹}
+use mathlib.Core.Bool.{Bool, true, false, cond, _&&_}
+use mathlib.Core.Logic.{_↔_}
 use mathlib.Core.Option.{Option, none, some}
-use lib.ListN.{length, getD, set}
-use Rattle.lists.proofs.Tests.{cases, cond-true, cond-false}
-use Rattle.lists.proofs.Entries.{remove-length}
-use Rattle.hash.specs.Mix.{mixOf}
-use Rattle.answer.specs.declared.Answer.{Answer}
-use Rattle.answer.specs.declared.Answer.the-variants.{Accepted, WrongTable, NotSound, NotLive}
-use Rattle.identifier.specs.Identifier.{readOf}
+use mathlib.Core.List.{List, List·Permᴰ}
+use lib.Dec.{ltb, leb}
+use lib.ListN.{length, getD}
+use borrow.Author.Tests.{eqb-true, eq-eqb, leb-true, le-leb, ltb-false}
+use Rattle.lists.specs.Entries.{Entry, find, update, remove}
+use Rattle.lists.proofs.Tests.{cond-true, and-one, and-two, and-both}
+use Rattle.hash.specs.Mix.{mixOf, unmixOf}
+use Rattle.hash.proofs.Inverse.{mix-lt, unmix-lt, unmix-mix, mix-unmix}
+use Rattle.answer.specs.declared.Answer.the-variants.{Accepted, Full}
 use Rattle.identifier.specs.declared.Read.{Read}
 use Rattle.identifier.specs.declared.Read.the-variants.{Word, Refused}
-use Rattle.model.specs.Model.{Call, add, change, withdraw, query}
-use Rattle.model.specs.Request.{Token, wordFor, askOf}
-use Rattle.concrete.specs.Table.{Table, withCount}
-use Rattle.concrete.specs.Layout.{liveCountAt, numbersOf, tableFrom}
-use Rattle.concrete.specs.Calls.{rows, solutions, tableOf, planIn, shaped, sound, Outcome, turnedDown, queried, replaced, served, callRead, call}
-use Rattle.concrete.specs.History.{flatState}
-use Rattle.concrete.proofs.Numbers.{write-count}
-use Rattle.concrete.proofs.Touch.{touch-keeps}
-use Rattle.concrete.proofs.Calls.{stands-look, sound-stands-flat, sound-exactly}
-use Rattle.base.specs.declared.Found.{Found}
-use Rattle.base.specs.declared.Found.the-variants.{Plan, Nothing}
-use Rattle.base.specs.Base.{foundOf}
-use Rattle.table.specs.declared.Edit.{Edit}
-use Rattle.table.specs.declared.Edit.the-variants.{Change, Withdraw}
-use Rattle.table.specs.Ready.{Ready, admitted}
-use Rattle.table.specs.Edit.{onBucket, onBase, touched, leaving, asked}
+use Rattle.bucket.specs.declared.Bucket.{Bucket}
+use Rattle.model.specs.Levels.{firstLevel, secondLevel}
+use Rattle.model.specs.Model as M
+use Rattle.model.specs.Model.{baseLimit, Size, State, Call, add, change, withdraw, query, opened, withLive, wouldLeave, base, stepAdd, stepLive, step}
+use Rattle.model.specs.Request.{Token, wordFor, askOf, serveRead, serve, Request, ask, respond}
+use Rattle.model.proofs.Requests.{word-small}
+use Rattle.table.specs.Table as T
+use Rattle.table.specs.Table.{Table}
+use Rattle.table.specs.Layout.{leading, buckets1At, buckets2At, mostBuckets1, inRange, numbersOf, unusedIn, lengthOf}
+use Rattle.table.specs.Content.{entriesOf}
+use Rattle.table.specs.Sound.{SoundLevel, SoundTable}
+use Rattle.table.specs.Test.{shapeTest}
+use Rattle.table.specs.Calls.{rows, solutions, tableOf, planIn, shaped, sound, FlatSound, Outcome, turnedDown, joined, replaced, queried, served, callRead, call}
+use Rattle.table.specs.History.{PlanFits, PlansFit, request, flatState}
+use Rattle.table.proofs.Numbers.{AllShaped, ShapedTable, Laid, header-read, back, laid}
+use Rattle.table.proofs.Stand.{Stands, open-stands, look, change-stands, withdraw-stands, based-length, add-stands}
+use Rattle.table.proofs.Content.{table-entries, table-live}
+use Rattle.table.proofs.Sound.{one-to-one, sound-stands, stands-sound}
+use Rattle.table.proofs.Test.{test-sound, sound-test}
 
--- ---- a word that is live, or not
+-- ---- the mix on 64 bits
 
-found-some : (o : Option ℕ) (p : ℕ) → foundOf o ≡ Plan p → o ≡ some p
-found-some (some q) p e = cc
-found-some none p e = absurd (let z : _≡_ {A = ℕ} 0 1 = cc in omega arith)
+keeps : (x : ℕ) → x < 2 ^ rows → mixOf x < 2 ^ rows
+keeps x l = mix-lt x
 
-found-none : (o : Option ℕ) → foundOf o ≡ Nothing → o ≡ none
-found-none (some q) e = absurd (let z : _≡_ {A = ℕ} 0 1 = cc in omega arith)
-found-none none e = refl
+keepsU : (x : ℕ) → x < 2 ^ rows → unmixOf x < 2 ^ rows
+keepsU x l = unmix-lt x
 
--- the table after an edit, with the live count
-abbrev edited : Edit → ℕ → Table → Table
-edited d w T = withCount (touched d w T) (T .count - leaving d)
+one : (u v : ℕ) → u < 2 ^ rows → v < 2 ^ rows → mixOf u ≡ mixOf v → u ≡ v
+one = one-to-one rows solutions mixOf unmixOf keeps keepsU unmix-mix mix-unmix
 
-edit-served : (t : List ℕ) (w : ℕ) (i : Token) (d : Edit) → served t w (asked d i) ≡ replaced t (edited d w (tableOf t)) (planIn t w)
-unfolding served
-edit-served t w i (Change q) =
-    let d : Edit = Change q in
-    ap (λ (c : ℕ). replaced t (withCount (touched d w (tableOf t)) c) (planIn t w)) (touch-keeps rows solutions mixOf (tableOf t) w (onBucket d) (onBase d) ∙ sym (sub-zero (tableOf t .count)))
-edit-served t w i Withdraw = refl
+-- ---- sound tables have the layout
 
-leaving-le : (d : Edit) → leaving d ≤ 1
-leaving-le (Change q) = omega arith
-leaving-le Withdraw = omega arith
+level-shaped : (bs : List Bucket) → SoundLevel rows solutions mixOf bs → AllShaped rows solutions bs
+level-shaped bs h i l = let b = h .buckets i l in record { cols = b .sound .inverse .cols; sols = b .wide }
 
-module _ (t : List ℕ) (w : ℕ) (i : Token) (f : Found) (e : f ≡ foundOf (planIn t w)) where
-  module _ (p : ℕ) (l : f ≡ Plan p) where
-    pub live : planIn t w ≡ some p
-    live = found-some (planIn t w) p (sym e ∙ l)
+pub sound-shaped : (T : Table) → SoundTable rows solutions mixOf unmixOf T → ShapedTable rows solutions T
+sound-shaped T h = record { first = level-shaped (T .level1) (h .level1); second = level-shaped (T .level2) (h .level2); fits = h .fits }
 
-    pub query-live : served t w (query i) ≡ record { answer = Accepted p; table = t }
+-- ---- numbers that stand for a state
+
+pub record FlatStands (t : List ℕ) (s : State) : Type 0 where
+  pub shape : shaped t ≡ true
+  pub unused : (i : ℕ) → getD (unusedIn rows solutions t) i 0 ≡ 0
+  pub stands : Stands rows solutions mixOf (tableOf t) s
+
+-- an answer and numbers that go with the model's answer and state
+pub record Match (o : Outcome) (m : M.Outcome) : Type 0 where
+  pub says : o .answer ≡ m .answer
+  pub stands : FlatStands (o .table) (m .after)
+
+match-test : (b : Bool) {o p : Outcome} {m q : M.Outcome} → (b ≡ true → Match o m) → (b ≡ false → Match p q) → Match (cond b o p) (cond b m q)
+match-test true f g = f refl
+match-test false f g = g refl
+
+shape-range : (t : List ℕ) → shaped t ≡ true → inRange (getD t buckets1At 0) (getD t buckets2At 0) ≡ true
+unfolding shapeTest
+shape-range t h = and-one (inRange (getD t buckets1At 0) (getD t buckets2At 0)) _ (and-two (leb leading (length t)) _ h)
+
+shape-size : (t : List ℕ) → shaped t ≡ true → length t ≡ lengthOf rows solutions (getD t buckets1At 0) (getD t buckets2At 0)
+unfolding shapeTest
+shape-size t h = eqb-true _ _ (and-two (inRange (getD t buckets1At 0) (getD t buckets2At 0)) _ (and-two (leb leading (length t)) _ h))
+
+size-shape : (t : List ℕ) → inRange (getD t buckets1At 0) (getD t buckets2At 0) ≡ true → length t ≡ lengthOf rows solutions (getD t buckets1At 0) (getD t buckets2At 0) → shaped t ≡ true
+unfolding shapeTest
+size-shape t h e = and-both (le-leb leading (length t) (omega (arith, e))) (and-both h (eq-eqb _ _ e))
+
+-- a table that stands for a state with bucket numbers in range, as numbers
+pub numbers-stand : (T : Table) (s : State) → Stands rows solutions mixOf T s → inRange (s .size .buckets1) (s .size .buckets2) ≡ true → FlatStands (numbersOf T) s
+unfolding numbersOf
+numbers-stand T s st h =
+    let g = sound-shaped T (stands-sound rows solutions mixOf unmixOf keeps keepsU unmix-mix mix-unmix refl T s st) in
+    let k = laid rows solutions T g in
+    record {
+      shape = size-shape (numbersOf T) (ap₂ inRange (st .level1 .count) (st .level2 .count) ∙ h) (k .size);
+      unused = k .unused;
+      stands = subst⁻¹ (λ (U : Table). Stands rows solutions mixOf U s) (back rows solutions T g) st;
+    }
+
+module _ (t : List ℕ) (s : State) (h : FlatStands t s) where
+  abbrev T₀ : Table
+  T₀ = tableOf t
+
+  range : inRange (s .size .buckets1) (s .size .buckets2) ≡ true
+  range =
+      let k = header-read rows solutions t in
+      ap₂ inRange (sym (h .stands .level1 .count) ∙ k .0) (sym (h .stands .level2 .count) ∙ k .1) ∙ shape-range t (h .shape)
+
+  pub stands-flat : FlatSound t
+  stands-flat = record { table = stands-sound rows solutions mixOf unmixOf keeps keepsU unmix-mix mix-unmix refl T₀ s (h .stands); unused = h .unused }
+
+  pub stands-test : sound t ≡ true
+  stands-test = sound-test rows solutions mixOf unmixOf t stands-flat
+
+  -- the state is the one that the table shows
+  pub stands-shows : flatState t ≡ s
+  stands-shows = λ i. record {
+    size = record { buckets1 = h .stands .level1 .count i; buckets2 = h .stands .level2 .count i };
+    live = table-live rows solutions mixOf unmixOf keeps unmix-mix T₀ s (h .stands) i;
+    bounds1 = h .stands .bounds1 i;
+    bounds2 = h .stands .bounds2 i;
+  }
+
+  pub stands-look : (w : ℕ) → w < 2 ^ rows → planIn t w ≡ find w (s .live)
+  stands-look w l = look rows solutions mixOf keeps one T₀ s (h .stands) w l
+
+  -- its occupied rows and base entries are the live words
+  pub stands-entries : List·Permᴰ (entriesOf rows unmixOf T₀) (s .live)
+  stands-entries = table-entries rows solutions mixOf unmixOf keeps unmix-mix T₀ s (h .stands)
+
+  module _ (w : ℕ) (l : w < 2 ^ rows) where
+    -- the call goes as the model's does, by whether w is live
+    by-plan : (f : Option ℕ → Outcome) (g : Option ℕ → M.Outcome) → ((o : Option ℕ) → find w (s .live) ≡ o → Match (f o) (g o)) → Match (f (planIn t w)) (g (find w (s .live)))
+    by-plan f g k = subst⁻¹ (λ (o : Option ℕ). Match (f o) (g (find w (s .live)))) (stands-look w l) (k (find w (s .live)) refl)
+
+    live-match : (u : Table) (es : List Entry) → ((q : ℕ) → find w (s .live) ≡ some q → Stands rows solutions mixOf u (withLive s es))
+        → Match (replaced t u (planIn t w)) (stepLive s es (find w (s .live)))
+    live-match u es k = by-plan (replaced t u) (stepLive s es) go
+      where
+        go : (o : Option ℕ) → find w (s .live) ≡ o → Match (replaced t u o) (stepLive s es o)
+        go none e = record { says = refl; stands = h }
+        go (some q) e = record { says = refl; stands = numbers-stand u (withLive s es) (k q e) range }
+
+    query-match : Match (queried t (planIn t w)) (step firstLevel secondLevel s (query w))
+    query-match = by-plan (queried t) (stepLive s (s .live)) go
+      where
+        go : (o : Option ℕ) → find w (s .live) ≡ o → Match (queried t o) (stepLive s (s .live) o)
+        go none e = record { says = refl; stands = h }
+        go (some q) e = record { says = refl; stands = h }
+
+    add-match : (p : ℕ) → p < 2 ^ solutions
+        → Match (joined t (T.addedTo rows solutions mixOf T₀ (record { word = w; plan = p })) (planIn t w)) (step firstLevel secondLevel s (add w p))
+    add-match p hp = by-plan (joined t u) (stepAdd firstLevel secondLevel s e) go
+      where
+        e : Entry
+        e = record { word = w; plan = p }
+
+        u : Table
+        u = T.addedTo rows solutions mixOf T₀ (record { word = w; plan = p })
+
+        t′ : State
+        t′ = wouldLeave firstLevel secondLevel s (record { word = w; plan = p })
+
+        go : (o : Option ℕ) → find w (s .live) ≡ o → Match (joined t u o) (stepAdd firstLevel secondLevel s e o)
+        go (some q) f = record { says = refl; stands = h }
+        go none f =
+            subst⁻¹ (λ (k : ℕ). Match (cond (ltb baseLimit k) (turnedDown Full t) (record { answer = Accepted (u .count); table = numbersOf u })) (M.unlessFull firstLevel secondLevel s t′))
+            (based-length rows solutions mixOf keeps one T₀ s (h .stands) e (l, hp) f)
+            (match-test (ltb baseLimit (length (base firstLevel secondLevel t′))) (λ b. record { says = refl; stands = h })
+            (λ b.
+            let k = add-stands rows solutions mixOf keeps one T₀ s (h .stands) e (l, hp) f (ltb-false baseLimit _ b) in
+            record { says = ap Accepted (k .counted); stands = numbers-stand u t′ k range }))
+
+    -- the causes 1, 2, 4 and 5 are not met
+    pub served-match : (c : Call Token) → PlanFits c → Match (served t w c) (step firstLevel secondLevel s (askOf w c))
     unfolding served
-    query-live = ap (queried t) live
+    served-match (add i p) k = add-match p k
+    served-match (change i p) k = live-match (T.changedIn rows solutions mixOf T₀ w p) (update (record { word = w; plan = p }) (s .live)) (λ q f. change-stands rows solutions mixOf keeps one T₀ s (h .stands) w l p q k f)
+    served-match (withdraw i) k = live-match (T.withdrawnFrom rows solutions mixOf T₀ w) (remove w (s .live)) (λ q f. withdraw-stands rows solutions mixOf keeps one T₀ s (h .stands) w l q f)
+    served-match (query i) k = query-match
 
-    pub edit-live : (d : Edit) (ys : List ℕ) → ys ≡ numbersOf (touched d w (tableOf t))
-        → served t w (asked d i) ≡ record { answer = Accepted p; table = set ys liveCountAt (getD t liveCountAt 0 - leaving d) }
-    unfolding tableFrom
-    edit-live d ys y =
-        edit-served t w i d ∙ ap (replaced t (edited d w (tableOf t))) live
-        ∙ ap {B = Outcome} (λ l. record { answer = Accepted p; table = l })
-        (write-count rows solutions (touched d w (tableOf t)) (tableOf t .count - leaving d)
-        ∙ ap (λ (l : List ℕ). set l liveCountAt (tableOf t .count - leaving d)) (sym y))
-
-    -- the live count is not 0
-    pub counted : Ready t → w < 2 ^ rows → (d : Edit) → leaving d ≤ getD t liveCountAt 0
-    unfolding tableFrom
-    counted h b d =
-        let st = sound-stands-flat t (h .shape) (h .sound) in
-        let k = remove-length w p (flatState t .live) (sym (stands-look t (flatState t) st w b) ∙ live) in
-        omega (arith, leaving-le d, st .stands .counted)
-
-  module _ (l : f ≡ Nothing) where
-    pub gone : planIn t w ≡ none
-    gone = found-none (planIn t w) (sym e ∙ l)
-
-    pub query-gone : served t w (query i) ≡ turnedDown NotLive t
-    unfolding served
-    query-gone = ap (queried t) gone
-
-    pub edit-gone : (d : Edit) → served t w (asked d i) ≡ turnedDown NotLive t
-    edit-gone d = edit-served t w i d ∙ ap (replaced t (edited d w (tableOf t))) gone
-
--- ---- the causes before that
-
--- the identifier plays no part once its word is known
-by-word : (t : List ℕ) (w : ℕ) (c : Call Token) → served t w c ≡ served t w (askOf [] c)
-unfolding served
-by-word t w (add i p) = refl
-by-word t w (change i p) = refl
-by-word t w (withdraw i) = refl
-by-word t w (query i) = refl
-
-abbrev after : List ℕ → Call Token → Read → Outcome
-after t c (Refused a) = turnedDown a t
-after t c (Word w) = served t w c
-
-after-admitted : (t : List ℕ) (c : Call Token) (x : Read) → callRead t c x ≡ after t c (admitted t x)
-after-admitted t c (Refused a) = refl
-after-admitted t c (Word w) = cases (shaped t) (λ p. rw p (cases (sound t) (λ q. rw q) (λ q. rw q))) (λ p. rw p)
-
-module _ (t : List ℕ) (c : Call Token) (x : Read) (e : x ≡ admitted t (wordFor c)) where
-  pub call-word : (w : ℕ) → x ≡ Word w → call t c ≡ served t w (askOf [] c)
+  -- each call follows the model
+  pub call-match : (c : Call Token) → PlanFits c → Match (call t c) (serve s c)
   unfolding call
-  call-word w q = after-admitted t c (wordFor c) ∙ ap (after t c) (sym e ∙ q) ∙ by-word t w c
+  call-match c k = go (wordFor c) refl
+    where
+      go : (x : Read) → wordFor c ≡ x → Match (callRead t c x) (serveRead s c x)
+      go (Refused a) e = record { says = refl; stands = h }
+      go (Word w) e =
+          subst⁻¹ (λ (o : Outcome). Match o (step firstLevel secondLevel s (askOf w c))) (cond-true _ _ (h .shape) ∙ cond-true _ _ stands-test)
+          (served-match w (word-small c w e) c k)
 
-  pub call-refused : (a : Answer) → x ≡ Refused a → call t c ≡ turnedDown a t
-  unfolding call
-  call-refused a q = after-admitted t c (wordFor c) ∙ ap (after t c) (sym e ∙ q)
+  -- and so does each request
+  pub request-match : (q : Request) → PlansFit q → Match (request t q) (respond s q)
+  request-match (ask c) k = call-match c k
 
--- the same for an edit
-pub edit-word : (t : List ℕ) (i : Token) (d : Edit) (x : Read) → x ≡ admitted t (readOf i) → (w : ℕ) → x ≡ Word w → call t (asked d i) ≡ served t w (asked d [])
-edit-word t i (Change q) x = call-word t (change i q) x
-edit-word t i Withdraw x = call-word t (withdraw i) x
+-- ---- opening, and sound numbers
 
-pub edit-refused : (t : List ℕ) (i : Token) (d : Edit) (x : Read) → x ≡ admitted t (readOf i) → (a : Answer) → x ≡ Refused a → call t (asked d i) ≡ turnedDown a t
-edit-refused t i (Change q) x = call-refused t (change i q) x
-edit-refused t i Withdraw x = call-refused t (withdraw i) x
+range-some : (b1 b2 : ℕ) → inRange b1 b2 ≡ true → (0 < b1) × (0 < b2)
+range-some b1 b2 h =
+    (leb-true 1 b1 (and-one (leb 1 b1) _ (and-one (leb 1 b1 && leb b1 mostBuckets1) _ h)), leb-true 1 b2 (and-one (leb 1 b2) _ (and-two (leb 1 b1 && leb b1 mostBuckets1) _ h)))
 
-refused≢word : (a : Answer) (w : ℕ) → _≡_ {A = Read} (Refused a) (Word w) → ⊥
-refused≢word a w e = let z : _≡_ {A = ℕ} 0 1 = cc in omega arith
+pub open-stands-flat : (z : Size) → inRange (z .buckets1) (z .buckets2) ≡ true → FlatStands (numbersOf (T.openTable rows solutions (z .buckets1) (z .buckets2))) (opened z)
+open-stands-flat z h =
+    let g = range-some (z .buckets1) (z .buckets2) h in
+    numbers-stand (T.openTable rows solutions (z .buckets1) (z .buckets2)) (opened z) (open-stands rows solutions mixOf z (g .0) (g .1)) h
 
-passed : (t : List ℕ) (x : Read) (w : ℕ) → admitted t x ≡ Word w → (shaped t ≡ true) × (sound t ≡ true)
-passed t (Refused a) w e = absurd (refused≢word a w e)
-passed t (Word v) w e =
-    cases (shaped t)
-    (λ p. cases (sound t) (λ q. (p, q)) (λ q. absurd (refused≢word _ w (sym (cond-true _ _ p ∙ cond-false (Word v) _ q) ∙ e))))
-    (λ p. absurd (refused≢word _ w (sym (cond-false _ _ p) ∙ e)))
+pub sound-stands-flat : (t : List ℕ) → shaped t ≡ true → FlatSound t → FlatStands t (flatState t)
+sound-stands-flat t k h = record { shape = k; unused = h .unused; stands = sound-stands rows solutions mixOf unmixOf keeps keepsU unmix-mix mix-unmix refl (tableOf t) (h .table) }
 
--- a call that is admitted meets a sound table
-pub ready : (t : List ℕ) (x y : Read) (w : ℕ) → x ≡ admitted t y → x ≡ Word w → ((i : ℕ) → getD t i 0 < 2 ^ rows) → Ready t
-ready t x y w e q b = let p = passed t y w (sym e ∙ q) in record { shape = p .0; sound = sound-exactly t (p .0) b .0 (p .1) }
+pub sound-laid : (t : List ℕ) → shaped t ≡ true → FlatSound t → Laid rows solutions t
+sound-laid t k h = record {
+  size = shape-size t k;
+  fits = subst (λ (c : ℕ). c ≤ baseLimit) (header-read rows solutions t .2) (h .table .fits);
+  unused = h .unused;
+}
 
--- ---- the tests of an admission
-
-module _ (t : List ℕ) (w : ℕ) where
-  pub admits : shaped t ≡ true → sound t ≡ true → admitted t (Word w) ≡ Word w
-  admits p q = cond-true _ _ p ∙ cond-true _ _ q
-
-  pub not-sound : shaped t ≡ true → sound t ≡ false → admitted t (Word w) ≡ Refused NotSound
-  not-sound p q = cond-true _ _ p ∙ cond-false _ _ q
-
-  pub not-shaped : shaped t ≡ false → admitted t (Word w) ≡ Refused (WrongTable (length t))
-  not-shaped p = cond-false _ _ p
+-- the test says true exactly of sound tables
+pub sound-exactly : (t : List ℕ) → shaped t ≡ true → ((i : ℕ) → getD t i 0 < 2 ^ rows) → (sound t ≡ true) ↔ FlatSound t
+sound-exactly t k b =
+    let g = range-some (getD t buckets1At 0) (getD t buckets2At 0) (shape-range t k) in
+    (test-sound rows solutions mixOf unmixOf t (shape-size t k) b (g .0) (g .1), sound-test rows solutions mixOf unmixOf t)

@@ -1,4 +1,12 @@
--- The laws of the crate.
-pub mod Touched
-pub mod Places
+pub mod Numbers
+pub mod Level
+pub mod Touch
+pub mod Stand
+pub mod Content
+pub mod Sound
+pub mod Test
 pub mod Calls
+pub mod History
+pub mod Causes
+pub mod AtOnce
+pub mod Statements

@@ -1,3 +1,10 @@
--- The definitions that the contracts of the crate cite.
-pub mod Ready
-pub mod Edit
+-- The definitions of the crate.
+pub mod Table
+pub mod Layout
+pub mod Content
+pub mod AtOnce
+pub mod Sound
+pub mod Test
+pub mod Calls
+pub mod History
+pub mod Causes

@@ -15,10 +15,10 @@ use Rattle.bucket.specs.declared.Bucket.{Bucket}
 use Rattle.bucket.specs.Bucket.{emptyBucket}
 use Rattle.bucket_words.specs.Words.{bucketWords, wordsOf, Shaped}
 use Rattle.bucket_words.proofs.Words.{length-words, empty-shaped}
-use Rattle.concrete.specs.Table.{openTable}
-use Rattle.concrete.specs.Layout.{buckets1At, buckets2At, baseCountAt, liveCountAt, header, baseNumbers, levelNumbers, basePairs, heads, numbersOf, bucketPlace, inRange, lengthOf}
-use Rattle.concrete.specs.Calls.{rows, solutions, turnedDown, openCall}
-use Rattle.concrete.proofs.Numbers.{length-level, length-heads}
+use Rattle.table.specs.Table.{openTable}
+use Rattle.table.specs.Layout.{buckets1At, buckets2At, baseCountAt, liveCountAt, header, baseNumbers, levelNumbers, basePairs, heads, numbersOf, bucketPlace, inRange, lengthOf}
+use Rattle.table.specs.Calls.{rows, solutions, turnedDown, openCall}
+use Rattle.table.proofs.Numbers.{length-level, length-heads}
 
 level-append : (bs cs : List Bucket) → levelNumbers (bs ++ cs) ≡ levelNumbers bs ++ levelNumbers cs
 level-append [] cs = refl

@@ -1,18 +1,18 @@
 // Opening a table of document 01 on a lent slice of any length and contents: an equation with `openCall` of concrete (specs/Calls.antt), the
 // answer, causes 3 and 4, and every number of the table afterwards. proofs/Opened.antt has the numbers of an opened table, part by part.
-// Cites concrete, layout (limits, places), bucket and answer. The library, the line program and probe build on it.
+// Cites table, table_layout (limits, places), bucket and answer. The library, the line program and run_probe build on it.
 use answer::Answer;
 use bucket::Bucket;
-use layout::Table;
+use table_layout::Table;
 ghost use mathlib.Core.Path.{_≡_};
 ghost use mathlib.Core.Bool.{true};
 ghost use mathlib.Core.List.{_++_};
 ghost use Prim.Native.Nat.{_*_, _≤_};
 ghost use lib.ListN.{length, drop, replicate};
 ghost use Rattle.bucket.specs.Bucket.{emptyBucket};
-ghost use Rattle.concrete.specs.Table.{openTable};
-ghost use Rattle.concrete.specs.Layout.{header, levelNumbers, heads, numbersOf, inRange, lengthOf};
-ghost use Rattle.concrete.specs.Calls.{rows, solutions, openCall};
+ghost use Rattle.table.specs.Table.{openTable};
+ghost use Rattle.table.specs.Layout.{header, levelNumbers, heads, numbersOf, inRange, lengthOf};
+ghost use Rattle.table.specs.Calls.{rows, solutions, openCall};
 
 // 0 in each number.
 pub(crate) fn clear(words: &mut [u64])
@@ -60,7 +60,7 @@ pub(crate) fn lay_out(t: &mut [u64], b1: u64, b2: u64)
     put_header(t, b1, b2);
     let count = (b1 + b2) as usize;
     let first = Table::HEADER;
-    let base = layout::bucket_place(count);
+    let base = table_layout::bucket_place(count);
     empty_buckets(&mut t[first..base], count);
     clear(&mut t[base..]);
 }
@@ -69,9 +69,9 @@ pub(crate) fn lay_out(t: &mut [u64], b1: u64, b2: u64)
 pub fn open(t: &mut [u64], b1: u64, b2: u64) -> Answer
     ensures { λ r. ⌜ (r ≡ openCall b1 b2 (now (t .entry)) .answer) × (now (t .exit) ≡ openCall b1 b2 (now (t .entry)) .table) ⌝ }
 {
-    if layout::in_range(b1, b2) {
+    if table_layout::in_range(b1, b2) {
         let size = t.len();
-        if size == layout::length_of(b1, b2) {
+        if size == table_layout::length_of(b1, b2) {
             lay_out(t, b1, b2);
             return Answer::Accepted(0);
         }

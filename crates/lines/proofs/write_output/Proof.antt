@@ -2,7 +2,7 @@
 -- Assumes nothing.
 use mathlib.Core.Path.{sym}
 use lib.Seq.{length-take-le}
-use Rattle.session.proofs.Running.{run-most}
+use Rattle.lines_run.proofs.Running.{run-most}
 use borrow.Author.Needs.{needs}
 use Rattle.lines.proofs.write_output.Statement.{statement}
 use Rattle.lines.proofs.write_output.Tie as tie

@@ -9,7 +9,7 @@ use lib.ListN.{length, drop}
 use Rattle.gf2.specs.Vectors.{product}
 use Rattle.gf2.proofs.Bit.{dot-lt}
 use Rattle.gf2.proofs.Loops.{product-down, product-end, product-part}
-use Rattle.concrete.specs.Calls.{solutions}
+use Rattle.table.specs.Calls.{solutions}
 use Rattle.plane.specs.Record.{format1, wordBytes, wordFrom, bucketFrom}
 use Rattle.plane.proofs.Read.{length-readAll}
 use Rattle.plane.proofs.bucket_plan.Statement.{statement}

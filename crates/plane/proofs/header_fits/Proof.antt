@@ -8,7 +8,7 @@ use borrow.Author.Tests.{eq-eqb, ne-eqb}
 use lib.Dec.{leb}
 use lib.ListN.{length, getD}
 use Rattle.model.specs.Model.{baseLimit}
-use Rattle.concrete.specs.Layout.{inRange}
+use Rattle.table.specs.Layout.{inRange}
 use Rattle.plane.specs.Record.{headerKind, headerBody}
 use Rattle.plane.proofs.Scan.{refused, passed, whole-length}
 use Rattle.plane.proofs.header_fits.Statement.{statement}

@@ -9,8 +9,8 @@ use borrow.Author.Needs.{needs}
 use borrow.Rule.Slice.PartMut.{same-len-mid}
 use Rattle.bucket_words.specs.Words.{bucketWords, wordsOf}
 use Rattle.bucket.specs.Bucket.{emptyBucket}
-use Rattle.concrete.specs.Layout.{levelNumbers}
-use Rattle.concrete.specs.Calls.{rows, solutions}
+use Rattle.table.specs.Layout.{levelNumbers}
+use Rattle.table.specs.Calls.{rows, solutions}
 use Rattle.lists.proofs.Parts.{length-stretch}
 use Rattle.table_open.proofs.Opened.{level-more}
 use Rattle.table_open.proofs.empty_buckets.Statement.{statement}

@@ -2,8 +2,8 @@
 -- Assumes nothing.
 use native.Mathlib.Omega.{arith}
 use borrow.Author.Needs.{needs}
-use Rattle.concrete.specs.Calls.{rows, solutions}
-use Rattle.layout.proofs.Shape.{range}
+use Rattle.table.specs.Calls.{rows, solutions}
+use Rattle.table_layout.proofs.Shape.{range}
 use Rattle.table_open.proofs.Opened.{laid-out}
 use Rattle.table_open.proofs.lay_out.Statement.{statement}
 use Rattle.table_open.proofs.lay_out.Tie as tie

@@ -3,7 +3,7 @@
 use mathlib.Core.Path.{_≡_, refl, sym, _∙_}
 use mathlib.Core.Bool.{true}
 use borrow.Author.Needs.{needs}
-use Rattle.concrete.specs.Layout.{inRange}
+use Rattle.table.specs.Layout.{inRange}
 use Rattle.table_open.proofs.Opened.{out-of-range, wrong-length, accepted}
 use Rattle.table_open.proofs.open.Statement.{statement}
 use Rattle.table_open.proofs.open.Tie as tie

@@ -3,7 +3,7 @@
 use native.Mathlib.Omega.{arith}
 use lib.ListN.{length-set}
 use borrow.Author.Needs.{needs}
-use Rattle.concrete.specs.Calls.{rows, solutions}
+use Rattle.table.specs.Calls.{rows, solutions}
 use Rattle.table_open.proofs.Opened.{header-set}
 use Rattle.table_open.proofs.put_header.Statement.{statement}
 use Rattle.table_open.proofs.put_header.Tie as tie

@@ -1,0 +1,105 @@
+-- `soundRows` is exact both ways, at every width: the rows of a matrix that fits, or none does.
+-- Assumes nothing.
+use mathlib.Core.Path.{_≡_, refl, sym, ap, ap₂, _∙_, subst}
+use mathlib.Core.Logic.{inl, inr}
+use mathlib.Core.Bool.{Bool, true, false}
+use mathlib.Core.List.{List}
+use Prim.Native.Nat.{ℕ, _^_, _≤_, _<_}
+use native.Mathlib.Decide.{ℕ-discrete, decLt}
+use native.Mathlib.Omega.{arith}
+use lib.Pow.{pow-lt}
+use lib.ListN.{length, getD, List·getD-eq-default}
+use lib.Seq.{ext-getD}
+use Rattle.gf2.specs.Vectors.{bit, dot, product, combine, units, Inverse}
+use Rattle.gf2.proofs.Bit.{bit-zero, bit-high, bit-ext, bit-pow-other, dot-pow, dot-zero-r}
+use Rattle.gf2.proofs.Linear.{product-bit, combine-pow}
+use Rattle.gf2.proofs.Inverse.{unique, empty, length-units, getD-units}
+use Rattle.bucket_rows.specs.declared.Rows.{Rows}
+use Rattle.bucket_rows.specs.Exact.{FreeRows, Rowed, FoundFree}
+use Rattle.bucket_rows.specs.Elimination.{placed, answer, eliminated, freeCols, onlyIf, soundRows}
+use Rattle.bucket_rows.proofs.Found.{Found, not-both, decides}
+use Rattle.bucket_rows.proofs.Free.{FreeBits, cols→bits, bits→cols}
+
+-- ---- the bits of the columns, and the rows
+
+swap : (j a : ℕ) → Dec (j ≡ a) → bit j (2 ^ a) ≡ bit a (2 ^ j)
+swap j a (yes e) = ap₂ (λ (x y : ℕ). bit x (2 ^ y)) e (sym e)
+swap j a (no ne) = bit-pow-other j a ne ∙ sym (bit-pow-other a j (λ e. ne (sym e)))
+
+module _ (n mark : ℕ) (cs K : List ℕ) (inv : Inverse n K cs) where
+  -- row j is the unit: the columns show it
+  seen : (j a : ℕ) → bit j (getD cs a 0) ≡ bit a (product cs (2 ^ j))
+  seen j a = sym (dot-pow j (getD cs a 0)) ∙ sym (product-bit cs (2 ^ j) a)
+
+  bits→rows : FreeBits n mark cs → FreeRows n mark K
+  bits→rows f j hj z =
+      sym (combine-pow K j) ∙ ap (combine K) (sym (bit-ext (product cs (2 ^ j)) (2 ^ j) (λ a. go a (decLt a n)))) ∙ inv .back (2 ^ j) (pow-lt hj)
+    where
+      go : (a : ℕ) → Dec (a < n) → bit a (product cs (2 ^ j)) ≡ bit a (2 ^ j)
+      go a (yes h) = sym (seen j a) ∙ f j z a h ∙ swap j a (ℕ-discrete j a)
+      go a (no l) =
+          product-bit cs (2 ^ j) a ∙ ap (dot (2 ^ j)) (List·getD-eq-default cs 0 (subst (λ (l : ℕ). l ≤ a) (sym (inv .cols)) (omega arith))) ∙ dot-zero-r (2 ^ j)
+          ∙ sym (bit-high n a (2 ^ j) (pow-lt hj) (omega arith))
+
+  rows→bits : FreeRows n mark K → FreeBits n mark cs
+  rows→bits free j z k h = go (decLt j n)
+    where
+      go : Dec (j < n) → bit j (getD cs k 0) ≡ bit j (2 ^ k)
+      go (yes l) = seen j k ∙ ap (bit k) (ap (product cs) (sym (free j l z)) ∙ inv .unit j l) ∙ sym (swap j k (ℕ-discrete j k))
+      go (no f) = bit-high n j (getD cs k 0) (inv .cols-lt k) (omega arith) ∙ sym (bit-high n j (2 ^ k) (pow-lt h) (omega arith))
+
+-- ---- THE MEANING of `soundRows`
+
+pub decides-free : (n mark : ℕ) (cs : List ℕ) → length cs ≡ n → ((i : ℕ) → getD cs i 0 < 2 ^ n) → FoundFree n mark cs (soundRows n mark cs)
+unfolding soundRows
+decides-free n mark cs hl hc = go (freeCols 0 mark cs) refl (decides n cs hl hc)
+  where
+    go : (b : Bool) → freeCols 0 mark cs ≡ b → Found n cs (eliminated n cs) → FoundFree n mark cs (onlyIf b (eliminated n cs) cs)
+    go true e (inl t) = inl (t .0, record { inverse = t .1; free = bits→rows n mark cs (eliminated n cs .rows) (t .1) (cols→bits n mark cs hl e) })
+    go true e (inr t) = inr (t .0, λ K r. t .1 K (r .inverse))
+    go false e f = inr (refl, λ K r. not-both (sym (bits→cols n mark cs hl (rows→bits n mark cs K (r .inverse) (r .free))) ∙ e))
+
+-- a matrix that fits is the answer
+pub found-is : (n mark : ℕ) (cs K : List ℕ) → Rowed n mark cs K → soundRows n mark cs ≡ record { ok = true; rows = K }
+found-is n mark cs K w = go (decides-free n mark cs (w .inverse .cols) (w .inverse .cols-lt))
+  where
+    made : Bool → List ℕ → Rows
+    made o l = record { ok = o; rows = l }
+
+    go : FoundFree n mark cs (soundRows n mark cs) → soundRows n mark cs ≡ record { ok = true; rows = K }
+    go (inl t) = ap₂ made (t .0) (unique n (soundRows n mark cs .rows) K cs (t .1 .inverse) (w .inverse))
+    go (inr t) = absurd (t .1 K w)
+
+-- where none fits, the columns stand in the place of the rows
+pub none-is : (n mark : ℕ) (cs : List ℕ) → length cs ≡ n → ((i : ℕ) → getD cs i 0 < 2 ^ n) → ((K : List ℕ) → Rowed n mark cs K → ⊥)
+    → soundRows n mark cs ≡ record { ok = false; rows = cs }
+unfolding soundRows eliminated
+none-is n mark cs hl hc f = go (decides-free n mark cs hl hc)
+  where
+    settled : (b c : Bool) (ks : List ℕ) → onlyIf b (answer c ks cs) cs .ok ≡ false → onlyIf b (answer c ks cs) cs ≡ record { ok = false; rows = cs }
+    settled true true ks e = absurd (not-both e)
+    settled true false ks e = refl
+    settled false c ks e = refl
+
+    go : FoundFree n mark cs (soundRows n mark cs) → soundRows n mark cs ≡ record { ok = false; rows = cs }
+    go (inl t) = absurd (f (soundRows n mark cs .rows) (t .1))
+    go (inr t) = settled (freeCols 0 mark cs) (placed n cs n) _ (t .0)
+
+-- ---- the code's ways to the answer
+
+pub sound-empty : (n mark : ℕ) (cs : List ℕ) → length cs ≡ n → mark ≡ 0 → freeCols 0 mark cs ≡ true → _≡_ {A = Rows} (record { ok = true; rows = cs }) (soundRows n mark cs)
+sound-empty n mark cs hl z e = sym (found-is n mark cs cs (record { inverse = subst (λ (l : List ℕ). Inverse n l l) (sym same) (empty n); free = λ j h f. at j h }))
+  where
+    at : (j : ℕ) → j < n → getD cs j 0 ≡ 2 ^ j
+    at j h = bit-ext (getD cs j 0) (2 ^ j) (λ a. cols→bits n mark cs hl e a (ap (bit a) z ∙ bit-zero a) j h)
+
+    same : cs ≡ units n
+    same = ext-getD 0 cs (units n) (hl ∙ sym (length-units n)) (λ i h. let l : i < n = subst (λ (x : ℕ). i < x) hl h in at i l ∙ sym (getD-units n i l))
+
+pub sound-yes : (n mark : ℕ) (cs : List ℕ) (r : Rows) → freeCols 0 mark cs ≡ true → r ≡ eliminated n cs → r ≡ soundRows n mark cs
+unfolding soundRows
+sound-yes n mark cs r e q = rw (e, q)
+
+pub sound-no : (n mark : ℕ) (cs : List ℕ) → freeCols 0 mark cs ≡ false → _≡_ {A = Rows} (record { ok = false; rows = cs }) (soundRows n mark cs)
+unfolding soundRows
+sound-no n mark cs e = rw e

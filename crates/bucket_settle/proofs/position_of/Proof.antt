@@ -1,0 +1,71 @@
+-- `bucket_settle::position_of` meets its contract: no vector that the loop passed is larger than v.
+-- Assumes nothing.
+use mathlib.Core.Path.{_≡_}
+use Prim.Native.Nat.{_+_, _-_, _≤_}
+use native.Mathlib.Omega.{arith}
+use native.Mathlib.Numerals.{add-one}
+use lib.ListN.{length, take, drop}
+use Rattle.bucket_settle.proofs.Arrays.{position-here, position-next, position-end}
+use Rattle.bucket_settle.specs.Steps.{positionOf}
+use borrow.Author.Needs.{needs}
+use Rattle.bucket_settle.proofs.position_of.Statement.{statement}
+use Rattle.bucket_settle.proofs.position_of.Tie as tie
+
+abbrev Inv-loop : tie.InvT-loop
+Inv-loop count v vectors i₀ i = (i ≤ count) × (positionOf v (take count vectors) ≡ i + positionOf v (drop i (take count vectors)))
+
+abbrev μ-loop : tie.MeasureT-loop
+μ-loop count v vectors i₀ i = count - i
+
+loop-holds : tie.Need-loop-holds Inv-loop μ-loop
+loop-holds c = (search needs, search needs)
+
+mul-if1 : tie.Need-mul-if1 Inv-loop μ-loop
+mul-if1 c = search needs
+
+array-read-if1 : tie.Need-array-read-if1 Inv-loop μ-loop
+array-read-if1 c = search needs
+
+returns : tie.Need-returns Inv-loop μ-loop
+returns c =
+    let l = c .before .before .loop in
+    let a = c .before .before .before .args in
+    let e : length (a .t1) ≡ 65 = search needs in
+    let h : a .count ≤ length (a .t1) = omega arith in
+    omega (arith, position-here (a .v) (a .t1) (a .count) (l .i) h (c .before .loop-test .taken) (c .if1 .taken))
+
+add-i : tie.Need-add-i Inv-loop μ-loop
+add-i c = search needs
+
+loop-less : tie.Need-loop-less Inv-loop μ-loop
+loop-less c = search needs
+
+loop-again : tie.Need-loop-again Inv-loop μ-loop
+loop-again c =
+    let l = c .before .before .loop in
+    let a = c .before .before .before .args in
+    let e : length (a .t1) ≡ 65 = search needs in
+    let h : a .count ≤ length (a .t1) = omega arith in
+    (search needs, rw add-one (omega (arith, position-next (a .v) (a .t1) (a .count) (l .i) h (c .before .loop-test .taken) (c .if1 .left))))
+
+returns-2 : tie.Need-returns-2 Inv-loop μ-loop
+returns-2 c =
+    let l = c .before .loop in
+    let a = c .before .before .args in
+    let h : a .count ≤ l .i = omega arith in
+    omega (arith, position-end (a .v) (a .t1) (a .count) (l .i) h)
+
+pub position-of-spec : {M : Type 1} → statement M
+position-of-spec =
+    tie.close
+    (tie.spec
+    Inv-loop
+    μ-loop
+    loop-holds
+    mul-if1
+    array-read-if1
+    returns
+    add-i
+    loop-less
+    loop-again
+    returns-2)

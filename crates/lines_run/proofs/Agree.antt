@@ -1,0 +1,155 @@
+-- The line program prints what it would print if the model took the calls; its table is sound at each line.
+-- Assumes nothing.
+use mathlib.Core.Path.{_≡_, refl, ap, ap₂}
+use mathlib.Core.Bool.{Bool, true, false, cond}
+use mathlib.Core.List.{List, [], _∷_, _++_}
+use mathlib.Core.Option.{Option, none, some}
+use Prim.Native.Nat.{ℕ, suc, _≤_}
+use native.Mathlib.Omega.{arith}
+use lib.Dec.{leb}
+use lib.ListN.{length, replicate, length-replicate}
+use borrow.Author.Tests.{eq-eqb}
+use Rattle.lists.proofs.Tests.{cases}
+use Rattle.codec.specs.Bytes.{eqList}
+use Rattle.answer.specs.declared.Answer.the-variants.{Accepted, WrongBuckets}
+use Rattle.model.specs.Model.{State, Call, add, change}
+use Rattle.model.specs.Request as R
+use Rattle.model.specs.Request.{Token}
+use Rattle.model.specs.Machine.{accepted}
+use Rattle.table.specs.Table.{openTable}
+use Rattle.table.specs.Layout.{inRange, lengthOf, numbersOf}
+use Rattle.table.specs.Calls.{rows, solutions, openCall}
+use Rattle.table.specs.History.{PlanFits, Put, flatState}
+use Rattle.table.proofs.Calls.{FlatStands}
+use Rattle.table.proofs.Statements.{refines, opening-stands, stands-sound, sound-stands}
+use Rattle.lines_text.specs.declared.Number.{Number}
+use Rattle.lines_text.specs.declared.Number.the-variants.{Of, Wrong}
+use Rattle.lines_text.specs.Decimal.{numberTo}
+use Rattle.lines_text.specs.Line.{lf, parted, Command, opening, ask, bad, openWord, addWord, setWord, delWord, getWord, mostBuckets, mostPlan, openWith, planned, ofTwo, ofThree, ofFields, commandOf}
+use Rattle.lines_text.specs.Parsed.{AtMost}
+use Rattle.lines_text.specs.Printed.{printed}
+use Rattle.lines_text.proofs.Decimal.{number-most}
+use Rattle.lines_run.specs.Buffer.{AllReady}
+use Rattle.lines_run.specs.Run.{counted, lineLimit, Turn, obey, refuse, turn, outputFrom, outputOf, tables, output, states}
+
+-- ---- the plan of a command is a byte
+
+abbrev pub CommandFits : Command → Type 0
+CommandFits (opening b1 b2) = Unit {0}
+CommandFits (ask c) = PlanFits c
+CommandFits bad = Unit {0}
+
+open-fits : (x y : Number) → CommandFits (openWith x y)
+open-fits (Of b1) (Of b2) = tt
+open-fits (Of b1) Wrong = tt
+open-fits Wrong y = tt
+
+plan-fits : (c : ℕ → Call Token) → ((p : ℕ) → p ≤ mostPlan → PlanFits (c p)) → (x : Number) → AtMost mostPlan x → CommandFits (planned c x)
+plan-fits c f (Of p) h = f p h
+plan-fits c f Wrong h = tt
+
+either : (t : Bool) (a b : Command) → CommandFits a → CommandFits b → CommandFits (cond t a b)
+either true a b h k = h
+either false a b h k = k
+
+fields-fit : (fs : List (List ℕ)) → CommandFits (ofFields fs)
+unfolding ofTwo ofThree
+fields-fit [] = tt
+fields-fit (w ∷ []) = tt
+fields-fit (w ∷ x ∷ []) = either (eqList w delWord) _ _ tt (either (eqList w getWord) _ _ tt tt)
+fields-fit (w ∷ x ∷ y ∷ []) =
+    either (eqList w openWord) _ _ (open-fits (numberTo mostBuckets x) (numberTo mostBuckets y))
+    (either (eqList w addWord) _ _ (plan-fits (add x) (λ p h. omega arith) (numberTo mostPlan y) (number-most mostPlan y))
+    (either (eqList w setWord) _ _ (plan-fits (change x) (λ p h. omega arith) (numberTo mostPlan y) (number-most mostPlan y)) tt))
+fields-fit (w ∷ x ∷ y ∷ z ∷ fs) = tt
+
+pub command-fits : (s : List ℕ) → CommandFits (commandOf s)
+command-fits s = fields-fit (parted _ s)
+
+-- ---- an opening
+
+abbrev pub zeros : ℕ → ℕ → List ℕ
+zeros b1 b2 = replicate (lengthOf rows solutions b1 b2) 0
+
+-- the outcome of an opening in the program
+pub open-is : (b1 b2 : ℕ) → (inRange b1 b2 ≡ true → openCall b1 b2 (zeros b1 b2) ≡ record { answer = Accepted 0; table = numbersOf (openTable rows solutions b1 b2) })
+    × (inRange b1 b2 ≡ false → openCall b1 b2 (zeros b1 b2) ≡ record { answer = WrongBuckets; table = zeros b1 b2 })
+unfolding openCall
+open-is b1 b2 = (
+  λ r. rw (r, length-replicate {A = ℕ} (lengthOf rows solutions b1 b2) 0, eq-eqb (lengthOf rows solutions b1 b2) (lengthOf rows solutions b1 b2) refl),
+  λ r. rw r,
+)
+
+-- ---- the table beside the model
+
+-- either nothing is open, or the table stands for the state
+abbrev pub BothStand : Option (List ℕ) → Option State → Type 0
+BothStand none none = Unit {0}
+BothStand none (some s) = ⊥
+BothStand (some t) none = ⊥
+BothStand (some t) (some s) = FlatStands t s
+
+-- the same is printed, and what is open stands again
+abbrev pub SameTurn : Turn (List ℕ) → Turn State → Type 0
+SameTurn x y = (x .output ≡ y .output) × BothStand (x .state) (y .state)
+
+module _ (m : Option (List ℕ)) (k : Option State) (h : BothStand m k) where
+  open-same : (b1 b2 : ℕ) → SameTurn (obey tables m (opening b1 b2)) (obey states k (opening b1 b2))
+  open-same b1 b2 =
+      cases (inRange b1 b2)
+      (λ r. rw (open-is b1 b2 .0 r, r)
+      (refl, opening-stands (numbersOf (openTable rows solutions b1 b2)) (record { size = record { buckets1 = b1; buckets2 = b2 }; before = zeros b1 b2; accepted = open-is b1 b2 .0 r })))
+      (λ r. rw (open-is b1 b2 .1 r, r) (refl, h))
+
+  refuse-same : SameTurn (refuse tables m) (refuse states k)
+  refuse-same = (refl, h)
+
+ask-same : (m : Option (List ℕ)) (k : Option State) → BothStand m k → (c : Call Token) → PlanFits c → SameTurn (obey tables m (ask c)) (obey states k (ask c))
+ask-same none none h c f = (refl, tt)
+ask-same none (some s) h c f = absurd h
+ask-same (some t) none h c f = absurd h
+ask-same (some t) (some s) h c f =
+    let p : Put = record { request = R.ask c; fits = f } in
+    (ap printed (refines .says t s p h), refines .goes t s p h)
+
+pub obey-same : (m : Option (List ℕ)) (k : Option State) → BothStand m k → (c : Command) → CommandFits c → SameTurn (obey tables m c) (obey states k c)
+obey-same m k h (opening b1 b2) f = open-same m k h b1 b2
+obey-same m k h (ask c) f = ask-same m k h c f
+obey-same m k h bad f = refuse-same m k h
+
+turn-same : (m : Option (List ℕ)) (k : Option State) → BothStand m k → (s : List ℕ) → SameTurn (turn tables m s) (turn states k s)
+turn-same m k h s =
+    cases (leb (suc (length s)) lineLimit)
+    (λ e. rw e (obey-same m k h (commandOf s) (command-fits s)))
+    (λ e. rw e (refuse-same m k h))
+
+from-same : (m : Option (List ℕ)) (k : Option State) → BothStand m k → (ps : List (List ℕ)) → outputFrom tables m ps ≡ outputFrom states k ps
+from-same m k h [] = refl
+from-same m k h (s ∷ []) = refl
+from-same m k h (s ∷ r ∷ rs) =
+    let a = turn-same m k h s in
+    ap₂ _++_ (a .0) (from-same (turn tables m s .state) (turn states k s .state) (a .1) (r ∷ rs))
+
+-- "so statement 3 covers what the program answers"
+pub as-model : (s : List ℕ) → output s ≡ outputOf states s
+unfolding output
+as-model s = from-same none none tt (parted lf (counted s))
+
+-- ---- the table is sound at each line
+
+stateOf : Option (List ℕ) → Option State
+stateOf none = none
+stateOf (some t) = some (flatState t)
+
+ready-both : (m : Option (List ℕ)) → AllReady m → BothStand m (stateOf m)
+unfolding stateOf
+ready-both none h = tt
+ready-both (some t) h = sound-stands t (h .shape) (h .sound)
+
+both-ready : (m : Option (List ℕ)) (k : Option State) → BothStand m k → AllReady m
+both-ready none k h = tt
+both-ready (some t) none h = absurd h
+both-ready (some t) (some s) h = let r = stands-sound t s h in record { shape = r .0; sound = r .2 }
+
+pub ready-next : (m : Option (List ℕ)) → AllReady m → (s : List ℕ) → AllReady (turn tables m s .state)
+ready-next m h s = both-ready (turn tables m s .state) (turn states (stateOf m) s .state) (turn-same m (stateOf m) (ready-both m h) s .1)

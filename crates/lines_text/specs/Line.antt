@@ -1,0 +1,100 @@
+-- A line of the line program: its fields, and what it asks for; document 01, "The line program".
+-- Assumes nothing.
+use Prim.Native.Nat.{ℕ, suc}
+use mathlib.Core.Bool.{cond}
+use mathlib.Core.List.{List, [], _∷_}
+use lib.Dec.{eqb}
+use Rattle.codec.specs.Bytes.{eqList}
+use Rattle.model.specs.Model.{Call, add, change, withdraw, query}
+use Rattle.model.specs.Request.{Token}
+use Rattle.lines_text.specs.declared.Number.{Number}
+use Rattle.lines_text.specs.declared.Number.the-variants.{Of, Wrong}
+use Rattle.lines_text.specs.Decimal.{numberTo}
+
+-- LF
+abbrev pub lf : ℕ
+lf = 0x0a
+
+-- the byte that parts fields
+abbrev pub space : ℕ
+space = 0x20
+
+-- the index of the first b, or the length if there is none
+unfoldable pub placeOf : ℕ → List ℕ → ℕ
+placeOf b [] = 0
+placeOf b (x ∷ s) = cond (eqb x b) 0 (suc (placeOf b s))
+
+-- x before the first of the parts
+abbrev pub before : ℕ → List (List ℕ) → List (List ℕ)
+before x [] = (x ∷ []) ∷ []
+before x (p ∷ ps) = (x ∷ p) ∷ ps
+
+-- the parts of s that single b part, empty ones too
+unfoldable pub parted : ℕ → List ℕ → List (List ℕ)
+parted b [] = [] ∷ []
+parted b (x ∷ s) = cond (eqb x b) ([] ∷ parted b s) (before x (parted b s))
+
+-- what a line asks for: an opening, a call, or nothing that the program knows
+pub data Command : Type 0 where
+  opening : (b1 b2 : ℕ) → Command
+  ask : (c : Call Token) → Command
+  bad : Command
+
+-- B1 and B2 go to 999
+abbrev pub mostBuckets : ℕ
+mostBuckets = 999
+
+-- PLAN goes to 255
+abbrev pub mostPlan : ℕ
+mostPlan = 255
+
+-- `open B1 B2`
+abbrev pub openWith : Number → Number → Command
+openWith (Of b1) (Of b2) = opening b1 b2
+openWith (Of b1) Wrong = bad
+openWith Wrong n = bad
+
+-- `add ID PLAN`, `set ID PLAN`: c is the call but for its plan
+abbrev pub planned : (ℕ → Call Token) → Number → Command
+planned c (Of p) = ask (c p)
+planned c Wrong = bad
+
+-- the words `open`, `add`, `set`, `del`, `get`
+abbrev pub openWord : List ℕ
+openWord = 0x6f ∷ 0x70 ∷ 0x65 ∷ 0x6e ∷ []
+
+abbrev pub addWord : List ℕ
+addWord = 0x61 ∷ 0x64 ∷ 0x64 ∷ []
+
+abbrev pub setWord : List ℕ
+setWord = 0x73 ∷ 0x65 ∷ 0x74 ∷ []
+
+abbrev pub delWord : List ℕ
+delWord = 0x64 ∷ 0x65 ∷ 0x6c ∷ []
+
+abbrev pub getWord : List ℕ
+getWord = 0x67 ∷ 0x65 ∷ 0x74 ∷ []
+
+-- a line of two fields: `del ID`, `get ID`
+unfoldable pub ofTwo : List ℕ → List ℕ → Command
+ofTwo w i = cond (eqList w delWord) (ask (withdraw i)) (cond (eqList w getWord) (ask (query i)) bad)
+
+-- a line of three fields: `open B1 B2`, `add ID PLAN`, `set ID PLAN`
+unfoldable pub ofThree : List ℕ → List ℕ → List ℕ → Command
+ofThree w x y =
+    cond (eqList w openWord) (openWith (numberTo mostBuckets x) (numberTo mostBuckets y))
+    (cond (eqList w addWord) (planned (add x) (numberTo mostPlan y))
+    (cond (eqList w setWord) (planned (change x) (numberTo mostPlan y))
+    bad))
+
+-- a line of these fields
+abbrev pub ofFields : List (List ℕ) → Command
+ofFields [] = bad
+ofFields (w ∷ []) = bad
+ofFields (w ∷ x ∷ []) = ofTwo w x
+ofFields (w ∷ x ∷ y ∷ []) = ofThree w x y
+ofFields (w ∷ x ∷ y ∷ z ∷ fs) = bad
+
+-- what the line s, without its LF, asks for
+abbrev pub commandOf : List ℕ → Command
+commandOf s = ofFields (parted space s)

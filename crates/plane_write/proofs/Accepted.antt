@@ -1,0 +1,102 @@
+-- What an accepted call of the writer has done: the table is sound, and its plane, which fits, stands in front of the output.
+-- Assumes nothing.
+use mathlib.Core.Path.{_≡_, refl, ap, _∙_}
+use mathlib.Core.Bool.{Bool, true, false, cond, _&&_}
+use mathlib.Core.List.{List}
+use mathlib.Core.Option.{some}
+use Prim.Native.Nat.{ℕ, _+_, _≤_}
+use native.Mathlib.Omega.{arith}
+use borrow.Author.Tests.{leb-true, eqb-true}
+use lib.Dec.{leb, ltb, lit≤}
+use lib.ListN.{length, getD, take, drop, length-map}
+use lib.Seq.{take-at}
+use Rattle.hash.specs.Mix.{unmixOf}
+use Rattle.answer.specs.declared.Answer.{Answer}
+use Rattle.answer.specs.declared.Answer.the-variants.{Accepted, WrongTable, NotSound, ShortOutput}
+use Rattle.identifier.specs.Identifier.{readOf}
+use Rattle.identifier.specs.declared.Read.{Read}
+use Rattle.identifier.specs.declared.Read.the-variants.{Word, Refused}
+use Rattle.model.specs.Model.{baseLimit}
+use Rattle.table.specs.Test.{shapeTest}
+use Rattle.table.specs.Layout.{mostBuckets1, mostBuckets2, inRange, header, lengthOf}
+use Rattle.table.specs.Calls.{rows, solutions, tableOf, shaped, sound, FlatSound}
+use Rattle.table.proofs.Statements.{sound-exactly, header-read}
+use Rattle.plane.specs.Record.{format1}
+use Rattle.plane.specs.Plane.{planeBytes, planeLength}
+use Rattle.plane.specs.Lookup.{lookupRead, lookupCall}
+use Rattle.plane.specs.Fits.{Fits}
+use Rattle.plane_write.specs.Write.{seenOf, planeOf, putFront, Written, turnedDown, inFront, writeCall, shownTo}
+use Rattle.plane.proofs.Scan.{both}
+use Rattle.plane.proofs.Round.{plane-length, written-right, written-read}
+use Rattle.plane_write.proofs.Shown.{Words, Sols, narrow, plane-fits, shown}
+
+module _ (t : List ℕ) (w : Sols (tableOf t)) (k : shaped t ≡ true) (h : FlatSound t) where
+  in-range : inRange (getD t 0 0) (getD t 1 0) ≡ true
+  unfolding shapeTest
+  in-range = both (inRange (getD t 0 0) (getD t 1 0)) _ (both (leb header (length t)) _ k .1) .0
+
+  pub fits : Fits format1 (planeOf (tableOf t))
+  fits = plane-fits rows format1 t w unmixOf (lit≤ tt) in-range (h .table)
+
+  -- the plane of a sound table, read again, gives for each identifier, live or not, the answer of the table's own XOR words or base list
+  pub shows : (id : List ℕ) → lookupCall id (planeBytes format1 (planeOf (tableOf t))) ≡ shownTo (tableOf t) (readOf id)
+  unfolding lookupCall
+  shows id = go (readOf id)
+    where
+      go : (i : Read) → lookupRead (planeBytes format1 (planeOf (tableOf t))) i ≡ shownTo (tableOf t) i
+      go (Refused a) = refl
+      go (Word v) =
+          rw (written-right format1 (planeOf (tableOf t)) fits, written-read format1 (planeOf (tableOf t)) fits)
+          (ap Accepted (shown rows solutions (tableOf t) v (h .table .level1 .some) (h .table .level2 .some)))
+
+-- what the writer knows of a sound table t
+pub record Known (t : List ℕ) : Type 0 where
+  pub size : length t ≡ lengthOf rows solutions (getD t 0 0) (getD t 1 0)
+  pub most1 : getD t 0 0 ≤ mostBuckets1
+  pub most2 : getD t 1 0 ≤ mostBuckets2
+  pub few : getD t 2 0 ≤ baseLimit
+  pub fits : Fits format1 (planeOf (tableOf t))
+  pub long : length (planeBytes format1 (planeOf (tableOf t))) ≡ planeLength format1 (getD t 0 0 + getD t 1 0) (getD t 2 0)
+
+pub known : (t : List ℕ) → Words t → shaped t ≡ true → sound t ≡ true → Known t
+unfolding shapeTest
+known t w k q =
+    let h : FlatSound t = sound-exactly t k w .0 q in
+    let f : Fits format1 (planeOf (tableOf t)) = fits t (narrow rows format1 t w) k h in
+    let r = header-read t in
+    let c = both (inRange (getD t 0 0) (getD t 1 0)) _ (both (leb header (length t)) _ k .1) in
+    let d = both (leb 1 (getD t 0 0) && leb (getD t 0 0) mostBuckets1) _ (c .0) in
+    record {
+      size = eqb-true (length t) (lengthOf rows solutions (getD t 0 0) (getD t 1 0)) (c .1);
+      most1 = leb-true (getD t 0 0) mostBuckets1 (both (leb 1 (getD t 0 0)) _ (d .0) .1);
+      most2 = leb-true (getD t 1 0) mostBuckets2 (both (leb 1 (getD t 1 0)) _ (d .1) .1);
+      few = rw (r .2) at (h .table .fits);
+      fits = f;
+      long = plane-length format1 (planeOf (tableOf t)) f
+          ∙ rw (length-map (tableOf t .level1) seenOf, length-map (tableOf t .level2) seenOf, r .0, r .1, r .2) refl;
+    }
+
+-- ---- a call that is accepted has written the plane of a sound table, and nothing past it
+
+front-bytes : (b : Bool) (bytes out : List ℕ) (a : Answer) (n : ℕ) → (a ≡ Accepted n → ⊥) → cond b (turnedDown a out) (inFront bytes out) .answer ≡ Accepted n
+    → take n (cond b (turnedDown a out) (inFront bytes out) .output) ≡ bytes
+front-bytes true bytes out a n x e = absurd (x e)
+front-bytes false bytes out a n x e = let l : length bytes ≡ n = cc in take-at bytes (drop (length bytes) out) n l
+
+accepted-of : (b : Bool) (o : Written) (a : Answer) (out : List ℕ) (n : ℕ) → (a ≡ Accepted n → ⊥) → cond b o (turnedDown a out) .answer ≡ Accepted n → (b ≡ true) × (o .answer ≡ Accepted n)
+accepted-of true o a out n x e = (refl, e)
+accepted-of false o a out n x e = absurd (x e)
+
+module _ (t out : List ℕ) (n : ℕ) (e : writeCall t out .answer ≡ Accepted n) where
+  pub was-shaped : (shaped t ≡ true) × (cond (sound t) (putFront (planeBytes format1 (planeOf (tableOf t))) out) (turnedDown NotSound out) .answer ≡ Accepted n)
+  unfolding writeCall
+  was-shaped = accepted-of (shaped t) _ (WrongTable (length t)) out n (λ x. let z : _≡_ {A = ℕ} 0 1 = cc in omega arith) e
+
+  pub was-sound : (sound t ≡ true) × (putFront (planeBytes format1 (planeOf (tableOf t))) out .answer ≡ Accepted n)
+  was-sound = accepted-of (sound t) _ NotSound out n (λ x. let z : _≡_ {A = ℕ} 0 1 = cc in omega arith) (was-shaped .1)
+
+  pub was-written : take n (writeCall t out .output) ≡ planeBytes format1 (planeOf (tableOf t))
+  unfolding writeCall
+  was-written =
+      let bytes : List ℕ = planeBytes format1 (planeOf (tableOf t)) in
+      rw (was-shaped .0, was-sound .0) (front-bytes (ltb (length out) (length bytes)) bytes out (ShortOutput (length bytes)) n (λ x. let z : _≡_ {A = ℕ} 0 1 = cc in omega arith) (was-sound .1))

@@ -1,0 +1,133 @@
+-- Statement 2's half of the plane: a plane that was written from a table and is read again gives, for every identifier, the answer of
+-- the table's own solution words or base list; so a live word's plan.
+-- Assumes nothing.
+use mathlib.Core.Path.{_≡_, refl, ap, _∙_}
+use mathlib.Core.Bool.{Bool, true, false, cond}
+use mathlib.Core.List.{List, [], _∷_, _++_, map, List·Memᴰ, List·Memᴰ·head, List·Memᴰ·tail}
+use mathlib.Core.Option.{Option, none, some}
+use Prim.Native.Nat.{ℕ, zero, suc, suc-le-suc, _+_, _/_, _^_, _≤_, _<_}
+use native.Mathlib.Nat.{mod-lt, zero-lt-suc, lt-of-lt-of-le, not-suc-le-zero, le-of-suc-le-suc}
+use lib.Seq.{getD-drop}
+use lib.ListN.{length, getD, take, drop, length-map}
+use Rattle.lists.proofs.Entries.{none≢some}
+use Rattle.hash.specs.Mix.{mixOf}
+use Rattle.identifier.specs.Place.{secondOf, bucketAt}
+use Rattle.bucket.specs.declared.Bucket.{Bucket}
+use Rattle.bucket.specs.Bucket.{live, lookup}
+use Rattle.bucket_words.specs.Words.{bucketWords, bucketFrom}
+use Rattle.bucket_settle.specs.Settle.{SoundBucket, planOf}
+use Rattle.table.specs.Table as C
+use Rattle.table.specs.Table.{Table}
+use Rattle.table.specs.Layout.{inRange, levelFrom, bucketPlace, tableFrom}
+use Rattle.table.specs.Sound.{SoundTable}
+use Rattle.table.proofs.Numbers.{header-read}
+use Rattle.plane.specs.declared.Held.the-variants.{Plan, Passed}
+use Rattle.plane.specs.Record.{Format, wordBytes, PlaneBucket}
+use Rattle.plane.specs.Lookup.{bucketOf, holds, levelPlan, orElse, orStranger, secondPlan, planFrom}
+use Rattle.plane.specs.Fits.{Every, Below, FitsBucket, FitsEntry, Fits}
+use Rattle.plane_write.specs.Write.{seenOf, planeOf, shownPlan}
+
+-- ---- the plan of a word
+
+getD-seen : (bs : List Bucket) (i : ℕ) (d : PlaneBucket) (e : Bucket) → i < length bs → getD (map seenOf bs) i d ≡ seenOf (getD bs i e)
+getD-seen [] i d e h = absurd (not-suc-le-zero h)
+getD-seen (b ∷ bs) zero d e h = refl
+getD-seen (b ∷ bs) (suc i) d e h = getD-seen bs i d e (le-of-suc-le-suc h)
+
+or-held : (b : Bool) (p q : ℕ) → orElse (cond b (Plan p) Passed) q ≡ cond b p q
+or-held true p q = refl
+or-held false p q = refl
+
+-- a choice that is some p
+picked : (b : Bool) (x y : Option ℕ) (u v p : ℕ) → (x ≡ some p → u ≡ p) → (y ≡ some p → v ≡ p) → cond b x y ≡ some p → cond b u v ≡ p
+picked true x y u v p f g = f
+picked false x y u v p f g = g
+
+live-plan : (l : Bool) (a p : ℕ) → cond l (some a) none ≡ some p → a ≡ p
+live-plan true a p e = cc
+live-plan false a p e = absurd (none≢some e)
+
+module _ (n r : ℕ) where
+  -- the bucket of v in the plane is that of the table
+  seen-bucket : (bs : List Bucket) (v : ℕ) → 0 < length bs → bucketOf (map seenOf bs) v ≡ seenOf (C.bucketOf n r mixOf bs v)
+  seen-bucket bs v h = rw (length-map bs seenOf) (getD-seen bs (bucketAt (length bs) (mixOf v)) _ _ (mod-lt (mixOf v / 8) h))
+
+  seen-plan : (bs : List Bucket) (v q : ℕ) → 0 < length bs → orElse (levelPlan (map seenOf bs) v) q ≡ cond (C.holds n r mixOf bs v) (lookup (C.bucketOf n r mixOf bs v) v) q
+  unfolding levelPlan
+  seen-plan bs v q h = rw (seen-bucket bs v h) (or-held (C.holds n r mixOf bs v) (lookup (C.bucketOf n r mixOf bs v) v) q)
+
+  pub shown : (T : Table) (w : ℕ) → 0 < length (T .level1) → 0 < length (T .level2) → planFrom (planeOf T) w ≡ shownPlan n r T w
+  unfolding planFrom secondPlan
+  shown T w h1 h2 = seen-plan (T .level1) w _ h1 ∙ ap (λ (q : ℕ). cond (C.holds n r mixOf (T .level1) w) (lookup (C.bucketOf n r mixOf (T .level1) w) w) q) (seen-plan (T .level2) (secondOf w) _ h2)
+
+  -- a live word's plan is the one that is shown
+  pub live-shown : (T : Table) (w p : ℕ) → C.planIn n r mixOf T w ≡ some p → shownPlan n r T w ≡ p
+  live-shown T w p =
+      let plan : (bs : List Bucket) (v : ℕ) → planOf n v (C.bucketOf n r mixOf bs v) ≡ some p → lookup (C.bucketOf n r mixOf bs v) v ≡ p =
+      λ bs v. live-plan (live n v (C.bucketOf n r mixOf bs v)) (lookup (C.bucketOf n r mixOf bs v) v) p in
+      picked (C.holds n r mixOf (T .level1) w) _ _ _ _ p (plan (T .level1) w)
+      (picked (C.holds n r mixOf (T .level2) (secondOf w)) _ _ _ _ p (plan (T .level2) (secondOf w)) (ap orStranger))
+
+-- ---- the plane of a sound table fits
+
+-- each number is below 256 ^ 8
+abbrev pub Words : List ℕ → Type 0
+Words xs = (i : ℕ) → getD xs i 0 < 256 ^ wordBytes
+
+words-drop : (k : ℕ) (xs : List ℕ) → Words xs → Words (drop k xs)
+words-drop k xs h i = rw getD-drop (h (k + i))
+
+every-take : (k : ℕ) (xs : List ℕ) → Words xs → Every (Below wordBytes) (take k xs)
+every-take zero xs h = tt
+every-take (suc k) [] h = tt
+every-take (suc k) (x ∷ xs) h = (h 0, every-take k xs (λ i. h (suc i)))
+
+every-append : {A : Type 0} (P : A → Type 0) (xs ys : List A) → Every P xs → Every P ys → Every P (xs ++ ys)
+every-append P [] ys h k = k
+every-append P (x ∷ xs) ys h k = (h .0, every-append P xs ys (h .1) k)
+
+mem-every : {A : Type 0} (P : A → Type 0) (xs : List A) → ((x : A) → List·Memᴰ x xs → P x) → Every P xs
+mem-every P [] h = tt
+mem-every P (x ∷ xs) h = (h x (List·Memᴰ·head refl), mem-every P xs (λ y m. h y (List·Memᴰ·tail m)))
+
+-- the solution words of a bucket
+abbrev pub Narrow : Bucket → Type 0
+Narrow b = Every (Below wordBytes) (b .sols)
+
+-- the solution words of a table
+abbrev pub Sols : Table → Type 0
+Sols T = Every Narrow (T .level1) × Every Narrow (T .level2)
+
+module _ (n : ℕ) (F : Format) where
+  abbrev r : ℕ
+  r = F .words
+
+  level-narrow : (m : ℕ) (xs : List ℕ) → Words xs → Every Narrow (levelFrom n r m xs)
+  unfolding bucketFrom
+  level-narrow zero xs h = tt
+  level-narrow (suc m) xs h = (every-take r (drop (n + 1) xs) (words-drop (n + 1) xs h), level-narrow m (drop (bucketWords n r) xs) (words-drop (bucketWords n r) xs h))
+
+  level-fits : (bs : List Bucket) → ((i : ℕ) → i < length bs → SoundBucket n r (C.nth n r bs i)) → Every Narrow bs → Every (FitsBucket F) (map seenOf bs)
+  level-fits [] s w = tt
+  level-fits (b ∷ bs) s w =
+      let b0 = s 0 (zero-lt-suc (length bs)) in
+      (record { low = b0 .low; wide = b0 .wide; words = w .0 }, level-fits bs (λ i l. s (suc i) (suc-le-suc l)) (w .1))
+
+  pub narrow : (xs : List ℕ) → Words xs → Sols (tableFrom n r xs)
+  unfolding tableFrom
+  narrow xs w = (
+    level-narrow (getD xs 0 0) (drop (bucketPlace n r 0) xs) (words-drop (bucketPlace n r 0) xs w),
+    level-narrow (getD xs 1 0) (drop (bucketPlace n r (getD xs 0 0)) xs) (words-drop (bucketPlace n r (getD xs 0 0)) xs w),
+  )
+
+  pub plane-fits : (xs : List ℕ) → Sols (tableFrom n r xs) → (U : ℕ → ℕ) → 2 ^ n ≤ 256 ^ wordBytes → inRange (getD xs 0 0) (getD xs 1 0) ≡ true
+      → SoundTable n r mixOf U (tableFrom n r xs) → Fits F (planeOf (tableFrom n r xs))
+  plane-fits xs w U hn g h =
+      let t : Table = tableFrom n r xs in
+      record {
+        range = rw (length-map (t .level1) seenOf, length-map (t .level2) seenOf, header-read n r xs .0, header-read n r xs .1) g;
+        few = h .fits;
+        buckets = every-append (FitsBucket F) (map seenOf (t .level1)) (map seenOf (t .level2)) (level-fits (t .level1) (h .level1 .buckets) (w .0)) (level-fits (t .level2) (h .level2 .buckets) (w .1));
+        entries = mem-every FitsEntry (t .base) (λ e m. record { word = lt-of-lt-of-le (h .base-words e m .0) hn; plan = h .base-plans e m });
+        ascending = h .ascending;
+      }

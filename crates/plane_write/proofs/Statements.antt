@@ -1,0 +1,145 @@
+-- The statements of document 01 about the plane.
+-- Assumes nothing.
+use mathlib.Core.Logic.{_↔_}
+use mathlib.Core.Path.{_≡_, refl, ap, _∙_}
+use mathlib.Core.Bool.{false}
+use mathlib.Core.List.{List, [], _∷_}
+use mathlib.Core.Option.{some}
+use Prim.Native.Nat.{ℕ, _+_, _*_, _^_, _<_}
+use native.Mathlib.Omega.{arith}
+use lib.ListN.{length, getD, take}
+use Rattle.answer.specs.declared.Answer.the-variants.{Accepted}
+use Rattle.answer.specs.Numbers.{numberOf, valueOf}
+use Rattle.answer.specs.Causes.{NoneMet, InOrder, Exactly}
+use Rattle.answer.proofs.Causes.{number-exactly}
+use Rattle.identifier.specs.Identifier.{readOf}
+use Rattle.identifier.specs.Causes.{wrongLength, wrongByte}
+use Rattle.identifier.specs.declared.Read.the-variants.{Word}
+use Rattle.identifier.proofs.Causes.{read-word}
+use Rattle.identifier.proofs.Words.{word-lt}
+use Rattle.model.specs.Model.{baseLimit}
+use Rattle.model.specs.History.{told}
+use Rattle.model.specs.Machine.{accepted, after}
+use Rattle.table.specs.Layout.{mostBuckets1, mostBuckets2}
+use Rattle.table.specs.Calls.{rows, solutions, tableOf, planIn, FlatSound}
+use Rattle.table.specs.Causes.{wrongTable, notSound}
+use Rattle.table.specs.History.{Put, tables, Opened, acceptedCalls}
+use Rattle.table.proofs.Statements.{sound-exactly, always-sound, plan}
+use Rattle.plane.specs.declared.Wrong.the-variants.{Nowhere, At}
+use Rattle.plane.specs.Record.{Format, format1}
+use Rattle.plane.specs.Plane.{Plane, planeBytes, planeLength, planeFrom, wrongAt}
+use Rattle.plane.specs.Lookup.{lookupCall}
+use Rattle.plane.specs.Fits.{Fits, OfPlane}
+use Rattle.plane.specs.Offset.{WrongOffset, RightPlane}
+use Rattle.plane.specs.Causes.{wrongPlane, lookupCauses, lookupReturns}
+use Rattle.plane_write.specs.Write.{planeOf, putFront, writeCall, shownTo}
+use Rattle.plane_write.specs.Causes.{lengthNeeded, shortOutput, writeCauses, writeReturns}
+use Rattle.plane.proofs.Round.{plane-length, written-right, written-read}
+use Rattle.plane.proofs.Exact.{AllBytes, read-written, read-fits}
+use Rattle.plane.proofs.Offset as Offset
+use Rattle.plane.proofs.Causes as PlaneCauses
+use Rattle.plane_write.proofs.Causes as Causes
+use Rattle.plane_write.proofs.Accepted.{shows, was-shaped, was-sound, was-written}
+use Rattle.plane_write.proofs.Shown.{Words, Sols, narrow, live-shown}
+use Rattle.plane_write.proofs.Bounded.{after-sols}
+
+-- ---- "The plane", in every format F
+
+-- wrong nowhere exactly if the bytes are those of a plane within the limits
+pub right-exactly : (F : Format) (p : List ℕ) → AllBytes p → (wrongAt F p ≡ Nowhere) ↔ OfPlane F p
+right-exactly F p b = (
+  λ e. record { plane = planeFrom F p; fits = read-fits F p e b; bytes = read-written F p e b },
+  λ o. rw (o .bytes) at (written-right F (o .plane) (o .fits)),
+)
+
+-- it is found wrong at an offset exactly if that is "the first byte of the first record that is cut, of a wrong kind, or with a value not
+-- allowed; or the first byte after kind 4"
+pub offset-exactly : (F : Format) (p : List ℕ) (at : ℕ) → (wrongAt F p ≡ At at) ↔ WrongOffset F p at
+offset-exactly = Offset.offset-exactly
+
+-- and nowhere exactly if no record is wrong and nothing follows
+pub nowhere-exactly : (F : Format) (p : List ℕ) → (wrongAt F p ≡ Nowhere) ↔ RightPlane F p
+nowhere-exactly = Offset.nowhere-exactly
+
+-- the plane that was written is read
+pub read-back : (F : Format) (P : Plane) → Fits F P → planeFrom F (planeBytes F P) ≡ P
+read-back = written-read
+
+-- "Length 10 + 66 × buckets + 10 × entries, so 142 to 5,930"
+pub length-is : (P : Plane) → Fits format1 P → length (planeBytes format1 P) ≡ 10 + 66 * (length (P .level1) + length (P .level2)) + 10 * length (P .base)
+length-is P h = plane-length format1 P h ∙ omega arith
+
+pub shortest : planeLength format1 2 0 ≡ 142
+shortest = refl
+
+pub longest : planeLength format1 (mostBuckets1 + mostBuckets2) baseLimit ≡ 5930
+longest = refl
+
+-- ---- "When a call is turned down"
+
+-- "each number given if and only if its cause is the first met", with what is returned with it, and 0 with what is returned if none is met:
+-- the lookup, 1, 2 and 10
+pub lookup-causes : (id p : List ℕ) → Exactly (lookupCauses id p) (lookupReturns id p) (lookupCall id p)
+lookup-causes = PlaneCauses.lookup-exactly
+
+-- the writer, 4, 5 and 9; the numbers of a table have 64 bits
+pub write-causes : (t out : List ℕ) → ((i : ℕ) → getD t i 0 < 2 ^ 64) → Exactly (writeCauses t out) (writeReturns t) (writeCall t out .answer)
+write-causes = Causes.write-exactly
+
+-- "Order is the table's order"
+pub lookup-order : (id p : List ℕ) → InOrder 0 (lookupCauses id p)
+lookup-order = PlaneCauses.lookup-order
+
+pub write-order : (t out : List ℕ) → InOrder 0 (writeCauses t out)
+write-order = Causes.write-order
+
+-- read for the last cause of each
+pub cause-10 : (id p : List ℕ) (at : ℕ)
+    → ((numberOf (lookupCall id p) ≡ 10) × (valueOf (lookupCall id p) ≡ at)) ↔ (NoneMet (wrongLength id ∷ wrongByte id ∷ []) × WrongOffset format1 p at)
+cause-10 id p = number-exactly (wrongLength id ∷ wrongByte id ∷ []) (wrongPlane format1 p) [] (lookupReturns id p) (lookupCall id p) (lookup-order id p) (lookup-causes id p)
+
+pub cause-9 : (t out : List ℕ) → ((i : ℕ) → getD t i 0 < 2 ^ 64) → (v : ℕ)
+    → ((numberOf (writeCall t out .answer) ≡ 9) × (valueOf (writeCall t out .answer) ≡ v)) ↔ (NoneMet (wrongTable t ∷ notSound t ∷ []) × ((length out < lengthNeeded t) × (v ≡ lengthNeeded t)))
+cause-9 t out b = number-exactly (wrongTable t ∷ notSound t ∷ []) (shortOutput t out) [] (writeReturns t) (writeCall t out .answer) (write-order t out) (write-causes t out b)
+
+-- "Kept as it was": the output
+pub refused-keeps : (t out : List ℕ) → accepted (writeCall t out .answer) ≡ false → writeCall t out .output ≡ out
+refused-keeps = Causes.refused-keeps
+
+-- ---- statement 2, the plane's half
+
+module _ (t out : List ℕ) (n : ℕ) (e : writeCall t out .answer ≡ Accepted n) where
+  gives : Sols (tableOf t) → FlatSound t → (id : List ℕ) → lookupCall id (take n (writeCall t out .output)) ≡ shownTo (tableOf t) (readOf id)
+  gives s h id = ap (lookupCall id) (was-written t out n e) ∙ shows t s (was-shaped t out n e .0) h id
+
+  module _ (w : Words t) where
+    -- written from a table, whose numbers have 64 bits, and read again, the plane gives for each identifier, live or not, the answer of
+    -- the table's own XOR words or base list
+    pub statement-2 : (id : List ℕ) → lookupCall id (take n (writeCall t out .output)) ≡ shownTo (tableOf t) (readOf id)
+    statement-2 = gives (narrow rows format1 t w) (sound-exactly t (was-shaped t out n e .0) w .0 (was-sound t out n e .0))
+
+    -- so a live identifier gets its word's plan
+    pub live-plan : (id : List ℕ) (v p : ℕ) → readOf id ≡ Word v → planIn t v ≡ some p → lookupCall id (take n (writeCall t out .output)) ≡ Accepted p
+    live-plan id v p i h = statement-2 id ∙ ap (shownTo (tableOf t)) i ∙ ap Accepted (live-shown rows solutions (tableOf t) v p h)
+
+-- after any list of calls
+module _ (t : List ℕ) (o : Opened t) (ps : List Put) (out : List ℕ) (n : ℕ) (e : writeCall (after tables t ps) out .answer ≡ Accepted n) where
+  pub list-gives : (id : List ℕ) → lookupCall id (take n (writeCall (after tables t ps) out .output)) ≡ shownTo (tableOf (after tables t ps)) (readOf id)
+  list-gives = gives (after tables t ps) out n e (after-sols t o ps) (always-sound t o ps .2)
+
+  -- every live identifier gets its word's last accepted plan from the plane
+  pub last-plan : (id : List ℕ) (v p : ℕ) → readOf id ≡ Word v → told v (acceptedCalls t ps) ≡ some p → lookupCall id (take n (writeCall (after tables t ps) out .output)) ≡ Accepted p
+  last-plan id v p i h =
+      list-gives id ∙ ap (shownTo (tableOf (after tables t ps))) i
+      ∙ ap Accepted (live-shown rows solutions (tableOf (after tables t ps)) v p (plan t o ps v (rw (read-word id v .0 i .2) (word-lt id)) ∙ h))
+
+-- in a list of calls the writer meets no cause but 9
+pub list-writes : (t : List ℕ) → Opened t → (ps : List Put) (out : List ℕ)
+    → writeCall (after tables t ps) out ≡ putFront (planeBytes format1 (planeOf (tableOf (after tables t ps)))) out
+unfolding writeCall
+list-writes t o ps out = rw (always-sound t o ps .0, always-sound t o ps .1)
+
+-- so each number is given if and only if its cause is met
+pub list-write-causes : (t : List ℕ) → Opened t → (ps : List Put) (out : List ℕ)
+    → Exactly (shortOutput (after tables t ps) out ∷ []) (writeReturns (after tables t ps)) (writeCall (after tables t ps) out .answer)
+list-write-causes t o ps out = rw (list-writes t o ps out) (Causes.room-exactly (after tables t ps) out)

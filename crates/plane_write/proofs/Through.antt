@@ -1,0 +1,107 @@
+-- The plane of a table as the writer goes through it: all buckets in one row, then the base pairs.
+-- Assumes nothing.
+use mathlib.Core.Path.{_≡_, refl, sym, ap, ap₂, _∙_}
+use mathlib.Core.List.{List, [], _∷_, _++_, map}
+use Prim.Native.Nat.{ℕ, zero, suc, _+_, _*_, _≤_, _<_}
+use native.Mathlib.Nat.{zero-add, not-suc-le-zero, le-of-suc-le-suc}
+use native.Mathlib.Omega.{arith}
+use borrow.Author.Tests.{lt-ltb, le-ltb}
+use lib.ListN.{length, getD, drop, length-map}
+use lib.Seq.{drop-drop}
+use Rattle.lists.specs.Entries.{Entry}
+use Rattle.answer.specs.declared.Answer.the-variants.{Accepted, ShortOutput}
+use Rattle.codec.specs.Parts.{written}
+use Rattle.codec.proofs.Part.{written-fits, written-append}
+use Rattle.bucket.specs.Bucket.{largestBound}
+use Rattle.bucket_words.specs.Words.{bucketWords}
+use Rattle.table.specs.Layout.{header, levelFrom, pairsFrom, bucketPlace, tableFrom}
+use Rattle.table.proofs.Numbers.{header-read}
+use Rattle.plane.specs.Record.{Format, readAll, PlaneBucket, headerRecord}
+use Rattle.plane.specs.Plane.{planeBytes, bucketsAt}
+use Rattle.plane.specs.Fits.{Every, FitsBucket, FitsEntry, Fits}
+use Rattle.plane_write.specs.Write.{seenOf, planeOf, inFront, putFront}
+use Rattle.plane_write.specs.Steps.{seenFrom, pairFrom, recordsOf}
+use Rattle.plane.proofs.Read.{length-readAll, getD-readAll, read-add}
+
+every-at : {A : Type 0} (P : A → Type 0) (d : A) (xs : List A) → Every P xs → (i : ℕ) → i < length xs → P (getD xs i d)
+every-at P d [] h i l = absurd (not-suc-le-zero l)
+every-at P d (x ∷ xs) h zero l = h .0
+every-at P d (x ∷ xs) h (suc i) l = every-at P d xs (h .1) i (le-of-suc-le-suc l)
+
+-- ---- read one after the other
+
+pairs-read : (k : ℕ) (xs : List ℕ) → pairsFrom k xs ≡ readAll 2 pairFrom k xs
+unfolding readAll
+pairs-read zero xs = refl
+pairs-read (suc k) xs = rw (pairs-read k (drop 2 xs))
+
+module _ (n : ℕ) (F : Format) where
+  abbrev r : ℕ
+  r = F .words
+
+  level-read : (m : ℕ) (xs : List ℕ) → map seenOf (levelFrom n r m xs) ≡ readAll (bucketWords n r) (seenFrom n r) m xs
+  unfolding readAll
+  level-read zero xs = refl
+  level-read (suc m) xs = rw (level-read m (drop (bucketWords n r) xs))
+
+  module _ (xs : List ℕ) where
+    abbrev b1 : ℕ
+    b1 = getD xs 0 0
+
+    abbrev b2 : ℕ
+    b2 = getD xs 1 0
+
+    abbrev k : ℕ
+    k = getD xs 2 0
+
+    levels-read : map seenOf (tableFrom n r xs .level1) ++ map seenOf (tableFrom n r xs .level2) ≡ readAll (bucketWords n r) (seenFrom n r) (b1 + b2) (drop header xs)
+    unfolding tableFrom
+    levels-read =
+        let zero-place : bucketPlace n r 0 ≡ header = omega arith in
+        ap₂ (λ (x y : List PlaneBucket). x ++ y) (level-read b1 (drop (bucketPlace n r 0) xs) ∙ ap (λ (i : ℕ). readAll (bucketWords n r) (seenFrom n r) b1 (drop i xs)) zero-place)
+        (level-read b2 (drop (bucketPlace n r b1) xs) ∙ ap (readAll (bucketWords n r) (seenFrom n r) b2) (sym (drop-drop (b1 * bucketWords n r) header xs)))
+        ∙ sym (read-add (bucketWords n r) (seenFrom n r) b1 b2 (drop header xs))
+
+    base-read : tableFrom n r xs .base ≡ readAll 2 pairFrom k (drop (bucketPlace n r (b1 + b2)) xs)
+    unfolding tableFrom
+    base-read = pairs-read k (drop (bucketPlace n r (b1 + b2)) xs)
+
+    pub plane-bytes : planeBytes F (planeOf (tableFrom n r xs)) ≡ headerRecord F b1 b2 k ++ recordsOf n F (b1 + b2) k xs
+    unfolding planeBytes
+    plane-bytes =
+        rw (levels-read, length-map (tableFrom n r xs .level1) seenOf, length-map (tableFrom n r xs .level2) seenOf, header-read n r xs .0, header-read n r xs .1, header-read n r xs .2, base-read)
+
+    module _ (h : Fits F (planeOf (tableFrom n r xs))) where
+      -- each bound is a byte
+      pub bounds-low : (i : ℕ) → i < b1 + b2 → seenFrom n r (drop (i * bucketWords n r) (drop header xs)) .bound ≤ largestBound
+      bounds-low i l =
+          let d : PlaneBucket = record { bound = 0; sols = [] } in
+          let bs : List PlaneBucket = readAll (bucketWords n r) (seenFrom n r) (b1 + b2) (drop header xs) in
+          let e : FitsBucket F (getD bs i d) = every-at (FitsBucket F) d bs (rw levels-read at (h .buckets)) i (rw (length-readAll (bucketWords n r) (seenFrom n r) (b1 + b2) (drop header xs)) l) in
+          rw (getD-readAll (bucketWords n r) (seenFrom n r) (b1 + b2) i (drop header xs) d l) at (e .low)
+
+      pub plans-low : (i : ℕ) → i < k → pairFrom (drop (i * 2) (drop (bucketPlace n r (b1 + b2)) xs)) .plan < 256
+      plans-low i l =
+          let d : Entry = record { word = 0; plan = 0 } in
+          let es : List Entry = readAll 2 pairFrom k (drop (bucketPlace n r (b1 + b2)) xs) in
+          let e : FitsEntry (getD es i d) = every-at FitsEntry d es (rw base-read at (h .entries)) i (rw (length-readAll 2 pairFrom k (drop (bucketPlace n r (b1 + b2)) xs)) l) in
+          rw (getD-readAll 2 pairFrom k i (drop (bucketPlace n r (b1 + b2)) xs) d l) at (e .plan)
+
+-- the header, then the records, in front of an output with room for them
+pub front-put : (n : ℕ) (F : Format) (xs out o : List ℕ) → length (planeBytes F (planeOf (tableFrom n (F .words) xs))) ≤ length out
+    → o ≡ written bucketsAt (recordsOf n F (getD xs 0 0 + getD xs 1 0) (getD xs 2 0) xs) (written 0 (headerRecord F (getD xs 0 0) (getD xs 1 0) (getD xs 2 0)) out)
+    → o ≡ inFront (planeBytes F (planeOf (tableFrom n (F .words) xs))) out .output
+front-put n F xs out o h e =
+    e
+    ∙ sym (written-append 0 (headerRecord F (getD xs 0 0) (getD xs 1 0) (getD xs 2 0)) (recordsOf n F (getD xs 0 0 + getD xs 1 0) (getD xs 2 0) xs) out)
+    ∙ ap (λ (p : List ℕ). written 0 p out) (sym (plane-bytes n F xs))
+    ∙ written-fits 0 (planeBytes F (planeOf (tableFrom n (F .words) xs))) out (omega arith)
+    ∙ rw zero-add refl
+
+-- an output without room for the bytes, and one with room
+module _ (bytes out : List ℕ) (n : ℕ) (e : n ≡ length bytes) where
+  pub put-short : length out < n → (ShortOutput n ≡ putFront bytes out .answer) × (out ≡ putFront bytes out .output)
+  put-short h = rw (e, lt-ltb (length out) (length bytes) (rw e at h)) (refl, refl)
+
+  pub put-fits : (o : List ℕ) → n ≤ length out → o ≡ inFront bytes out .output → (Accepted n ≡ putFront bytes out .answer) × (o ≡ putFront bytes out .output)
+  put-fits o h f = rw (e, le-ltb (length out) (length bytes) (rw e at h)) (refl, f)

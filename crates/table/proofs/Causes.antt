@@ -1,0 +1,150 @@
+-- Opening and each call give each number if and only if its cause is the first met.
+-- Assumes nothing.
+use Prim.Native.Nat.{ℕ, suc, _^_, _<_}
+use mathlib.Core.Path.{_≡_, refl, sym, ap, _∙_, subst⁻¹}
+use mathlib.Core.Bool.{Bool, true, false, cond, true≢false, _&&_}
+use mathlib.Core.Logic.{_⊎_, inl, inr, ⊎-elim, _↔_}
+use mathlib.Core.Option.{Option, none, some}
+use mathlib.Core.List.{List, [], _∷_}
+use lib.Dec.{eqb, ltb, leb, lit<}
+use lib.ListN.{length, getD}
+use borrow.Author.Tests.{ltb-true, lt-ltb, leb-false, lt-leb, eqb-false, ne-eqb}
+use Rattle.lists.specs.Entries.{Entry, find, update, remove}
+use Rattle.lists.proofs.Entries.{insert-length, none≢some}
+use Rattle.lists.proofs.Tests.{cases, cond-true}
+use Rattle.answer.specs.declared.Answer.{Answer}
+use Rattle.answer.specs.declared.Answer.the-variants.{WrongTable, NotSound}
+use Rattle.answer.specs.Numbers.{numberOf, valueOf}
+use Rattle.answer.specs.Causes.{Cause, InOrder, Exactly}
+use Rattle.answer.proofs.Causes.{One, OneEach, one-value, one-if, Given, exactly, unless-met, if-met}
+use Rattle.identifier.specs.Identifier.{wordOf}
+use Rattle.identifier.specs.Causes.{wrongLength, wrongByte}
+use Rattle.identifier.specs.declared.Read.the-variants.{Word}
+use Rattle.identifier.proofs.Causes.{one-byte, identifier-given}
+use Rattle.identifier.proofs.Words.{word-lt}
+use Rattle.model.specs.Levels.{firstLevel, secondLevel}
+use Rattle.model.specs.Model as M
+use Rattle.model.specs.Model.{baseLimit, Call, add, change, withdraw, query, wouldLeave, base, stepAdd, stepLive, step}
+use Rattle.model.specs.Request.{Token, subject, askOf}
+use Rattle.table.specs.Layout.{leading, buckets1At, buckets2At, inRange, lengthOf}
+use Rattle.table.specs.Test.{shapeTest}
+use Rattle.table.specs.Calls.{rows, solutions, shaped, sound, FlatSound, Outcome, turnedDown, openCall, served, callRead, call}
+use Rattle.table.specs.History.{PlanFits, flatState}
+use Rattle.table.specs.Causes.{wrongRoom, Misshapen, wrongTable, notSound, LivePlan, notLive, openCauses, openReturns, wordCauses, callCauses, soundCauses, callReturns}
+use Rattle.table.proofs.Calls.{stands-test, served-match, sound-stands-flat, sound-exactly}
+
+-- ---- tests and what they say
+
+pub and-fails : (a b : Bool) {P Q : Type 0} → (a ≡ false) ↔ P → (b ≡ false) ↔ Q → ((a && b) ≡ false) ↔ (P ⊎ Q)
+and-fails true b p q = (λ e. inr (q .0 e), ⊎-elim (λ x. absurd (true≢false (p .1 x))) (q .1))
+and-fails false b p q = (λ e. inl (p .0 refl), λ x. refl)
+
+-- the test of the shape fails exactly if cause 4 is met
+pub shape-exactly : (t : List ℕ) → (shaped t ≡ false) ↔ Misshapen t
+unfolding shapeTest
+shape-exactly t =
+    and-fails (leb leading (length t)) _ (leb-false leading (length t), lt-leb leading (length t))
+    (and-fails (inRange (getD t buckets1At 0) (getD t buckets2At 0)) _ (λ e. e, λ e. e) (eqb-false _ _, ne-eqb _ _))
+
+-- the test of soundness fails exactly if cause 5 is met
+pub unsound-exactly : (t : List ℕ) → shaped t ≡ true → ((i : ℕ) → getD t i 0 < 2 ^ rows) → (sound t ≡ false) ↔ (FlatSound t → ⊥)
+unsound-exactly t k b =
+    let e = sound-exactly t k b in
+    (λ f h. true≢false (sym (e .1 h) ∙ f), λ f. cases (sound t) (λ h. absurd (f (e .0 h))) (λ h. h))
+
+-- causes 4 and 5 of a call that makes these two tests: x is what it does with a sound table
+pub table-given : (t : List ℕ) → ((i : ℕ) → getD t i 0 < 2 ^ rows) → {A : Type 0} (answer : A → Answer) (x y z : A) → answer y ≡ NotSound → answer z ≡ WrongTable (length t)
+    → (cs : List Cause) (returns : ℕ → Type 0) → (shaped t ≡ true → FlatSound t → Given cs returns (answer x))
+    → Given (wrongTable t ∷ notSound t ∷ cs) returns (answer (cond (shaped t) (cond (sound t) x y) z))
+table-given t b answer x y z five four cs returns g =
+    unless-met answer 4 (Misshapen t) (length t) (notSound t ∷ cs) returns (shaped t) (cond (sound t) x y) z (shape-exactly t) (ap numberOf four, ap valueOf four)
+    (λ k. unless-met answer 5 (FlatSound t → ⊥) 0 cs returns (sound t) x y (unsound-exactly t k b) (ap numberOf five, ap valueOf five)
+    (λ h. g k (sound-exactly t k b .0 h)))
+
+-- ---- opening
+
+abbrev answerOf : Outcome → Answer
+answerOf o = o .answer
+
+pub open-order : (b1 b2 : ℕ) (t : List ℕ) → InOrder 0 (openCauses b1 b2 t)
+open-order b1 b2 t = (lit< tt, (lit< tt, tt))
+
+pub open-exactly : (b1 b2 : ℕ) (t : List ℕ) → Exactly (openCauses b1 b2 t) openReturns (openCall b1 b2 t .answer)
+unfolding openCall
+open-exactly b1 b2 t =
+    exactly (openCauses b1 b2 t) openReturns (openCall b1 b2 t .answer) (one-if 3 _ 0, (one-if 4 _ (length t), one-value 0))
+    (unless-met answerOf 3 _ 0 (wrongRoom b1 b2 t ∷ []) openReturns (inRange b1 b2) _ _ (λ e. e, λ e. e) (refl, refl)
+    (λ r. unless-met answerOf 4 _ (length t) [] openReturns (eqb (length t) (lengthOf rows solutions b1 b2)) _ _ (eqb-false _ _, ne-eqb _ _) (refl, refl) (λ e. (refl, refl))))
+
+-- ---- the calls
+
+one-plan : (t i : List ℕ) → One (LivePlan t i)
+one-plan t i u v p q = cc
+
+one-each : (t : List ℕ) (c : Call Token) → OneEach (wordCauses t c) (callReturns t c)
+one-each t (add i p) = (one-plan t i, (one-if 8 _ 0, one-value (suc (length (flatState t .live)))))
+one-each t (change i p) = (one-if 7 _ 0, one-plan t i)
+one-each t (withdraw i) = (one-if 7 _ 0, one-plan t i)
+one-each t (query i) = (one-if 7 _ 0, one-plan t i)
+
+word-order : (t : List ℕ) (c : Call Token) → InOrder 5 (wordCauses t c)
+word-order t (add i p) = (lit< tt, (lit< tt, tt))
+word-order t (change i p) = (lit< tt, tt)
+word-order t (withdraw i) = (lit< tt, tt)
+word-order t (query i) = (lit< tt, tt)
+
+pub call-order : (t : List ℕ) (c : Call Token) → InOrder 0 (callCauses t c)
+call-order t c = (lit< tt, (lit< tt, (lit< tt, (lit< tt, word-order t c))))
+
+module _ (t : List ℕ) where
+  -- the model's answers by the word: change, withdrawal and query, which would leave the live words l
+  live-given : (i : List ℕ) (l : List Entry) (o : Option ℕ) → find (wordOf i) (flatState t .live) ≡ o
+      → Given (notLive t i ∷ []) (LivePlan t i) (stepLive (flatState t) l o .answer)
+  live-given i l (some p) e = inr (λ v m. m .0 p e, (refl, e))
+  live-given i l none e = inl (refl, ((λ p f. none≢some (sym e ∙ f)), refl))
+
+  -- add
+  add-given : (i : List ℕ) (p : ℕ) (o : Option ℕ) → find (wordOf i) (flatState t .live) ≡ o
+      → Given (wordCauses t (add i p)) (callReturns t (add i p)) (stepAdd firstLevel secondLevel (flatState t) (record { word = wordOf i; plan = p }) o .answer)
+  add-given i p (some q) e = inl (refl, e)
+  add-given i p none e =
+      inr (
+        λ q f. none≢some (sym e ∙ f),
+        if-met (λ (o : M.Outcome). o .answer) 8 _ 0 [] (callReturns t (add i p))
+            (ltb baseLimit (length (base firstLevel secondLevel (wouldLeave firstLevel secondLevel (flatState t) (record { word = wordOf i; plan = p }))))) _ _
+            (ltb-true baseLimit _, lt-ltb baseLimit _) (refl, refl) (λ f. (refl, insert-length _ (flatState t .live))),
+      )
+
+  step-given : (c : Call Token) → Given (wordCauses t c) (callReturns t c) (step firstLevel secondLevel (flatState t) (askOf (wordOf (subject c)) c) .answer)
+  step-given (add i p) = add-given i p (find (wordOf i) (flatState t .live)) refl
+  step-given (change i p) = live-given i (update (record { word = wordOf i; plan = p }) (flatState t .live)) (find (wordOf i) (flatState t .live)) refl
+  step-given (withdraw i) = live-given i (remove (wordOf i) (flatState t .live)) (find (wordOf i) (flatState t .live)) refl
+  step-given (query i) = live-given i (flatState t .live) (find (wordOf i) (flatState t .live)) refl
+
+  module _ (c : Call Token) (f : PlanFits c) where
+    -- a sound table answers as the model does
+    served-given : shaped t ≡ true → FlatSound t → Given (wordCauses t c) (callReturns t c) (served t (wordOf (subject c)) c .answer)
+    served-given k h =
+        subst⁻¹ (Given (wordCauses t c) (callReturns t c))
+        (served-match t (flatState t) (sound-stands-flat t k h) (wordOf (subject c)) (word-lt (subject c)) c f .says) (step-given c)
+
+    -- the causes cs after 1 and 2
+    by-read : (cs : List Cause) → OneEach cs (callReturns t c) → Given cs (callReturns t c) (callRead t c (Word (wordOf (subject c))) .answer)
+        → Exactly (wrongLength (subject c) ∷ wrongByte (subject c) ∷ cs) (callReturns t c) (call t c .answer)
+    unfolding call
+    by-read cs o g =
+        exactly (wrongLength (subject c) ∷ wrongByte (subject c) ∷ cs) (callReturns t c) (call t c .answer)
+        (one-if 1 _ (length (subject c)), (one-byte (subject c), o))
+        (identifier-given (subject c) answerOf (callRead t c) (λ a. refl) cs (callReturns t c) (λ e. g))
+
+    pub call-exactly : ((i : ℕ) → getD t i 0 < 2 ^ rows) → Exactly (callCauses t c) (callReturns t c) (call t c .answer)
+    call-exactly b =
+        by-read (wrongTable t ∷ notSound t ∷ wordCauses t c) (one-if 4 _ (length t), (one-if 5 _ 0, one-each t c))
+        (table-given t b answerOf (served t (wordOf (subject c)) c) (turnedDown NotSound t) (turnedDown (WrongTable (length t)) t) refl refl
+        (wordCauses t c) (callReturns t c) served-given)
+
+    -- a sound table meets neither 4 nor 5
+    pub sound-call : shaped t ≡ true → FlatSound t → Exactly (soundCauses t c) (callReturns t c) (call t c .answer)
+    sound-call k h =
+        by-read (wordCauses t c) (one-each t c)
+        (subst⁻¹ (λ (o : Outcome). Given (wordCauses t c) (callReturns t c) (o .answer)) (cond-true _ _ k ∙ cond-true _ _ (stands-test t (flatState t) (sound-stands-flat t k h))) (served-given k h))

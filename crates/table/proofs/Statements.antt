@@ -1,0 +1,262 @@
+-- The laws that others cite, each with the sentence of document 01 that it stands for; the files named prove them.
+-- t is the list of the table's numbers, `tableOf t` the table that it holds.
+-- Assumes nothing.
+use Prim.Native.Nat.{ℕ, _+_, _*_, _^_, _<_}
+use mathlib.Core.Path.{_≡_, ap, _∙_, sym, subst}
+use mathlib.Core.Bool.{true, false}
+use mathlib.Core.Logic.{_↔_}
+use mathlib.Core.Option.{none, some}
+use mathlib.Core.List.{List, _∷_, _++_, List·Permᴰ}
+use lib.ListN.{length, getD, set, take, drop}
+use Rattle.lists.specs.Entries.{Entry, words, find}
+use Rattle.gf2.specs.Bound.{Largest}
+use Rattle.hash.specs.Mix.{mixOf, unmixOf}
+use Rattle.answer.specs.declared.Answer.the-variants.{Accepted, NotLive, Full}
+use Rattle.answer.specs.Numbers.{numberOf, valueOf}
+use Rattle.answer.specs.Causes.{Cause, NoneMet, InOrder, Apart, Exactly}
+use Rattle.answer.proofs.Causes.{in-order-apart, number-exactly, accepted-exactly}
+use Rattle.identifier.specs.declared.Read.the-variants.{Word}
+use Rattle.bucket.specs.declared.Bucket.{Bucket}
+use Rattle.bucket_words.specs.Words.{bucketWords, wordsOf, bucketFrom}
+use Rattle.model.specs.Levels.{firstLevel, secondLevel, passed, due}
+use Rattle.model.specs.Model.{State, Call, add, query, opened, wouldLeave, base}
+use Rattle.model.specs.Request.{Token, wordFor, Request}
+use Rattle.model.specs.Machine.{accepted, after, answers, Alike, Refines}
+use Rattle.model.specs.History.{addsIn, withdrawalsIn, told}
+use Rattle.model.proofs.Statements as Model
+use Rattle.table.specs.Table.{Table, withFirst, withSecond, bounds, nth, addedTo}
+use Rattle.table.specs.Layout.{buckets1At, buckets2At, baseCountAt, liveCountAt, numbersOf, bucketPlace}
+use Rattle.table.specs.Content.{entriesOf}
+use Rattle.table.specs.AtOnce.{addedAtOnce}
+use Rattle.table.specs.Sound.{SoundTable}
+use Rattle.table.specs.Calls.{rows, solutions, tableOf, planIn, shaped, sound, FlatSound, openCall, queried, served, call}
+use Rattle.table.specs.History.{PlanFits, Put, request, tables, states, Opened, acceptedCalls, flatState, Same}
+use Rattle.table.specs.Causes.{openCauses, openReturns, callCauses, soundCauses, callReturns}
+use Rattle.table.proofs.Numbers as Numbers
+use Rattle.table.proofs.Numbers.{ShapedTable}
+use Rattle.table.proofs.AtOnce as AtOnce
+use Rattle.table.proofs.Calls as Calls
+use Rattle.table.proofs.Calls.{FlatStands}
+use Rattle.table.proofs.History as History
+use Rattle.table.proofs.Causes as Causes
+
+-- ---- the layout
+
+-- "Layout": a sound table's numbers give it back
+pub numbers-table : (T : Table) → SoundTable rows solutions mixOf unmixOf T → tableOf (numbersOf T) ≡ T
+numbers-table T h = Numbers.back rows solutions T (Calls.sound-shaped T h)
+
+-- and sound numbers are those of their table: nothing else is kept
+pub table-numbers : (t : List ℕ) → shaped t ≡ true → FlatSound t → numbersOf (tableOf t) ≡ t
+table-numbers t k h = Numbers.forth rows solutions t (Calls.sound-laid t k h)
+
+-- the header: buckets of level 1, of level 2, base count, live count
+pub header-read : (t : List ℕ) → (length (tableOf t .level1) ≡ getD t buckets1At 0) × (length (tableOf t .level2) ≡ getD t buckets2At 0) × (length (tableOf t .base) ≡ getD t baseCountAt 0) × (tableOf t .count ≡ getD t liveCountAt 0)
+header-read = Numbers.header-read rows solutions
+
+-- "74 per bucket, level 1 first": bucket i is read from its own stretch
+pub read-first : (t : List ℕ) (i : ℕ) → i < getD t buckets1At 0
+    → nth rows solutions (tableOf t .level1) i ≡ bucketFrom rows solutions (take (bucketWords rows solutions) (drop (bucketPlace rows solutions i) t))
+read-first t i l = Numbers.read-first rows solutions t i l ∙ sym (Numbers.from-part rows solutions (drop (bucketPlace rows solutions i) t))
+
+pub read-second : (t : List ℕ) (i : ℕ) → i < getD t buckets2At 0
+    → nth rows solutions (tableOf t .level2) i ≡ bucketFrom rows solutions (take (bucketWords rows solutions) (drop (bucketPlace rows solutions (getD t buckets1At 0 + i)) t))
+read-second t i l = Numbers.read-second rows solutions t i l ∙ sym (Numbers.from-part rows solutions (drop (bucketPlace rows solutions (getD t buckets1At 0 + i)) t))
+
+-- base pair i
+pub read-base : (t : List ℕ) (i : ℕ) (d : Entry) → i < getD t baseCountAt 0
+    → getD (tableOf t .base) i d
+    ≡ record {
+      word = getD (drop (bucketPlace rows solutions (getD t buckets1At 0 + getD t buckets2At 0)) t) (2 * i) 0;
+      plan = getD (drop (bucketPlace rows solutions (getD t buckets1At 0 + getD t buckets2At 0)) t) (2 * i + 1) 0;
+    }
+read-base = Numbers.read-base rows solutions
+
+module _ (T : Table) (h : ShapedTable rows solutions T) where
+  -- "lends only the touched bucket's stretch of the table": one bucket replaced is its stretch replaced
+  pub write-first : (i : ℕ) (b : Bucket) → i < length (T .level1)
+      → numbersOf (withFirst T (set (T .level1) i b))
+      ≡ take (bucketPlace rows solutions i) (numbersOf T) ++ (wordsOf b ++ drop (bucketPlace rows solutions i + bucketWords rows solutions) (numbersOf T))
+  write-first = Numbers.write-first rows solutions T h
+
+  pub write-second : (i : ℕ) (b : Bucket) → i < length (T .level2)
+      → numbersOf (withSecond T (set (T .level2) i b))
+      ≡ take (bucketPlace rows solutions (length (T .level1) + i)) (numbersOf T)
+      ++ (wordsOf b ++ drop (bucketPlace rows solutions (length (T .level1) + i) + bucketWords rows solutions) (numbersOf T))
+  write-second = Numbers.write-second rows solutions T h
+
+-- ---- "An add goes to the place its word is due .. each withdrawn and added with its plan one level further"
+
+-- handing each word on at once, as the document does, leaves the table of `addedTo`
+pub document-order : (T : Table) (e : Entry) → addedAtOnce rows solutions mixOf T e ≡ addedTo rows solutions mixOf T e
+document-order = AtOnce.at-once rows solutions mixOf
+
+-- ---- "Sound"
+
+-- the test that the calls make says true exactly of sound tables; the numbers of a table have 64 bits
+pub sound-exactly : (t : List ℕ) → shaped t ≡ true → ((i : ℕ) → getD t i 0 < 2 ^ 64) → (sound t ≡ true) ↔ FlatSound t
+sound-exactly = Calls.sound-exactly
+
+-- ---- "When a call is turned down"
+
+-- "each number given if and only if its cause is the first met", with what is returned with it, and 0 with what is returned if none is met;
+-- specs/Causes lists the causes of opening and of the calls, each in the document's words
+pub open-causes : (b1 b2 : ℕ) (t : List ℕ) → Exactly (openCauses b1 b2 t) openReturns (openCall b1 b2 t .answer)
+open-causes = Causes.open-exactly
+
+-- the numbers of a table have 64 bits; the plan of a call is a byte
+module _ (t : List ℕ) (b : (i : ℕ) → getD t i 0 < 2 ^ 64) (c : Call Token) (f : PlanFits c) where
+  pub call-causes : Exactly (callCauses t c) (callReturns t c) (call t c .answer)
+  call-causes = Causes.call-exactly t c f b
+
+  -- read for one cause x: the call gives its number, with v, exactly if x is met with v and no cause before it is met
+  pub call-cause : (before : List Cause) (x : Cause) (after : List Cause) → callCauses t c ≡ before ++ (x ∷ after) → (v : ℕ)
+      → ((numberOf (call t c .answer) ≡ x .number) × (valueOf (call t c .answer) ≡ v)) ↔ (NoneMet before × x .met v)
+  call-cause before x after e =
+      number-exactly before x after (callReturns t c) (call t c .answer) (subst Apart e (in-order-apart 0 (callCauses t c) (Causes.call-order t c)))
+      (subst (λ (cs : List Cause). Exactly cs (callReturns t c) (call t c .answer)) e call-causes)
+
+  -- "A call is accepted if it meets no cause"
+  pub call-accepted : (v : ℕ)
+      → ((numberOf (call t c .answer) ≡ 0) × (valueOf (call t c .answer) ≡ v)) ↔ (NoneMet (callCauses t c) × callReturns t c v)
+  call-accepted = accepted-exactly (callCauses t c) (callReturns t c) (call t c .answer) (in-order-apart 0 (callCauses t c) (Causes.call-order t c)) call-causes
+
+-- "Order is the table's order"
+pub open-order : (b1 b2 : ℕ) (t : List ℕ) → InOrder 0 (openCauses b1 b2 t)
+open-order = Causes.open-order
+
+pub call-order : (t : List ℕ) (c : Call Token) → InOrder 0 (callCauses t c)
+call-order = Causes.call-order
+
+-- a call that meets none of 1, 2, 4 and 5 does what `served` says
+pub causes-else : (t : List ℕ) (c : Call Token) (w : ℕ) → wordFor c ≡ Word w → shaped t ≡ true → sound t ≡ true → call t c ≡ served t w c
+causes-else = History.by-word
+
+-- "Kept as it was"
+pub refused-keeps : (t : List ℕ) (q : Request) → accepted (request t q .answer) ≡ false → request t q .table ≡ t
+refused-keeps = History.request-refused
+
+pub refused-opening : (b1 b2 : ℕ) (t : List ℕ) → accepted (openCall b1 b2 t .answer) ≡ false → openCall b1 b2 t .table ≡ t
+refused-opening = History.open-refused
+
+-- ---- the link to the model: FlatStands t s says that the numbers t stand for the state s (Calls)
+
+-- "Opening sets each bound to 8": what an accepted opening left stands for the opened state
+pub opening-stands : (t : List ℕ) (o : Opened t) → FlatStands t (opened (o .size))
+opening-stands = History.opened-stands
+
+-- each call answers as the model does, and leaves a table that stands for the state that the model comes to
+pub refines : Refines tables states FlatStands
+refines = History.refines
+
+-- a table that stands for a state is sound
+pub stands-sound : (t : List ℕ) (s : State) → FlatStands t s → (shaped t ≡ true) × (sound t ≡ true) × FlatSound t
+stands-sound t s h = (h .shape, Calls.stands-test t s h, Calls.stands-flat t s h)
+
+-- every sound table stands for a state: the one that its occupied rows, base entries and bounds show
+pub sound-stands : (t : List ℕ) → shaped t ≡ true → FlatSound t → FlatStands t (flatState t)
+sound-stands = Calls.sound-stands-flat
+
+-- and for no other
+pub stands-one : (t : List ℕ) (s : State) → FlatStands t s → flatState t ≡ s
+stands-one = Calls.stands-shows
+
+-- so a call for a word of 64 bits leaves a sound table sound
+pub served-sound : (t : List ℕ) → shaped t ≡ true → FlatSound t → (w : ℕ) → w < 2 ^ 64 → (c : Call Token) → PlanFits c
+    → (shaped (served t w c .table) ≡ true) × FlatSound (served t w c .table)
+served-sound t k h w l c f =
+    let m = Calls.served-match t (flatState t) (sound-stands t k h) w l c f in
+    (m .stands .shape, Calls.stands-flat (served t w c .table) _ (m .stands))
+
+-- ---- sound tables, also those handed in from elsewhere
+
+module _ (t : List ℕ) (k : shaped t ≡ true) (h : FlatSound t) where
+  -- "In a sound table handed in from elsewhere the live words are those of its occupied rows and base entries"
+  pub live-entries : List·Permᴰ (entriesOf rows unmixOf (tableOf t)) (flatState t .live)
+  live-entries = History.sound-entries t k h
+
+  -- the three tests find the plan of a live word, and nothing for any other
+  pub live-plans : (w : ℕ) → w < 2 ^ 64 → planIn t w ≡ find w (flatState t .live)
+  live-plans = History.sound-look t k h
+
+  -- "live count = occupied rows + base count"
+  pub live-count : getD t liveCountAt 0 ≡ length (flatState t .live)
+  live-count = History.sound-count t k h
+
+  -- "query the plan", and 7 where the word is not live
+  pub query-live : (i : Token) (w p : ℕ) → wordFor (query i) ≡ Word w → find w (flatState t .live) ≡ some p → call t (query i) ≡ record { answer = Accepted p; table = t }
+  query-live i w p e f = History.query-is t k h i w e ∙ ap (queried t) f
+
+  pub query-other : (i : Token) (w : ℕ) → wordFor (query i) ≡ Word w → find w (flatState t .live) ≡ none → call t (query i) ≡ record { answer = NotLive; table = t }
+  query-other i w e f = History.query-is t k h i w e ∙ ap (queried t) f
+
+  module _ (i : Token) (p : ℕ) (l : p < 256) where
+    -- statement 3, the rule of the bounds: after an accepted add each is the largest number, not above the old one, under which no
+    -- non-empty selection of the words due there XORs to zero; first level
+    pub bounds-first : accepted (call t (add i p) .answer) ≡ true → (j : ℕ) → j < flatState t .size .buckets1
+        → Largest (getD (flatState t .bounds1) j 0)
+        (due firstLevel (flatState t .size .buckets1) (words (flatState (call t (add i p) .table) .live)) j)
+        (getD (flatState (call t (add i p) .table) .bounds1) j 0)
+    bounds-first = History.rule-first t k h i p l
+
+    -- then the second, where the words are due that the first does not hold now
+    pub bounds-second : accepted (call t (add i p) .answer) ≡ true → (j : ℕ) → j < flatState t .size .buckets2
+        → Largest (getD (flatState t .bounds2) j 0)
+        (due secondLevel (flatState t .size .buckets2)
+        (passed firstLevel (flatState t .size .buckets1) (flatState (call t (add i p) .table) .bounds1) (words (flatState (call t (add i p) .table) .live))) j)
+        (getD (flatState (call t (add i p) .table) .bounds2) j 0)
+    bounds-second = History.rule-second t k h i p l
+
+    -- statement 3, the rule of the base list: refused as full exactly when more than 64 words would fall to the base list under the bounds
+    -- that the add would so leave
+    pub full-exactly : (w : ℕ) → wordFor (add i p) ≡ Word w → find w (flatState t .live) ≡ none
+        → (call t (add i p) .answer ≡ Full) ↔ (64 < length (base firstLevel secondLevel (wouldLeave firstLevel secondLevel (flatState t) (record { word = w; plan = p }))))
+    full-exactly = History.rule-full t k h i p l
+
+-- ---- "A list of calls": t is what an accepted opening left, ps any requests, refused ones included
+
+-- statement 3, the claim about lists: where two tables are then equal in bucket numbers, live words, plans and bounds, each further
+-- request of every list gets the same answer from both, and they are equal in these again after each
+pub statement-3 : (t u : List ℕ) → Opened t → Opened u → (ps qs : List Put) → Same (after tables t ps) (after tables u qs)
+    → (cs : List Put) → Alike tables Same (after tables t ps) (after tables u qs) cs
+statement-3 t u o r = Model.statement-3 tables states FlatStands refines Same History.compares t u _ _ (opening-stands t o) (opening-stands u r)
+
+module _ (t : List ℕ) (o : Opened t) (ps : List Put) where
+  -- "So the opening and these calls alone settle every answer and bound"
+  pub settles : (answers tables t ps ≡ answers states (opened (o .size)) ps)
+      × (flatState (after tables t ps) ≡ after states (opened (o .size)) ps)
+  settles =
+      let r = Model.settles tables states FlatStands refines t (opened (o .size)) (opening-stands t o) ps in
+      (r .0, stands-one (after tables t ps) _ (r .1))
+
+  -- "the table itself never gives cause 4 or 5 in a list": it is sound after each call
+  pub always-sound : (shaped (after tables t ps) ≡ true) × (sound (after tables t ps) ≡ true) × FlatSound (after tables t ps)
+  always-sound = stands-sound (after tables t ps) _ (History.after-stands t o ps)
+
+  pub never-4-5 : (p : Put) → (numberOf (request (after tables t ps) (p .request) .answer) ≡ 4 → ⊥) × (numberOf (request (after tables t ps) (p .request) .answer) ≡ 5 → ⊥)
+  never-4-5 = History.never t o ps
+
+  -- so the answer to each further call is that of the first cause met, of 1, 2 and those of its word
+  pub list-causes : (c : Call Token) → PlanFits c → Exactly (soundCauses (after tables t ps) c) (callReturns (after tables t ps) c) (call (after tables t ps) c .answer)
+  list-causes c f = Causes.sound-call (after tables t ps) c f (always-sound .0) (always-sound .2)
+
+  -- "After each call its occupied rows and base entries hold just the live words, and its stored bounds are these": the model's
+  pub holds-live : List·Permᴰ (entriesOf rows unmixOf (tableOf (after tables t ps))) (after states (opened (o .size)) ps .live)
+  holds-live = Calls.stands-entries (after tables t ps) _ (History.after-stands t o ps)
+
+  pub stored-bounds : (bounds (tableOf (after tables t ps) .level1) ≡ after states (opened (o .size)) ps .bounds1)
+      × (bounds (tableOf (after tables t ps) .level2) ≡ after states (opened (o .size)) ps .bounds2)
+  stored-bounds = let h = History.after-stands t o ps in (h .stands .bounds1, h .stands .bounds2)
+
+  -- "The live count equals accepted adds less accepted withdrawals since opening"
+  pub count : getD (after tables t ps) liveCountAt 0 + withdrawalsIn (acceptedCalls t ps) ≡ addsIn (acceptedCalls t ps)
+  count = History.count-after-all t o ps
+
+  -- statement 2, the table's half: a word is live if, of its accepted adds and withdrawals, the last is an add; its plan is that of its last
+  -- accepted add or change; every other word is not live
+  pub plan : (v : ℕ) → v < 2 ^ 64 → planIn (after tables t ps) v ≡ told v (acceptedCalls t ps)
+  plan = History.plan-after t o ps
+
+  -- so a query of an identifier gives the last accepted plan of its word (`queried`: Accepted), or says that it is not live
+  pub query-tells : (i : Token) (w : ℕ) → wordFor (query i) ≡ Word w → call (after tables t ps) (query i) ≡ queried (after tables t ps) (told w (acceptedCalls t ps))
+  query-tells = History.query-after t o ps

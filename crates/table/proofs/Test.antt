@@ -1,0 +1,277 @@
+-- The test says true exactly of sound tables, in numbers that have the length of the layout and are below 2 ^ n.
+-- Assumes nothing.
+use Prim.Native.Nat.{ℕ, zero, suc, _+_, _*_, _^_, _≤_, _<_}
+use native.Mathlib.Nat.{not-suc-le-zero, le-of-suc-le-suc, add-mul, add-zero, zero-add}
+use native.Mathlib.Omega.{arith}
+use mathlib.Core.Path.{_≡_, refl, sym, ap, _∙_, subst, subst⁻¹}
+use mathlib.Core.Bool.{Bool, true, not, _&&_, true≢false}
+use mathlib.Core.Logic.{inl, inr, ⊎-elim}
+use mathlib.Core.List.{List, [], _∷_, List·Memᴰ, List·Memᴰ·head, List·Memᴰ·tail, List·Memᴰ·not-nil, List·Memᴰ·cases-cons}
+use lib.Dec.{T, eqb, ltb, leb, eqb→eq}
+use lib.ListN.{length, getD, take, drop, length-drop}
+use lib.Pow.{pow-pos}
+use lib.Seq.{getD-drop}
+use borrow.Author.Tests.{eqb-true, eq-eqb, ltb-true, lt-ltb, leb-true, le-leb, not-true}
+use Rattle.lists.specs.Entries.{Entry, Above, Ascending, planLimit}
+use Rattle.lists.proofs.Tests.{true→T, T→true, and-one, and-two, and-both, or-l, or-r, or-cases}
+use Rattle.lists.proofs.Entries.{above-up}
+use Rattle.gf2.specs.Select.{elem, chosen}
+use Rattle.gf2.proofs.Chosen.{Row, elem→row}
+use Rattle.bucket_rows.specs.declared.Rows.{Rows}
+use Rattle.bucket_rows.specs.Exact.{FoundFree}
+use Rattle.bucket_rows.specs.Elimination.{soundRows}
+use Rattle.bucket_rows.proofs.Exact.{decides-free, found-is}
+use Rattle.bucket.specs.declared.Bucket.{Bucket}
+use Rattle.bucket.specs.Bucket.{Sound, largestBound, live}
+use Rattle.bucket_words.specs.Words.{bucketWords, bucketFrom, Shaped}
+use Rattle.bucket.proofs.Steps.{live-test}
+use Rattle.bucket_words.proofs.Words.{from-shaped}
+use Rattle.bucket_settle.specs.Settle.{SoundBucket}
+use Rattle.model.specs.Model.{baseLimit}
+use Rattle.table.specs.Table.{Table, thr, index, nth, holds}
+use Rattle.table.specs.Layout.{buckets1At, buckets2At, baseCountAt, header, baseNumbers, pairsFrom, levelFrom, bucketPlace, tableFrom, lengthOf, unusedIn}
+use Rattle.table.specs.Sound as D
+use Rattle.table.specs.Sound.{SoundTable, FlatSound}
+use Rattle.table.specs.Test.{allOf, before, ascends, bucketTest, levelTest, row1, row2, row0, tableTest, soundTest}
+use Rattle.table.proofs.Numbers.{length-levelFrom}
+
+-- ---- tests one after the other
+
+all-out : {A : Type 0} (p : A → Bool) (xs : List A) → allOf p xs ≡ true → (x : A) → List·Memᴰ x xs → p x ≡ true
+all-out p [] t x m = absurd (List·Memᴰ·not-nil m)
+all-out p (y ∷ ys) t x m = ⊎-elim (λ (e : x ≡ y). ap p e ∙ and-one (p y) _ t) (all-out p ys (and-two (p y) _ t) x) (List·Memᴰ·cases-cons m)
+
+all-in : {A : Type 0} (p : A → Bool) (xs : List A) → ((x : A) → List·Memᴰ x xs → p x ≡ true) → allOf p xs ≡ true
+all-in p [] h = refl
+all-in p (y ∷ ys) h = and-both (h y (List·Memᴰ·head refl)) (all-in p ys (λ x m. h x (List·Memᴰ·tail m)))
+
+-- the same of numbers, by whether the list has them
+elem-out : (p : ℕ → Bool) (xs : List ℕ) → allOf p xs ≡ true → (x : ℕ) → elem x xs ≡ true → p x ≡ true
+elem-out p [] t x e = absurd (true≢false (sym e))
+elem-out p (y ∷ ys) t x e =
+    ⊎-elim (λ a. ap p (eqb→eq x y a) ∙ and-one (p y) _ t) (λ b. elem-out p ys (and-two (p y) _ t) x (T→true _ b)) (or-cases (eqb x y) (elem x ys) (true→T e))
+
+elem-in : (p : ℕ → Bool) (xs : List ℕ) → ((x : ℕ) → T (elem x xs) → p x ≡ true) → allOf p xs ≡ true
+elem-in p [] h = refl
+elem-in p (y ∷ ys) h = and-both (h y (or-l (eqb y y) (elem y ys) (true→T (eq-eqb y y refl)))) (elem-in p ys (λ x m. h x (or-r (eqb x y) (elem x ys) m)))
+
+-- and of the numbers at all places
+zeros-out : (xs : List ℕ) → allOf (λ x. eqb x 0) xs ≡ true → (i : ℕ) → getD xs i 0 ≡ 0
+zeros-out [] t i = refl
+zeros-out (x ∷ xs) t zero = eqb-true x 0 (and-one (eqb x 0) _ t)
+zeros-out (x ∷ xs) t (suc i) = zeros-out xs (and-two (eqb x 0) _ t) i
+
+zeros-in : (xs : List ℕ) → ((i : ℕ) → getD xs i 0 ≡ 0) → allOf (λ x. eqb x 0) xs ≡ true
+zeros-in [] h = refl
+zeros-in (x ∷ xs) h = and-both (eq-eqb x 0 (h 0)) (zeros-in xs (λ i. h (suc i)))
+
+ascends-out : (es : List Entry) → ascends es ≡ true → Ascending es
+ascends-out [] t = tt
+ascends-out (e ∷ es) t = (go es (and-one (before (e .word) es) _ t) (ascends-out es (and-two (before (e .word) es) _ t)), ascends-out es (and-two (before (e .word) es) _ t))
+  where
+    go : (xs : List Entry) → before (e .word) xs ≡ true → Ascending xs → Above (e .word) xs
+    go [] b a = tt
+    go (x ∷ xs) b a = let l = ltb-true (e .word) (x .word) b in (l, above-up l xs (a .0))
+
+ascends-in : (es : List Entry) → Ascending es → ascends es ≡ true
+ascends-in [] a = refl
+ascends-in (e ∷ es) a = and-both (go es (a .0)) (ascends-in es (a .1))
+  where
+    go : (xs : List Entry) → Above (e .word) xs → before (e .word) xs ≡ true
+    go [] b = refl
+    go (x ∷ xs) b = lt-ltb (e .word) (x .word) (b .0)
+
+-- ---- one bucket
+
+-- its numbers are as many as they should be, and have n bits
+pub record Ranged (n r : ℕ) (b : Bucket) : Type 0 where
+  pub shaped : Shaped n r b
+  pub cols-lt : (j : ℕ) → getD (b .cols) j 0 < 2 ^ n
+  pub mark-lt : b .mark < 2 ^ n
+
+-- each of its live vectors passes
+abbrev Each : ℕ → (ℕ → Bool) → Bucket → Type 0
+Each n row b = (v : ℕ) → v < 2 ^ n → live n v b ≡ true → row v ≡ true
+
+bucket-out : (n r : ℕ) (row : ℕ → Bool) (b : Bucket) → Ranged n r b → bucketTest n row b ≡ true → SoundBucket n r b × Each n row b
+unfolding bucketTest
+bucket-out n r row b h t = go (decides-free n (b .mark) (b .cols) (h .shaped .cols) (h .cols-lt))
+  where
+    f : Rows
+    f = soundRows n (b .mark) (b .cols)
+
+    u : (f .ok && allOf row (chosen (b .mark) (f .rows))) ≡ true
+    u = and-two (leb (b .bound) largestBound) _ t
+
+    go : FoundFree n (b .mark) (b .cols) f → SoundBucket n r b × Each n row b
+    go (inl k) =
+        let sound : Sound n (f .rows) b = record { inverse = k .1 .inverse; free = k .1 .free; mark-lt = h .mark-lt } in (
+          record { matrix = f .rows; sound = sound; wide = h .shaped .sols; low = leb-true (b .bound) largestBound (and-one (leb (b .bound) largestBound) _ t) },
+          λ v l e. elem-out row (chosen (b .mark) (f .rows)) (and-two (f .ok) _ u) v (sym (live-test n (f .rows) b sound v l) ∙ e),
+        )
+    go (inr k) = absurd (true≢false (sym (and-one (f .ok) _ u) ∙ k .0))
+
+bucket-in : (n r : ℕ) (row : ℕ → Bool) (b : Bucket) → SoundBucket n r b → Each n row b → bucketTest n row b ≡ true
+unfolding bucketTest Row
+bucket-in n r row b h each =
+    and-both (le-leb (b .bound) largestBound (h .low))
+    (subst⁻¹ (λ (f : Rows). (f .ok && allOf row (chosen (b .mark) (f .rows))) ≡ true)
+    (found-is n (b .mark) (b .cols) (h .matrix) (record { inverse = h .sound .inverse; free = h .sound .free }))
+    (elem-in row (chosen (b .mark) (h .matrix)) (λ v m.
+    let q = elem→row v (b .mark) (h .matrix) m in
+    let l : v < 2 ^ n = subst (λ (x : ℕ). x < 2 ^ n) (q .3) (h .sound .inverse .rows-lt (q .0)) in
+    each v l (live-test n (h .matrix) b (h .sound) v l ∙ T→true _ m))))
+
+-- ---- a level
+
+level-out : (n r : ℕ) (row : ℕ → Bucket → ℕ → Bool) (i : ℕ) (bs : List Bucket) → ((j : ℕ) → j < length bs → Ranged n r (nth n r bs j)) → levelTest n row i bs ≡ true
+    → (j : ℕ) → j < length bs → SoundBucket n r (nth n r bs j) × Each n (row (i + j) (nth n r bs j)) (nth n r bs j)
+level-out n r row i [] h t j l = absurd (not-suc-le-zero l)
+level-out n r row i (b ∷ bs) h t zero l =
+    subst⁻¹ (λ (k : ℕ). SoundBucket n r b × Each n (row k b) b) (add-zero i) (bucket-out n r (row i b) b (h 0 (omega arith)) (and-one (bucketTest n (row i b) b) _ t))
+level-out n r row i (b ∷ bs) h t (suc j) l =
+    let e : i + suc j ≡ suc i + j = omega arith in
+    subst⁻¹ (λ (k : ℕ). SoundBucket n r (nth n r bs j) × Each n (row k (nth n r bs j)) (nth n r bs j)) e
+    (level-out n r row (suc i) bs (λ k m. h (suc k) (omega arith)) (and-two (bucketTest n (row i b) b) _ t) j (le-of-suc-le-suc l))
+
+level-in : (n r : ℕ) (row : ℕ → Bucket → ℕ → Bool) (i : ℕ) (bs : List Bucket)
+    → ((j : ℕ) → j < length bs → SoundBucket n r (nth n r bs j) × Each n (row (i + j) (nth n r bs j)) (nth n r bs j)) → levelTest n row i bs ≡ true
+level-in n r row i [] h = refl
+level-in n r row i (b ∷ bs) h =
+    let q = subst (λ (k : ℕ). SoundBucket n r b × Each n (row k b) b) (add-zero i) (h 0 (omega arith)) in
+    and-both (bucket-in n r (row i b) b (q .0) (q .1))
+    (level-in n r row (suc i) bs (λ j l.
+    let e : i + suc j ≡ suc i + j = omega arith in
+    subst (λ (k : ℕ). SoundBucket n r (nth n r bs j) × Each n (row k (nth n r bs j)) (nth n r bs j)) e (h (suc j) (omega arith))))
+
+-- ---- the whole table
+
+module _ (n r : ℕ) (S U : ℕ → ℕ) (T : Table) where
+  abbrev b1 : ℕ → Bucket
+  b1 = nth n r (T .level1)
+
+  abbrev b2 : ℕ → Bucket
+  b2 = nth n r (T .level2)
+
+  module _ (some1 : 0 < length (T .level1)) (some2 : 0 < length (T .level2)) (first : (i : ℕ) → i < length (T .level1) → Ranged n r (b1 i))
+      (second : (i : ℕ) → i < length (T .level2) → Ranged n r (b2 i)) (words : (e : Entry) → List·Memᴰ e (T .base) → e .word < 2 ^ n) where
+    table-out : tableTest n r S U T ≡ true → SoundTable n r S U T
+    table-out t0 =
+        let t1 = and-two (leb (length (T .base)) baseLimit) _ t0 in
+        let t2 = and-two (eqb (T .count) _) _ t1 in
+        let t3 = and-two (levelTest n (row1 n r S U T) 0 (T .level1)) _ t2 in
+        let t4 = and-two (levelTest n (row2 n r S U T) 0 (T .level2)) _ t3 in
+        let l1 = level-out n r (row1 n r S U T) 0 (T .level1) first (and-one (levelTest n (row1 n r S U T) 0 (T .level1)) _ t2) in
+        let l2 = level-out n r (row2 n r S U T) 0 (T .level2) second (and-one (levelTest n (row2 n r S U T) 0 (T .level2)) _ t3) in
+        let q1 : (i v : ℕ) → D.Row n r (T .level1) i v → row1 n r S U T (0 + i) (b1 i) v ≡ true = (λ i v q. l1 i (q .bucket-lt) .1 v (q .vector-lt) (q .is-live)) in
+        let q2 : (i v : ℕ) → D.Row n r (T .level2) i v → row2 n r S U T (0 + i) (b2 i) v ≡ true = (λ i v q. l2 i (q .bucket-lt) .1 v (q .vector-lt) (q .is-live)) in
+        let q0 = all-out (row0 n r S U T) (T .base) (and-one (allOf (row0 n r S U T) (T .base)) _ t4) in
+        record {
+          fits = leb-true _ baseLimit (and-one (leb (length (T .base)) baseLimit) _ t0);
+          counts = eqb-true _ _ (and-one (eqb (T .count) _) _ t1);
+          level1 = record {
+            some = some1;
+            buckets = λ i l. l1 i l .0;
+            here = λ i v q. eqb-true _ _ (and-one (eqb (index S (length (T .level1)) v) (0 + i)) _ (q1 i v q)) ∙ zero-add i;
+            low = λ i v q. ltb-true _ _ (and-two (eqb (index S (length (T .level1)) v) (0 + i)) _ (q1 i v q));
+          };
+          level2 = record {
+            some = some2;
+            buckets = λ i l. l2 i l .0;
+            here = λ i v q. eqb-true _ _ (and-one (eqb (index S (length (T .level2)) v) (0 + i)) _ (q2 i v q)) ∙ zero-add i;
+            low = λ i v q. ltb-true _ _ (and-one (ltb (thr S v) (b2 i .bound)) _ (and-two (eqb (index S (length (T .level2)) v) (0 + i)) _ (q2 i v q)));
+          };
+          passed = λ i v q. not-true _ (and-two (ltb (thr S v) (b2 i .bound)) _ (and-two (eqb (index S (length (T .level2)) v) (0 + i)) _ (q2 i v q)));
+          base-words = λ e m.
+              let p = and-two (ltb (e .plan) planLimit) _ (q0 e m) in
+              (words e m, not-true _ (and-one (not (holds n r S (T .level2) (e .word))) _ p), not-true _ (and-two (not (holds n r S (T .level2) (e .word))) _ p));
+          base-plans = λ e m. ltb-true _ _ (and-one (ltb (e .plan) planLimit) _ (q0 e m));
+          ascending = ascends-out (T .base) (and-two (allOf (row0 n r S U T) (T .base)) _ t4);
+        }
+
+  table-in : SoundTable n r S U T → tableTest n r S U T ≡ true
+  table-in h =
+      and-both (le-leb _ baseLimit (h .fits)) (and-both (eq-eqb _ _ (h .counts))
+      (and-both (level-in n r (row1 n r S U T) 0 (T .level1) (λ j l. (
+        h .level1 .buckets j l,
+        λ v k t.
+            let q : D.Row n r (T .level1) j v = record { bucket-lt = l; vector-lt = k; is-live = t } in
+            and-both (eq-eqb _ _ (h .level1 .here j v q ∙ sym (zero-add j))) (lt-ltb _ _ (h .level1 .low j v q)),
+      )))
+      (and-both (level-in n r (row2 n r S U T) 0 (T .level2) (λ j l. (
+        h .level2 .buckets j l,
+        λ v k t.
+            let q : D.Row n r (T .level2) j v = record { bucket-lt = l; vector-lt = k; is-live = t } in
+            and-both (eq-eqb _ _ (h .level2 .here j v q ∙ sym (zero-add j))) (and-both (lt-ltb _ _ (h .level2 .low j v q)) (ap not (h .passed j v q))),
+      )))
+      (and-both (all-in (row0 n r S U T) (T .base) (λ e m. let p = h .base-words e m in and-both (lt-ltb _ _ (h .base-plans e m)) (and-both (ap not (p .1)) (ap not (p .2)))))
+      (ascends-in (T .base) (h .ascending))))))
+
+-- ---- numbers of n bits
+
+module _ (n r : ℕ) where
+  abbrev pub Below : List ℕ → Type 0
+  Below xs = (j : ℕ) → getD xs j 0 < 2 ^ n
+
+  below-drop : (k : ℕ) (xs : List ℕ) → Below xs → Below (drop k xs)
+  below-drop k xs h j = subst⁻¹ (λ (x : ℕ). x < 2 ^ n) (getD-drop k xs j 0) (h (k + j))
+
+  below-take : (k : ℕ) (xs : List ℕ) → Below xs → Below (take k xs)
+  below-take zero xs h j = pow-pos n
+  below-take (suc k) [] h j = h j
+  below-take (suc k) (x ∷ xs) h zero = h 0
+  below-take (suc k) (x ∷ xs) h (suc j) = below-take k xs (λ i. h (suc i)) j
+
+  bucket-ranged : (xs : List ℕ) → bucketWords n r ≤ length xs → Below xs → Ranged n r (bucketFrom n r xs)
+  unfolding bucketFrom
+  bucket-ranged xs l h = record { shaped = from-shaped n r xs l; cols-lt = below-take n xs h; mark-lt = h n }
+
+  level-ranged : (m : ℕ) (xs : List ℕ) → m * bucketWords n r ≤ length xs → Below xs → (i : ℕ) → i < m → Ranged n r (nth n r (levelFrom n r m xs) i)
+  level-ranged zero xs l h i k = absurd (not-suc-le-zero k)
+  level-ranged (suc m) xs l h zero k = bucket-ranged xs (omega arith) h
+  level-ranged (suc m) xs l h (suc i) k =
+      level-ranged m (drop (bucketWords n r) xs) (omega (arith, length-drop (bucketWords n r) xs)) (below-drop (bucketWords n r) xs h) i (le-of-suc-le-suc k)
+
+  pairs-below : (k : ℕ) (xs : List ℕ) → Below xs → (e : Entry) → List·Memᴰ e (pairsFrom k xs) → e .word < 2 ^ n
+  pairs-below zero xs h e m = absurd (List·Memᴰ·not-nil m)
+  pairs-below (suc k) xs h e m =
+      ⊎-elim (λ (q : e ≡ record { word = getD xs buckets1At 0; plan = getD xs buckets2At 0 }). subst⁻¹ (λ (x : Entry). x .word < 2 ^ n) q (h 0))
+      (pairs-below k (drop 2 xs) (below-drop 2 xs h) e) (List·Memᴰ·cases-cons m)
+
+  module _ (S U : ℕ → ℕ) (xs : List ℕ) where
+    module _ (size : length xs ≡ lengthOf n r (getD xs buckets1At 0) (getD xs buckets2At 0)) (bits : Below xs) (some1 : 0 < getD xs buckets1At 0) (some2 : 0 < getD xs buckets2At 0) where
+      abbrev a : ℕ
+      a = getD xs buckets1At 0
+
+      abbrev b : ℕ
+      b = getD xs buckets2At 0
+
+      abbrev w : ℕ
+      w = bucketWords n r
+
+      whole : length xs ≡ header + (a * w + b * w) + baseNumbers
+      whole = size ∙ ap (λ (k : ℕ). header + k + baseNumbers) (add-mul a b w)
+
+      room1 : a * w ≤ length (drop (bucketPlace n r 0) xs)
+      room1 = omega (arith, length-drop (bucketPlace n r 0) xs, whole)
+
+      room2 : b * w ≤ length (drop (bucketPlace n r a) xs)
+      room2 = omega (arith, length-drop (bucketPlace n r a) xs, whole)
+
+      pub test-sound : soundTest n r S U xs ≡ true → FlatSound n r S U xs
+      unfolding soundTest tableFrom
+      test-sound t =
+          let size1 = length-levelFrom n r a (drop (bucketPlace n r 0) xs) in
+          let size2 = length-levelFrom n r b (drop (bucketPlace n r a) xs) in
+          record {
+            table = table-out n r S U (tableFrom n r xs) (subst⁻¹ (λ (k : ℕ). 0 < k) size1 some1) (subst⁻¹ (λ (k : ℕ). 0 < k) size2 some2)
+                (λ i l. level-ranged a (drop (bucketPlace n r 0) xs) room1 (below-drop (bucketPlace n r 0) xs bits) i (subst (λ (k : ℕ). i < k) size1 l))
+                (λ i l. level-ranged b (drop (bucketPlace n r a) xs) room2 (below-drop (bucketPlace n r a) xs bits) i (subst (λ (k : ℕ). i < k) size2 l))
+                (pairs-below (getD xs baseCountAt 0) _ (below-drop (bucketPlace n r (a + b)) xs bits))
+                (and-one (tableTest n r S U (tableFrom n r xs)) _ t);
+            unused = zeros-out (unusedIn n r xs) (and-two (tableTest n r S U (tableFrom n r xs)) _ t);
+          }
+
+    pub sound-test : FlatSound n r S U xs → soundTest n r S U xs ≡ true
+    unfolding soundTest
+    sound-test h = and-both (table-in n r S U (tableFrom n r xs) (h .table)) (zeros-in (unusedIn n r xs) (h .unused))

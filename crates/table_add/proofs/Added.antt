@@ -1,0 +1,246 @@
+-- A word that is not live arrives at level 1: what that leaves is document 01's add. At every number n of rows and r of solution words, and for
+-- every mix S; then at 64 and 8.
+-- Assumes nothing.
+use Prim.Native.Nat.{ℕ, zero, suc, _+_, _*_, _^_, _≤_, _<_}
+use native.Mathlib.Omega.{arith}
+use mathlib.Core.Path.{_≡_, refl, sym, ap, ap₂, _∙_, subst, subst⁻¹}
+use mathlib.Core.Bool.{Bool, true, false}
+use mathlib.Core.List.{List, [], _∷_, map}
+use mathlib.Core.Option.{none, some}
+use lib.Dec.{ltb, leb}
+use lib.ListN.{length, getD, set, drop}
+use lib.Count.{ones-le}
+use borrow.Author.Tests.{leb-false, le-ltb, lt-ltb, ltb-false}
+use Rattle.answer.specs.declared.Answer.{Answer}
+use Rattle.answer.specs.declared.Answer.the-variants.{Accepted, Live, Full}
+use Rattle.lists.specs.Entries.{Entry}
+use Rattle.lists.proofs.Tests.{cond-true, cond-false, and-one, and-two}
+use Rattle.hash.specs.Mix.{mixOf}
+use Rattle.bucket.specs.declared.Bucket.{Bucket}
+use Rattle.bucket_words.specs.Words.{bucketWords, bucketFrom}
+use Rattle.bucket_settle.specs.declared.Settled.{Settled}
+use Rattle.bucket_settle.specs.Settle.{SoundBucket, settle}
+use Rattle.bucket_settle.specs.Outgoing.{outgoing, settledOf}
+use Rattle.model.specs.Model.{baseLimit, add}
+use Rattle.table.specs.Table.{Table, withFirst, withCount, thr, index, onSecond, put, nth, bucketOf, holds, arriveAt, addedTo}
+use Rattle.table.specs.Layout.{leading, buckets1At, buckets2At, liveCountAt, inRange, numbersOf, bucketPlace, tableFrom}
+use Rattle.table.specs.Calls.{rows, solutions, tableOf, planIn, Outcome, turnedDown, joined, served}
+use Rattle.table.specs.Content.{occupied}
+use Rattle.table.specs.Test.{shapeTest}
+use Rattle.table.proofs.Numbers.{header-read, write-count, forth}
+use Rattle.table_calls.specs.Ready.{Ready}
+use Rattle.table_calls.proofs.Places.{shape-of, laid-of}
+use Rattle.table_arrive.specs.Arrival.{settledAt, storedAt, toSecond, Straight, Passed, Kept, FlatKept}
+use Rattle.table_arrive.proofs.Tables.{numbers-table, numbers-kept}
+use Rattle.table_arrive.proofs.Settled.{straightly, straight-is, bucket-is, out-is, out-few}
+use Rattle.table_add.specs.Arrivals.{seconds, allToSecond, entering}
+use Rattle.table_add.proofs.Tables.{first-room, first-here, first-sound, first-stored, stored-same}
+use Rattle.table_add.proofs.Arrivals.{all-law, add-law}
+use Rattle.table_add.proofs.Passing.{pass-none, pass-one}
+
+pub passed-as : (n r : ℕ) (t : List ℕ) (U : Table) (done b : Bool) (u : List ℕ) → done ≡ b → Passed n r t U done u → Passed n r t U b u
+passed-as n r t U done b u y g = subst (λ (x : Bool). Passed n r t U x u) y g
+
+-- u is the table t after the add of e, but for the live count
+pub record Counted (n r : ℕ) (S : ℕ → ℕ) (t : List ℕ) (e : Entry) (u : List ℕ) : Type 0 where
+  pub long : liveCountAt < length u
+  pub count : getD u liveCountAt 0 ≡ tableFrom n r t .count
+  pub fits : ltb baseLimit (length (addedTo n r S (tableFrom n r t) e .base)) ≡ false
+  pub next : addedTo n r S (tableFrom n r t) e .count ≡ getD u liveCountAt 0 + 1
+  pub table : numbersOf (addedTo n r S (tableFrom n r t) e) ≡ set u liveCountAt (getD u liveCountAt 0 + 1)
+
+module _ (n r : ℕ) (S : ℕ → ℕ) (t : List ℕ) (h : FlatKept n r t) (e : Entry) (small : e .word < 2 ^ n) (at : ℕ) (p : at ≡ bucketPlace n r (index S (getD t buckets1At 0) (e .word)))
+    (m : ℕ) (s : Settled) (q : s ≡ settledOf m (settledAt n r (thr S) at e t)) where
+  abbrev T : Table
+  T = tableFrom n r t
+
+  abbrev U : Table
+  U = addedTo n r S T e
+
+  -- the table once the words that left level 1 have gone on
+  abbrev D : Table
+  D = allToSecond n r S T (seconds S (s .out))
+
+  here : bucketFrom n r (drop at t) ≡ bucketOf n r S (T .level1) (e .word)
+  here = first-here n r t h S (e .word) at p
+
+  sound : SoundBucket n r (bucketOf n r S (T .level1) (e .word))
+  sound = first-sound n r t h S (e .word) at p
+
+  pub enter-few : s .out .count ≤ suc n
+  enter-few = out-few n r S m (T .level1) e at t s here q small sound
+
+  U-is : U ≡ withCount (withFirst D (arriveAt n r S (T .level1) e .buckets)) (suc (T .count))
+  U-is =
+      add-law n r S T e
+      ∙ ap (λ (es : List Entry). withCount (withFirst (allToSecond n r S T (map (onSecond S) es)) (arriveAt n r S (T .level1) e .buckets)) (suc (T .count)))
+      (sym (out-is n r S m (T .level1) e at t s here q))
+
+  -- the words did not go on
+  pub enter-full : (t1 : List ℕ) → Passed n r t D false t1 → (ltb baseLimit (length (U .base)) ≡ true) × (t1 ≡ t)
+  enter-full t1 g = (lt-ltb baseLimit (length (U .base)) (omega (arith, leb-false (length (D .base)) baseLimit (sym (g .says)), ap (λ (X : Table). length (X .base)) U-is)), g .table)
+
+  -- or they did: then the bucket is stored, and the live count rises
+  module _ (t1 : List ℕ) (g : Passed n r t D true t1) where
+    kept-D : Kept n r D
+    kept-D = g .kept refl
+
+    kept1 : FlatKept n r t1
+    kept1 = numbers-kept n r D kept-D t1 (g .table)
+
+    table1 : tableFrom n r t1 ≡ D
+    table1 = numbers-table n r D kept-D t1 (g .table)
+
+    first-same : D .level1 ≡ T .level1
+    first-same = ap (λ (X : Table). X .level1) (all-law n r S T (seconds S (s .out)))
+
+    count-same : D .count ≡ T .count
+    count-same = ap (λ (X : Table). X .count) (all-law n r S T (seconds S (s .out)))
+
+    place1 : at ≡ bucketPlace n r (index S (getD t1 buckets1At 0) (e .word))
+    place1 =
+        p ∙ ap (λ (k : ℕ). bucketPlace n r (index S k (e .word)))
+        (sym (header-read n r t .0) ∙ ap (λ (bs : List Bucket). length bs) (sym first-same) ∙ ap (λ (X : Table). length (X .level1)) (sym table1) ∙ header-read n r t1 .0)
+
+    pub enter-room : at + bucketWords n r ≤ length t1
+    enter-room = first-room n r t1 kept1 S (e .word) at place1
+
+    -- the bucket that is there need not be stored
+    pub enter-same : s .bucket ≡ bucketFrom n r (drop at t) → t1 ≡ storedAt n r at (s .bucket) t1
+    enter-same k =
+        sym (stored-same n r at t1 enter-room)
+        ∙ ap (λ (b : Bucket). storedAt n r at b t1)
+        (first-here n r t1 kept1 S (e .word) at place1 ∙ ap (λ (X : Table). bucketOf n r S (X .level1) (e .word)) table1 ∙ ap (λ (bs : List Bucket). bucketOf n r S bs (e .word)) first-same ∙ sym here ∙ sym k)
+
+    module _ (t2 : List ℕ) (w : t2 ≡ storedAt n r at (s .bucket) t1) where
+      abbrev E : Table
+      E = withFirst D (arriveAt n r S (T .level1) e .buckets)
+
+      t2-is : t2 ≡ numbersOf E
+      t2-is =
+          w ∙ first-stored n r t1 kept1 S (e .word) at place1 (s .bucket)
+          ∙ ap (λ (X : Table). numbersOf (withFirst X (put S (X .level1) (e .word) (s .bucket)))) table1
+          ∙ ap (λ (bs : List Bucket). numbersOf (withFirst D (put S bs (e .word) (s .bucket)))) first-same
+          ∙ ap (λ (bs : List Bucket). numbersOf (withFirst D bs)) (bucket-is n r S m (T .level1) e at t s here q)
+
+      counted : getD t2 liveCountAt 0 ≡ T .count
+      unfolding numbersOf
+      counted = ap (λ (l : List ℕ). getD l liveCountAt 0) t2-is ∙ count-same
+
+      pub enter-counted : Counted n r S t e t2
+      unfolding numbersOf
+      enter-counted =
+          let c : suc (T .count) ≡ getD t2 liveCountAt 0 + 1 = omega (arith, counted) in
+          record {
+            long = omega (arith, ap (λ (l : List ℕ). length l) t2-is);
+            count = counted;
+            fits = le-ltb baseLimit (length (U .base)) (omega (arith, kept-D .short, ap (λ (X : Table). length (X .base)) U-is));
+            next = c;
+            table = ap numbersOf U-is ∙ write-count n r E (suc (T .count)) ∙ sym (ap₂ (λ (l : List ℕ) (k : ℕ). set l liveCountAt k) t2-is (sym c));
+          }
+
+-- ---- a word that settles at once: straight into its bucket, or in none at level 1. Either way u is the table before it is counted
+
+module _ (n : ℕ) (thr : ℕ → ℕ) (e : Entry) (b : Bucket) where
+  settle-passes : (x : ℕ) → x ≤ thr (e .word) → settle n thr e x b ≡ record { bucket = b; out = e ∷ [] }
+  settle-passes zero h = refl
+  settle-passes (suc t) h = cond-false _ _ (le-ltb (thr (e .word)) (suc t) h)
+
+module _ (n r : ℕ) (S : ℕ → ℕ) (t : List ℕ) (h : FlatKept n r t) (e : Entry) (small : e .word < 2 ^ n) (at : ℕ) (p : at ≡ bucketPlace n r (index S (getD t buckets1At 0) (e .word))) where
+  pub counted-straight : (u : List ℕ) → Straight n r (thr S) at e t true u → Counted n r S t e u
+  unfolding outgoing
+  counted-straight u g =
+      let s : Settled = straightly n r (thr S) at e t 0 u g in
+      enter-counted n r S t h e small at p 0 s (straight-is n r (thr S) at e t 0 u g) t (pass-none n r S t h (s .out) refl) u (g .table)
+
+  -- level 1 does not hold the word: v is its form at level 2
+  module _ (f : holds n r S (tableFrom n r t .level1) (e .word) ≡ false) (v : ℕ) (w : v ≡ S (S (e .word))) (u : List ℕ) where
+    abbrev passing : Settled
+    passing = settledOf 1 (record { bucket = bucketFrom n r (drop at t); out = e ∷ [] })
+
+    passing-is : passing ≡ settledOf 1 (settledAt n r (thr S) at e t)
+    passing-is =
+        ap (settledOf 1)
+        (sym (settle-passes n (thr S) e (bucketFrom n r (drop at t)) _
+        (ltb-false (thr S (e .word)) _ (ap (λ (b : Bucket). ltb (thr S (e .word)) (b .bound)) (first-here n r t h S (e .word) at p) ∙ f))))
+
+    passes : (done : Bool) → Passed n r t (toSecond n r S (tableFrom n r t) (record { word = v; plan = e .plan })) done u → Passed n r t (allToSecond n r S (tableFrom n r t) (seconds S (passing .out))) done u
+    unfolding outgoing
+    passes done g = pass-one n r S t h (passing .out) v done u refl w g
+
+    pub counted-second : Passed n r t (toSecond n r S (tableFrom n r t) (record { word = v; plan = e .plan })) true u → Counted n r S t e u
+    counted-second g =
+        let k = passes true g in
+        enter-counted n r S t h e small at p 1 passing passing-is u k u (enter-same n r S t h e small at p 1 passing passing-is u k refl)
+
+    pub full-second : Passed n r t (toSecond n r S (tableFrom n r t) (record { word = v; plan = e .plan })) false u → (ltb baseLimit (length (addedTo n r S (tableFrom n r t) e .base)) ≡ true) × (u ≡ t)
+    full-second g = enter-full n r S t h e small at p 1 passing passing-is u (passes false g)
+
+-- ---- at 64 and 8
+
+occupied-few : (n r : ℕ) (bs : List Bucket) → ((i : ℕ) → i < length bs → SoundBucket n r (nth n r bs i)) → occupied bs ≤ length bs * n
+occupied-few n r [] h = omega arith
+occupied-few n r (b ∷ bs) h =
+    let k = ones-le n (b .mark) (h 0 (omega arith) .sound .mark-lt) in
+    let l = occupied-few n r bs (λ i l. h (suc i) (omega arith)) in
+    omega arith
+
+module _ (t : List ℕ) (h : Ready t) where
+  in-range : inRange (getD t buckets1At 0) (getD t buckets2At 0) ≡ true
+  unfolding shapeTest
+  in-range = and-one (inRange (getD t buckets1At 0) (getD t buckets2At 0)) _ (and-two (leb leading (length t)) _ (h .shape))
+
+  pub ready-kept : FlatKept rows solutions t
+  ready-kept = record {
+    table = record {
+      range = ap₂ inRange (header-read rows solutions t .0) (header-read rows solutions t .1) ∙ in-range;
+      first = h .sound .table .level1 .buckets;
+      second = h .sound .table .level2 .buckets;
+      short = h .sound .table .fits;
+    };
+    numbers = forth rows solutions t (laid-of h);
+  }
+
+  -- there is room for one more in the live count
+  live-room : tableOf t .count + 1 < 2 ^ 64
+  live-room =
+      let k = h .sound .table in
+      let s = shape-of h .range in
+      omega (
+        arith,
+        k .counts,
+        occupied-few rows solutions (tableOf t .level1) (k .level1 .buckets),
+        occupied-few rows solutions (tableOf t .level2) (k .level2 .buckets),
+        k .fits,
+        header-read rows solutions t .0,
+        header-read rows solutions t .1,
+      )
+
+  pub count-room : (e : Entry) (u : List ℕ) → Counted rows solutions mixOf t e u → (liveCountAt < length u) × (getD u liveCountAt 0 + 1 < 2 ^ 64)
+  count-room e u g = (g .long, subst⁻¹ (λ (k : ℕ). k + 1 < 2 ^ 64) (g .count) live-room)
+
+module _ (t : List ℕ) (w p : ℕ) where
+  abbrev added : Table
+  added = addedTo rows solutions mixOf (tableOf t) (record { word = w; plan = p })
+
+  abbrev outcome : Outcome
+  outcome = entering t (record { word = w; plan = p })
+
+  pub entered-full : (u : List ℕ) → (ltb baseLimit (length (added .base)) ≡ true) × (u ≡ t) → (Full ≡ outcome .answer) × (u ≡ outcome .table)
+  entered-full u g = let e = cond-true (turnedDown Full t) (record { answer = Accepted (added .count); table = numbersOf added }) (g .0) in (ap (λ (o : Outcome). o .answer) (sym e), g .1 ∙ ap (λ (o : Outcome). o .table) (sym e))
+
+  -- u is counted: a is the answer, v the table then
+  pub entered-done : (u : List ℕ) → Counted rows solutions mixOf t (record { word = w; plan = p }) u → (a : Answer) (v : List ℕ)
+      → (a ≡ Accepted (getD u liveCountAt 0 + 1)) × (v ≡ set u liveCountAt (getD u liveCountAt 0 + 1)) → (a ≡ outcome .answer) × (v ≡ outcome .table)
+  entered-done u g a v k =
+      let e = cond-false (turnedDown Full t) (record { answer = Accepted (added .count); table = numbersOf added }) (g .fits) in
+      (k .0 ∙ ap Accepted (sym (g .next)) ∙ ap (λ (o : Outcome). o .answer) (sym e), k .1 ∙ sym (g .table) ∙ ap (λ (o : Outcome). o .table) (sym e))
+
+  -- the call, by the plan of w
+  pub added-live : (q : ℕ) → planIn t w ≡ some q → served t w (add [] p) ≡ turnedDown (Live q) t
+  unfolding served
+  added-live q e = ap (joined t added) e
+
+  pub added-gone : planIn t w ≡ none → served t w (add [] p) ≡ outcome
+  unfolding served
+  added-gone e = ap (joined t added) e

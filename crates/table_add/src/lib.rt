@@ -1,0 +1,171 @@
+// The call `add`: what leaves level 1 goes to level 2, and what leaves that to the base list. Nothing is written before it is known that
+// the base list has room; then only the stretches of the buckets that changed, the base list and the header are.
+// specs/Arrivals.antt has the words that go on, one after the other, as the code goes about them. Laws: proofs/Arrivals.antt (they lead to
+// the table of concrete's `addedTo`), proofs/Passing.antt (the loops over them and the draft), proofs/Tables.antt (a bucket of level 1),
+// proofs/Added.antt (what a word that arrives at level 1 leaves is the call's table).
+// Cites table_arrive (the arrival of one word), table_calls (the tests of a call, the query), table, table_layout (places), bucket_settle (the words that leave
+// a bucket), identifier, bucket and table_base. The library, the line program and run_probe build on it.
+use answer::Answer;
+use bucket_settle::Outgoing;
+use identifier::Read;
+use table_base::Found;
+use table_layout::Table;
+ghost use mathlib.Core.Path.{_≡_};
+ghost use mathlib.Core.List.{[]};
+ghost use Prim.Native.Nat.{_+_, _^_, _<_, _≤_};
+ghost use lib.ListN.{length, getD, set};
+ghost use Rattle.lists.specs.Entries.{words};
+ghost use Rattle.hash.specs.Mix.{mixOf};
+ghost use Rattle.answer.specs.declared.Answer.the-variants.{Accepted};
+ghost use Rattle.model.specs.Model.{add};
+ghost use Rattle.table.specs.Table.{withBase};
+ghost use Rattle.table.specs.Layout.{numbersOf};
+ghost use Rattle.table.specs.Calls.{rows, solutions, tableOf, served, call};
+ghost use Rattle.table_calls.specs.Ready.{Ready};
+ghost use Rattle.table_arrive.specs.Arrival.{Passed, FlatKept};
+ghost use Rattle.table_add.specs.Arrivals.{seconds, allToSecond, takeOver, Drafted, SameSize, entering};
+
+// The words that leave level 1 arrive at level 2 one after the other, on a draft. False as soon as the base list has no room: then nothing is
+// said of the draft.
+pub(crate) fn carry(t: &mut [u64], out: Outgoing) -> bool
+    requires { do ⌜ FlatKept rows solutions (now t) × (out .count ≤ (← ⟦Outgoing::MOST⟧)) ⌝ }
+    ensures { λ r. ⌜ Drafted rows solutions (allToSecond rows solutions mixOf (tableOf (now (t .entry))) (seconds mixOf out)) r (now (t .exit)) ⌝ }
+{
+    let vectors = out.vectors;
+    let plans = out.plans;
+    let count = out.count;
+    let mut i: usize = 0;
+    while i < count {
+        if table_arrive::arrive_second(t, identifier::second(vectors[i]), plans[i]) {
+            i += 1;
+        } else {
+            return false;
+        }
+    }
+    true
+}
+
+// The level 2 buckets of these words become those of another table.
+pub(crate) fn take_buckets(t: &mut [u64], from: &[u64], out: Outgoing)
+    requires { do ⌜ SameSize rows solutions (now t) (now from) × (out .count ≤ (← ⟦Outgoing::MOST⟧)) ⌝ }
+    ensures { λ _. ⌜ now (t .exit) ≡ numbersOf (takeOver rows solutions mixOf (tableOf (now (from .entry))) (words (seconds mixOf out)) (tableOf (now (t .entry)))) ⌝ }
+{
+    let vectors = out.vectors;
+    let count = out.count;
+    let mut i: usize = 0;
+    while i < count {
+        let at = table_layout::second_place(from, identifier::second(vectors[i]));
+        table_arrive::store_at(t, at, table_layout::bucket_at(from, at));
+        i += 1;
+    }
+}
+
+// The base list becomes that of another table.
+pub(crate) fn take_base(t: &mut [u64], from: &[u64])
+    requires { ⌜ SameSize rows solutions (now t) (now from) ⌝ }
+    ensures { λ _. ⌜ now (t .exit) ≡ numbersOf (withBase (tableOf (now (t .entry))) (tableOf (now (from .entry)) .base)) ⌝ }
+{
+    let a = table_layout::base_place(t);
+    bucket_words::put(&mut t[a..], &from[a..]);
+    t[Table::BASE_COUNT_AT] = from[Table::BASE_COUNT_AT];
+}
+
+// The words that leave level 1 go on, each tried on a draft first; then what they changed is written.
+pub(crate) fn pass_drafted(t: &mut [u64], draft: &mut [u64], out: Outgoing) -> bool
+    requires { do ⌜ FlatKept rows solutions (now t) × ((length (now draft) ≡ length (now t)) × (out .count ≤ (← ⟦Outgoing::MOST⟧))) ⌝ }
+    ensures { λ r. ⌜ Passed rows solutions (now (t .entry)) (allToSecond rows solutions mixOf (tableOf (now (t .entry))) (seconds mixOf out)) r (now (t .exit)) ⌝ }
+{
+    bucket_words::put(draft, t);
+    if carry(draft, out) {
+        take_buckets(t, draft, out);
+        take_base(t, draft);
+        return true;
+    }
+    false
+}
+
+// The words that leave level 1 go on, or nothing is written. One word alone needs no draft.
+pub(crate) fn pass_on(t: &mut [u64], out: Outgoing) -> bool
+    requires { do ⌜ FlatKept rows solutions (now t) × (out .count ≤ (← ⟦Outgoing::MOST⟧)) ⌝ }
+    ensures { λ r. ⌜ Passed rows solutions (now (t .entry)) (allToSecond rows solutions mixOf (tableOf (now (t .entry))) (seconds mixOf out)) r (now (t .exit)) ⌝ }
+{
+    let count = out.count;
+    if count == 0 {
+        return true;
+    }
+    if count == 1 {
+        let vectors = out.vectors;
+        let plans = out.plans;
+        return table_arrive::arrive_second(t, identifier::second(vectors[0]), plans[0]);
+    }
+    let n = t.len();
+    let mut draft = [0u64; Table::LONGEST];
+    pass_drafted(t, &mut draft[..n], out)
+}
+
+// One more live word.
+pub(crate) fn count_one(t: &mut [u64]) -> Answer
+    requires { ⌜ (3 < length (now t)) × (getD (now t) 3 0 + 1 < 2 ^ 64) ⌝ }
+    ensures { λ r. ⌜ (r ≡ Accepted (getD (now (t .entry)) 3 0 + 1)) × (now (t .exit) ≡ set (now (t .entry)) 3 (getD (now (t .entry)) 3 0 + 1)) ⌝ }
+{
+    let count = t[Table::LIVE_COUNT_AT] + 1;
+    t[Table::LIVE_COUNT_AT] = count;
+    Answer::Accepted(count)
+}
+
+// A word that is not live settles at level 1, and what leaves that goes on.
+pub(crate) fn enter_settling(t: &mut [u64], w: u64, plan: u64) -> Answer
+    requires { ⌜ Ready (now t) ⌝ }
+    ensures { λ r. ⌜ (r ≡ entering (now (t .entry)) (record { word = w; plan = plan }) .answer) × (now (t .exit) ≡ entering (now (t .entry)) (record { word = w; plan = plan }) .table) ⌝ }
+{
+    let at = table_layout::first_place(t, w);
+    let s = table_arrive::settled_at(t, at, w, plan);
+    let out = s.out;
+    if pass_on(t, out) {
+        let b = s.bucket;
+        table_arrive::store_at(t, at, b);
+        return count_one(t);
+    }
+    Answer::Full // and the bucket stays as it was
+}
+
+// A word that is not live arrives at level 1: straight into its bucket; or, where that does not hold it, at level 2; or it settles there.
+pub(crate) fn enter(t: &mut [u64], w: u64, plan: u64) -> Answer
+    requires { ⌜ Ready (now t) ⌝ }
+    ensures { λ r. ⌜ (r ≡ entering (now (t .entry)) (record { word = w; plan = plan }) .answer) × (now (t .exit) ≡ entering (now (t .entry)) (record { word = w; plan = plan }) .table) ⌝ }
+{
+    let at = table_layout::first_place(t, w);
+    if table_arrive::put_straight(t, at, w, plan) {
+        return count_one(t);
+    }
+    if table_layout::holds_first(t, w) {
+        return enter_settling(t, w, plan);
+    }
+    if table_arrive::arrive_second(t, identifier::second(w), plan) {
+        return count_one(t);
+    }
+    Answer::Full
+}
+
+// An add of the word w.
+pub fn add_word(t: &mut [u64], w: u64, plan: u64) -> Answer
+    requires { ⌜ Ready (now t) ⌝ }
+    ensures { λ r. ⌜ (r ≡ served (now (t .entry)) w (add [] plan) .answer) × (now (t .exit) ≡ served (now (t .entry)) w (add [] plan) .table) ⌝ }
+{
+    let found = table_calls::plan_in(t, w);
+    match found {
+        Found::Plan(p) => Answer::Live(p),
+        Found::Nothing => enter(t, w, plan),
+    }
+}
+
+// Add: accepted, the live count.
+pub fn add(t: &mut [u64], id: &[u8], plan: u8) -> Answer
+    ensures { λ r. ⌜ (r ≡ call (now (t .entry)) (add (now (id .entry)) plan) .answer) × (now (t .exit) ≡ call (now (t .entry)) (add (now (id .entry)) plan) .table) ⌝ }
+{
+    let admitted = table_calls::admit(t, id);
+    match admitted {
+        Read::Word(w) => add_word(t, w, plan as u64),
+        Read::Refused(a) => a,
+    }
+}

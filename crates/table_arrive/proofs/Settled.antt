@@ -1,0 +1,206 @@
+-- What the code finds in a settled bucket is what an arrival leaves. At every number n of rows and r of solution words, and for every mix S.
+-- Assumes nothing.
+use Prim.Native.Nat.{ℕ, zero, suc, _+_, _-_, _^_, _≤_, _<_}
+use native.Mathlib.Nat.{not-suc-le-zero}
+use native.Mathlib.Omega.{arith}
+use mathlib.Core.Path.{_≡_, refl, sym, ap, ap₂, _∙_, subst, subst⁻¹}
+use mathlib.Core.Bool.{Bool, true, false, cond, _&&_, true≢false}
+use mathlib.Core.List.{List, [], _++_}
+use lib.Dec.{ltb}
+use lib.ListN.{length, getD, take, drop}
+use borrow.Rule.Slice.PartMut.{midOf, putMid, post-is, put-same}
+use borrow.Author.Tests.{le-leb, lt-leb, lt-ltb, le-ltb, ltb-true}
+use Rattle.lists.specs.Entries.{Entry, insertAll}
+use Rattle.lists.proofs.Tests.{cond-true, cond-false, and-one, and-two, and-both, and-false}
+use Rattle.bucket.specs.declared.Bucket.{Bucket}
+use Rattle.bucket.specs.declared.Tried.{Tried}
+use Rattle.bucket.specs.Bucket.{add}
+use Rattle.bucket_words.specs.Words.{bucketWords, wordsOf, bucketFrom}
+use Rattle.bucket_settle.specs.declared.Settled.{Settled}
+use Rattle.bucket_settle.specs.Settle.{SoundBucket, Settlement, settle}
+use Rattle.bucket_settle.specs.Outgoing.{outgoing, settledOf}
+use Rattle.bucket_settle.proofs.Sound.{settle-sound, settle-few}
+use Rattle.model.specs.Model.{baseLimit}
+use Rattle.table.specs.Table.{Table, withSecond, withBase, thr, index, put, bucketOf, arriveAt}
+use Rattle.table.specs.Layout.{buckets1At, buckets2At, baseCountAt, numbersOf, bucketPlace, tableFrom}
+use Rattle.table.proofs.Numbers.{from-part}
+use Rattle.table_arrive.specs.Arrival.{entriesOf, settledAt, storedAt, goesIn, addedIn, toSecond, Straight, Passed, Kept, FlatKept}
+use Rattle.table_arrive.proofs.Tables.{count0, second-here, second-sound, second-stored, second-kept, numbers-table, numbers-kept}
+use Rattle.table_arrive.proofs.Arrival.{entries-back, insert-all-length, to-second-kept}
+
+-- ---- a word that settles at once
+
+module _ (n : ℕ) (thr : ℕ → ℕ) (e : Entry) (b : Bucket) where
+  settle-straight : (x : ℕ) → thr (e .word) < x → add n (e .word) (e .plan) b .done ≡ true → settle n thr e x b ≡ record { bucket = add n (e .word) (e .plan) b .bucket; out = [] }
+  settle-straight zero h d = absurd (not-suc-le-zero h)
+  settle-straight (suc t) h d = cond-true _ _ (lt-ltb (thr (e .word)) (suc t) h) ∙ cond-true _ _ d
+
+module _ (n r : ℕ) (thr : ℕ → ℕ) (e : Entry) (xs : List ℕ) where
+  -- what the bucket step does on the stretch xs, where it says done and leaves ys
+  abbrev pub Step : Bool → List ℕ → Type 0
+  Step done ys = (done ≡ goesIn n r thr e xs) × (ys ≡ cond done (addedIn n r e xs) xs)
+
+  -- the bound as it lies in the stretch
+  abbrev bound : ℕ
+  bound = getD xs (n + 1 + r) 0
+
+  goes-is : goesIn n r thr e xs ≡ (ltb (thr (e .word)) bound && add n (e .word) (e .plan) (bucketFrom n r xs) .done)
+  unfolding bucketFrom
+  goes-is = refl
+
+  -- the bucket b is read and a is the add to it
+  module _ (b : Bucket) (a : Tried) (q : b ≡ bucketFrom n r xs) (p : a ≡ add n (e .word) (e .plan) b) where
+    tried : a ≡ add n (e .word) (e .plan) (bucketFrom n r xs)
+    tried = p ∙ ap (add n (e .word) (e .plan)) q
+
+    done-is : {c : Bool} → a .done ≡ c → add n (e .word) (e .plan) (bucketFrom n r xs) .done ≡ c
+    done-is d = ap (λ (z : Tried). z .done) (sym tried) ∙ d
+
+    -- x is the threshold, ys the stretch once the bucket is stored
+    pub step-in : (x : ℕ) (ys : List ℕ) → x ≡ thr (e .word) → x < bound → a .done ≡ true → ys ≡ wordsOf (a .bucket) → Step true ys
+    step-in x ys y h d w =
+        (sym (goes-is ∙ and-both (lt-ltb (thr (e .word)) bound (subst (λ (k : ℕ). k < bound) y h)) (done-is d)), w ∙ ap (λ (z : Tried). wordsOf (z .bucket)) tried)
+
+    -- it depends
+    pub step-depends : a .done ≡ false → Step false xs
+    step-depends d = (sym (goes-is ∙ ap (λ (c : Bool). ltb (thr (e .word)) bound && c) (done-is d) ∙ and-false (ltb (thr (e .word)) bound)), refl)
+
+  -- its threshold is not below the bound
+  pub step-past : (x : ℕ) → x ≡ thr (e .word) → bound ≤ x → Step false xs
+  step-past x y h =
+      (sym (goes-is ∙ ap (λ (c : Bool). c && add n (e .word) (e .plan) (bucketFrom n r xs) .done) (le-ltb (thr (e .word)) bound (subst (λ (k : ℕ). bound ≤ k) y h))), refl)
+
+module _ (n r : ℕ) (thr : ℕ → ℕ) (at : ℕ) (e : Entry) (t : List ℕ) where
+  -- where it goes in it settles there, and no word leaves
+  goes-settled : goesIn n r thr e (drop at t) ≡ true → settledAt n r thr at e t ≡ record { bucket = add n (e .word) (e .plan) (bucketFrom n r (drop at t)) .bucket; out = [] }
+  goes-settled g =
+      let b : Bucket = bucketFrom n r (drop at t) in
+      settle-straight n thr e b (b .bound) (ltb-true (thr (e .word)) (b .bound) (and-one (ltb (thr (e .word)) (b .bound)) _ g)) (and-two (ltb (thr (e .word)) (b .bound)) _ g)
+
+  -- ---- the bucket step on the stretch that is lent
+
+  abbrev k : ℕ
+  k = at + bucketWords n r - at
+
+  abbrev part : List ℕ
+  part = midOf at k t
+
+  part-bucket : bucketFrom n r part ≡ bucketFrom n r (drop at t)
+  part-bucket = let q : k ≡ bucketWords n r = omega arith in ap (λ (j : ℕ). bucketFrom n r (take j (drop at t))) q ∙ from-part n r (drop at t)
+
+  -- it is put back where it was lent
+  put-back : (done : Bool) (ys : List ℕ) → done ≡ goesIn n r thr e (drop at t) → ys ≡ cond done (addedIn n r e part) part → putMid at k t ys ≡ cond done (storedAt n r at (settledAt n r thr at e t .bucket) t) t
+  put-back true ys g w =
+      ap₂ (λ (zs us : List ℕ). take at t ++ (zs ++ us))
+      (w ∙ ap (λ (b : Bucket). wordsOf (add n (e .word) (e .plan) b .bucket)) part-bucket ∙ sym (ap (λ (z : Settlement). wordsOf (z .bucket)) (goes-settled (sym g))))
+      (post-is at (at + bucketWords n r) t (omega arith))
+  put-back false ys g w = ap (putMid at k t) w ∙ put-same at k t
+
+  pub straight-at : (done : Bool) (ys : List ℕ) → Step n r thr e part done ys → Straight n r thr at e t done (putMid at k t ys)
+  straight-at done ys h =
+      let g : done ≡ goesIn n r thr e (drop at t) = h .0 ∙ ap (λ (b : Bucket). ltb (thr (e .word)) (b .bound) && add n (e .word) (e .plan) b .done) part-bucket in
+      record { says = g; table = put-back done ys g (h .1) }
+
+  pub straight-as : {done b : Bool} {u : List ℕ} → done ≡ b → Straight n r thr at e t done u → Straight n r thr at e t b u
+  straight-as {u = u} y g = subst (λ (x : Bool). Straight n r thr at e t x u) y g
+
+  pub straight-left : {done : Bool} {u : List ℕ} → done ≡ false → Straight n r thr at e t done u → u ≡ t
+  straight-left y g = g .table ∙ cond-false _ t y
+
+  -- as the code keeps what settles so: no word leaves
+  module _ (m : ℕ) (u : List ℕ) (g : Straight n r thr at e t true u) where
+    abbrev pub straightly : Settled
+    straightly = settledOf m (record { bucket = settledAt n r thr at e t .bucket; out = [] })
+
+    pub straight-is : straightly ≡ settledOf m (settledAt n r thr at e t)
+    straight-is = ap (λ (es : List Entry). settledOf m (record { bucket = settledAt n r thr at e t .bucket; out = es })) (sym (ap (λ (z : Settlement). z .out) (goes-settled (sym (g .says)))))
+
+module _ (n r : ℕ) (S : ℕ → ℕ) (m : ℕ) (bs : List Bucket) (e : Entry) (at : ℕ) (t : List ℕ) (s : Settled)
+    (a : bucketFrom n r (drop at t) ≡ bucketOf n r S bs (e .word)) (q : s ≡ settledOf m (settledAt n r (thr S) at e t)) where
+  abbrev b : Bucket
+  b = bucketOf n r S bs (e .word)
+
+  settled-is : s ≡ settledOf m (settle n (thr S) e (b .bound) b)
+  settled-is = q ∙ ap (λ (c : Bucket). settledOf m (settle n (thr S) e (c .bound) c)) a
+
+  pub bucket-is : put S bs (e .word) (s .bucket) ≡ arriveAt n r S bs e .buckets
+  bucket-is = ap (λ (x : Settled). put S bs (e .word) (x .bucket)) settled-is
+
+  pub out-is : entriesOf (s .out) ≡ arriveAt n r S bs e .out
+  out-is = ap (λ (x : Settled). entriesOf (x .out)) settled-is ∙ entries-back m (settle n (thr S) e (b .bound) b .out)
+
+  pub out-count : s .out .count ≡ length (arriveAt n r S bs e .out)
+  unfolding outgoing
+  out-count = ap (λ (x : Settled). x .out .count) settled-is
+
+  module _ (small : e .word < 2 ^ n) (h : SoundBucket n r b) where
+    pub out-few : s .out .count ≤ suc n
+    out-few = omega (arith, out-count, settle-few n r (thr S) e small b h)
+
+    pub bucket-sound : SoundBucket n r (s .bucket)
+    bucket-sound = subst⁻¹ (λ (x : Settled). SoundBucket n r (x .bucket)) settled-is (settle-sound n r (thr S) e small b h)
+
+-- ---- a word at level 2
+
+module _ (n r : ℕ) (S : ℕ → ℕ) (t : List ℕ) (h : FlatKept n r t) (e : Entry) (at : ℕ) (p : at ≡ bucketPlace n r (getD t buckets1At 0 + index S (getD t buckets2At 0) (e .word)))
+    (m : ℕ) (s : Settled) (q : s ≡ settledOf m (settledAt n r (thr S) at e t)) where
+  abbrev T : Table
+  T = tableFrom n r t
+
+  abbrev U : Table
+  U = toSecond n r S T e
+
+  here : bucketFrom n r (drop at t) ≡ bucketOf n r S (T .level2) (e .word)
+  here = second-here n r t h S (e .word) at p
+
+  sound : SoundBucket n r (bucketOf n r S (T .level2) (e .word))
+  sound = second-sound n r t h S (e .word) at p
+
+  base-length : length (U .base) ≡ getD t baseCountAt 0 + s .out .count
+  base-length = omega (arith, insert-all-length (arriveAt n r S (T .level2) e .out) (T .base), out-count n r S m (T .level2) e at t s here q, count0 n r t h)
+
+  pub arrive-few : e .word < 2 ^ n → s .out .count ≤ suc n
+  arrive-few small = out-few n r S m (T .level2) e at t s here q small sound
+
+  pub arrive-full : baseLimit < getD t baseCountAt 0 + s .out .count → Passed n r t U false t
+  arrive-full l = record { says = sym (lt-leb (length (U .base)) baseLimit (omega (arith, base-length))); kept = λ z. absurd (true≢false (sym z)); table = refl }
+
+  module _ (small : e .word < 2 ^ n) (t1 : List ℕ) (q1 : t1 ≡ storedAt n r at (s .bucket) t) where
+    abbrev T1 : Table
+    T1 = withSecond T (put S (T .level2) (e .word) (s .bucket))
+
+    stored : t1 ≡ numbersOf T1
+    stored = q1 ∙ second-stored n r t h S (e .word) at p (s .bucket)
+
+    kept1 : Kept n r T1
+    kept1 = second-kept n r T (h .table) _ (s .bucket) (bucket-sound n r S m (T .level2) e at t s here q small sound)
+
+    table1 : tableFrom n r t1 ≡ T1
+    table1 = numbers-table n r T1 kept1 t1 stored
+
+    pub arrive-stored : FlatKept n r t1
+    arrive-stored = numbers-kept n r T1 kept1 t1 stored
+
+    pub arrive-count : getD t1 baseCountAt 0 ≡ getD t baseCountAt 0
+    arrive-count = sym (count0 n r t1 arrive-stored) ∙ ap (λ (X : Table). length (X .base)) table1 ∙ count0 n r t h
+
+    pub arrive-done : (t2 : List ℕ) → t2 ≡ numbersOf (withBase (tableFrom n r t1) (insertAll (entriesOf (s .out)) (tableFrom n r t1 .base)))
+        → getD t baseCountAt 0 + s .out .count ≤ baseLimit → Passed n r t U true t2
+    arrive-done t2 q2 l =
+        let short : length (U .base) ≤ baseLimit = omega (arith, base-length) in
+        record {
+          says = sym (le-leb (length (U .base)) baseLimit short);
+          kept = λ _. to-second-kept n r S T e (h .table) small sound short;
+          table = q2
+              ∙ ap₂ (λ (X : Table) (es : List Entry). numbersOf (withBase X (insertAll es (X .base)))) table1 (out-is n r S m (T .level2) e at t s here q)
+              ∙ ap (λ (bs : List Bucket). numbersOf (withBase (withSecond T bs) (insertAll (arriveAt n r S (T .level2) e .out) (T .base)))) (bucket-is n r S m (T .level2) e at t s here q);
+        }
+
+-- straight into its bucket
+pub arrive-straight : (n r : ℕ) (S : ℕ → ℕ) (t : List ℕ) (h : FlatKept n r t) (e : Entry) (at : ℕ) → at ≡ bucketPlace n r (getD t buckets1At 0 + index S (getD t buckets2At 0) (e .word)) → e .word < 2 ^ n
+    → (u : List ℕ) → Straight n r (thr S) at e t true u → Passed n r t (toSecond n r S (tableFrom n r t) e) true u
+unfolding outgoing
+arrive-straight n r S t h e at p small u g =
+    let s : Settled = straightly n r (thr S) at e t 0 u g in
+    let q = straight-is n r (thr S) at e t 0 u g in
+    arrive-done n r S t h e at p 0 s q small u (g .table) u (sym (arrive-stored n r S t h e at p 0 s q small u (g .table) .numbers)) (omega (arith, count0 n r t h, h .table .short))

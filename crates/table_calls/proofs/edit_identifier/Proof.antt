@@ -1,0 +1,58 @@
+-- `table_calls::edit_identifier` meets its contract.
+-- Assumes nothing.
+use mathlib.Core.Path.{refl}
+use borrow.Author.Needs.{needs}
+use Rattle.identifier.specs.Identifier.{readOf}
+use Rattle.table_calls.proofs.Calls.{ready, edit-word, edit-refused}
+use Rattle.table_calls.proofs.edit_identifier.Statement.{statement}
+use Rattle.table_calls.proofs.edit_identifier.Tie as tie
+
+admit-requires : tie.Need-admit-requires
+admit-requires c κs = search needs
+
+enum-known-admitted : tie.Need-enum-known-admitted
+enum-known-admitted c = search needs
+
+edit-word-requires : tie.Need-edit-word-requires
+edit-word-requires c κs =
+    let m = c .before .before in
+    let d = m .before .before in
+    let a = d .before .before .before .before .args in
+    ready (a .t .now) (d .admit .result) (readOf (a .id .now)) (m .admitted .given .0 .0) (d .admit .ensures) (m .admitted .given .1) (λ i. d .before .before .before .slice-known .given i .fits)
+
+enum-known-admitted-2 : tie.Need-enum-known-admitted-2
+enum-known-admitted-2 c = search needs
+
+same-length : tie.Need-same-length
+same-length c = search needs
+
+returns : tie.Need-returns
+returns c =
+    let done = c .before .before in
+    let m = done .before .before .before in
+    let d = m .before .before in
+    let a = d .before .before .before .before .args in
+    rw (edit-word (a .t .now) (a .id .now) (a .edit) (d .admit .result) (d .admit .ensures) (m .admitted .given .0 .0) (m .admitted .given .1)) (done .edit-word .ensures)
+
+same-length-2 : tie.Need-same-length-2
+same-length-2 c = search needs
+
+returns-2 : tie.Need-returns-2
+returns-2 c =
+    let m = c .before in
+    let d = m .before .before in
+    let a = d .before .before .before .before .args in
+    rw (edit-refused (a .t .now) (a .id .now) (a .edit) (d .admit .result) (d .admit .ensures) (m .admitted2 .given .0 .0) (m .admitted2 .given .1)) (refl, refl)
+
+pub edit-identifier-spec : {M : Type 1} → statement M
+edit-identifier-spec =
+    tie.close
+    (tie.spec
+    admit-requires
+    enum-known-admitted
+    edit-word-requires
+    enum-known-admitted-2
+    same-length
+    returns
+    same-length-2
+    returns-2)

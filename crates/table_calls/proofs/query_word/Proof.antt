@@ -1,0 +1,34 @@
+-- `table_calls::query_word` meets its contract.
+-- Assumes nothing.
+use mathlib.Core.Path.{refl}
+use mathlib.Core.List.{[]}
+use borrow.Author.Needs.{needs}
+use Rattle.table_calls.proofs.Calls.{query-live, query-gone}
+use Rattle.table_calls.proofs.query_word.Statement.{statement}
+use Rattle.table_calls.proofs.query_word.Tie as tie
+
+plan-in-requires : tie.Need-plan-in-requires
+plan-in-requires c κs = search needs
+
+enum-known-found : tie.Need-enum-known-found
+enum-known-found c = search needs
+
+enum-told : tie.Need-enum-told
+enum-told c = search needs
+
+returns : tie.Need-returns
+returns c =
+    let m = c .before in
+    let r = m .before .before in
+    let a = r .before .before .args in
+    rw (query-live (a .t .now) (a .w) [] (r .plan-in .result) (r .plan-in .ensures) (m .found .given .0 .0) (m .found .given .1)) (refl, refl)
+
+returns-2 : tie.Need-returns-2
+returns-2 c =
+    let r = c .before .before in
+    let a = r .before .before .args in
+    rw (query-gone (a .t .now) (a .w) [] (r .plan-in .result) (r .plan-in .ensures) (c .enum-told .given .1)) (refl, refl)
+
+pub query-word-spec : {M : Type 1} → statement M
+query-word-spec =
+    tie.close (tie.spec plan-in-requires enum-known-found enum-told returns returns-2)

@@ -1,0 +1,228 @@
+// The calls of document 01's table on a lent slice of any length and contents, with an identifier of any bytes: query, change and
+// withdrawal. Each is an equation with a definition of concrete (specs/Calls.antt): the answer, causes in document 01's order, and
+// every number of the table afterwards. specs/Ready.antt has what every call tests first; the functions by word, which ask for a table
+// that passes, are for callers that know it does. proofs/Touched.antt has what one touched bucket or base list does to the numbers.
+// Cites table, table_layout (shape, places), table_sound, table_base, bucket and identifier. The C entries and the line program build on it.
+use answer::Answer;
+use bucket::Bucket;
+use identifier::Identifier;
+use identifier::Read;
+use table_base::Found;
+use table_layout::Table;
+ghost use mathlib.Core.Path.{_≡_};
+ghost use mathlib.Core.List.{[]};
+ghost use lib.ListN.{length};
+ghost use Rattle.bucket_words.specs.Words.{bucketFrom, wordsOf};
+ghost use Rattle.bucket_settle.specs.Settle.{planOf};
+ghost use Rattle.table_base.specs.Base.{Pairs, foundOf};
+ghost use Rattle.identifier.specs.Identifier.{readOf};
+ghost use Rattle.model.specs.Model.{baseLimit, change, withdraw, query};
+ghost use Rattle.table.specs.Layout.{pairsFrom, basePairs, numbersOf};
+ghost use Rattle.table.specs.Calls.{rows, solutions, tableOf, planIn, served, call};
+ghost use Rattle.table_calls.specs.Ready.{Ready, admitted};
+ghost use Rattle.table_calls.specs.Edit.{onBucket, onBase, touched, leaving, asked};
+
+// The plan of v in a bucket, if it is live there.
+pub(crate) fn plan_of(b: Bucket, v: u64) -> Found
+    ensures { λ r. ⌜ r ≡ foundOf (planOf rows v b) ⌝ }
+{
+    if b.row_of(v) < Bucket::ROWS {
+        return Found::Plan(b.lookup(v));
+    }
+    Found::Nothing
+}
+
+// The plan of w, if it is live: at level 1 if that holds it, else at level 2 if that holds it, else in the base list.
+pub fn plan_in(t: &[u64], w: u64) -> Found
+    requires { ⌜ Ready (now t) ⌝ }
+    ensures { λ r. ⌜ r ≡ foundOf (planIn (now (t .entry)) w) ⌝ }
+{
+    if table_layout::holds_first(t, w) {
+        return plan_of(
+            table_layout::bucket_at(t, table_layout::first_place(t, w)),
+            w,
+        );
+    }
+    let v = identifier::second(w);
+    if table_layout::holds_second(t, v) {
+        return plan_of(
+            table_layout::bucket_at(t, table_layout::second_place(t, v)),
+            v,
+        );
+    }
+    let a = table_layout::base_place(t);
+    let count = t[Table::BASE_COUNT_AT] as usize;
+    table_base::find(&t[a..], count, v)
+}
+
+// What is done to the entry of a live word.
+pub(crate) enum Edit {
+    Change(u64),
+    Withdraw,
+}
+
+// How many words are live no more after it.
+pub(crate) fn leaving(edit: Edit) -> u64
+    ensures { λ r. ⌜ r ≡ leaving edit ⌝ }
+{
+    match edit {
+        Edit::Change(_) => 0,
+        Edit::Withdraw => 1,
+    }
+}
+
+// A bucket after the edit of v, if v is live there.
+pub(crate) fn edited(b: Bucket, v: u64, edit: Edit) -> Bucket
+    ensures { λ r. ⌜ r ≡ onBucket edit v b ⌝ }
+{
+    match edit {
+        Edit::Change(plan) => b.change(v, plan).bucket,
+        Edit::Withdraw => b.withdraw(v).bucket,
+    }
+}
+
+// The bucket of a stretch of the table after it.
+pub(crate) fn edit_bucket(part: &mut [u64], v: u64, edit: Edit)
+    requires { do ⌜ length (now part) ≡ (← ⟦Bucket::WORDS⟧) ⌝ }
+    ensures { λ _. ⌜ now (part .exit) ≡ wordsOf (onBucket edit v (bucketFrom rows solutions (now (part .entry)))) ⌝ }
+{
+    let b = edited(bucket_words::load(part), v, edit);
+    bucket_words::store(part, b);
+}
+
+// The base list after it, if v has an entry. Returns how many entries there are.
+pub(crate) fn edit_base(pairs: &mut [u64], count: usize, v: u64, edit: Edit) -> usize
+    requires { ⌜ Pairs baseLimit count (now pairs) ⌝ }
+    ensures { λ r. ⌜ (r ≡ length (onBase edit v (pairsFrom count (now (pairs .entry))))) × (now (pairs .exit) ≡ basePairs (onBase edit v (pairsFrom count (now (pairs .entry))))) ⌝ }
+{
+    match edit {
+        Edit::Change(plan) => {
+            table_base::update(pairs, count, v, plan);
+            count
+        }
+        Edit::Withdraw => table_base::remove(pairs, count, v),
+    }
+}
+
+// The edit of w in its bucket or in the base list, wherever the three tests send w. The live count stays.
+pub(crate) fn touch(t: &mut [u64], w: u64, edit: Edit)
+    requires { ⌜ Ready (now t) ⌝ }
+    ensures { λ _. ⌜ now (t .exit) ≡ numbersOf (touched edit w (tableOf (now (t .entry)))) ⌝ }
+{
+    if table_layout::holds_first(t, w) {
+        let a = table_layout::first_place(t, w);
+        let e = a + Bucket::WORDS;
+        edit_bucket(&mut t[a..e], w, edit);
+        return;
+    }
+    let v = identifier::second(w);
+    if table_layout::holds_second(t, v) {
+        let a = table_layout::second_place(t, v);
+        let e = a + Bucket::WORDS;
+        edit_bucket(&mut t[a..e], v, edit);
+        return;
+    }
+    let a = table_layout::base_place(t);
+    let count = t[Table::BASE_COUNT_AT] as usize;
+    t[Table::BASE_COUNT_AT] = edit_base(&mut t[a..], count, v, edit) as u64;
+}
+
+// A query for the word w.
+pub fn query_word(t: &[u64], w: u64) -> Answer
+    requires { ⌜ Ready (now t) ⌝ }
+    ensures { λ r. ⌜ (r ≡ served (now (t .entry)) w (query []) .answer) × (now (t .exit) ≡ served (now (t .entry)) w (query []) .table) ⌝ }
+{
+    let found = plan_in(t, w);
+    match found {
+        Found::Plan(p) => Answer::Accepted(p),
+        Found::Nothing => Answer::NotLive,
+    }
+}
+
+// The edit of the word w: accepted, the earlier plan.
+pub(crate) fn edit_word(t: &mut [u64], w: u64, edit: Edit) -> Answer
+    requires { ⌜ Ready (now t) ⌝ }
+    ensures { λ r. ⌜ (r ≡ served (now (t .entry)) w (asked edit []) .answer) × (now (t .exit) ≡ served (now (t .entry)) w (asked edit []) .table) ⌝ }
+{
+    let found = plan_in(t, w);
+    match found {
+        Found::Plan(p) => {
+            let live = t[Table::LIVE_COUNT_AT] - leaving(edit);
+            touch(t, w, edit);
+            t[Table::LIVE_COUNT_AT] = live;
+            Answer::Accepted(p)
+        }
+        Found::Nothing => Answer::NotLive,
+    }
+}
+
+// A change of the word w.
+pub fn change_word(t: &mut [u64], w: u64, plan: u64) -> Answer
+    requires { ⌜ Ready (now t) ⌝ }
+    ensures { λ r. ⌜ (r ≡ served (now (t .entry)) w (change [] plan) .answer) × (now (t .exit) ≡ served (now (t .entry)) w (change [] plan) .table) ⌝ }
+{
+    edit_word(t, w, Edit::Change(plan))
+}
+
+// A withdrawal of the word w.
+pub fn withdraw_word(t: &mut [u64], w: u64) -> Answer
+    requires { ⌜ Ready (now t) ⌝ }
+    ensures { λ r. ⌜ (r ≡ served (now (t .entry)) w (withdraw []) .answer) × (now (t .exit) ≡ served (now (t .entry)) w (withdraw []) .table) ⌝ }
+{
+    edit_word(t, w, Edit::Withdraw)
+}
+
+// The word that a call is for, or the answer that turns it down: causes 1, 2, 4, 5.
+pub fn admit(t: &[u64], id: &[u8]) -> Read
+    ensures { λ r. ⌜ r ≡ admitted (now (t .entry)) (readOf (now (id .entry))) ⌝ }
+{
+    let read = Identifier::read(id);
+    match read {
+        Read::Word(w) => {
+            if table_layout::shaped(t) {
+                if table_sound::sound(t) {
+                    return Read::Word(w);
+                }
+                return Read::Refused(Answer::NotSound);
+            }
+            Read::Refused(Answer::WrongTable(t.len() as u64))
+        }
+        Read::Refused(a) => Read::Refused(a),
+    }
+}
+
+// Query: accepted, the plan.
+pub fn query(t: &[u64], id: &[u8]) -> Answer
+    ensures { λ r. ⌜ (r ≡ call (now (t .entry)) (query (now (id .entry))) .answer) × (now (t .exit) ≡ call (now (t .entry)) (query (now (id .entry))) .table) ⌝ }
+{
+    let admitted = admit(t, id);
+    match admitted {
+        Read::Word(w) => query_word(t, w),
+        Read::Refused(a) => a,
+    }
+}
+
+// The edit of an identifier's word.
+pub(crate) fn edit_identifier(t: &mut [u64], id: &[u8], edit: Edit) -> Answer
+    ensures { λ r. ⌜ (r ≡ call (now (t .entry)) (asked edit (now (id .entry))) .answer) × (now (t .exit) ≡ call (now (t .entry)) (asked edit (now (id .entry))) .table) ⌝ }
+{
+    let admitted = admit(t, id);
+    match admitted {
+        Read::Word(w) => edit_word(t, w, edit),
+        Read::Refused(a) => a,
+    }
+}
+
+// Change: accepted, the earlier plan.
+pub fn change(t: &mut [u64], id: &[u8], plan: u8) -> Answer
+    ensures { λ r. ⌜ (r ≡ call (now (t .entry)) (change (now (id .entry)) plan) .answer) × (now (t .exit) ≡ call (now (t .entry)) (change (now (id .entry)) plan) .table) ⌝ }
+{
+    edit_identifier(t, id, Edit::Change(plan as u64))
+}
+
+// Withdrawal: accepted, the earlier plan.
+pub fn withdraw(t: &mut [u64], id: &[u8]) -> Answer
+    ensures { λ r. ⌜ (r ≡ call (now (t .entry)) (withdraw (now (id .entry))) .answer) × (now (t .exit) ≡ call (now (t .entry)) (withdraw (now (id .entry))) .table) ⌝ }
+{
+    edit_identifier(t, id, Edit::Withdraw)
+}
