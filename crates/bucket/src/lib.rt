@@ -1,7 +1,7 @@
 // One bucket of document 01: 64 columns of the inverse of K, the mark word of occupied rows, 8 solution words and the bound.
 // Each step is an equation with a definition of specs/Bucket.antt, which follows document 01's "One bucket" sentence by sentence
 // at every number of rows and of solution words; proofs/Steps.antt has what the steps keep (K and its inverse, live vectors, plans).
-// Cites gf2 (run_vectors), lists and bits. bucket_words, bucket_settle and table_calls build on it.
+// Cites gf2 (vectors), lists and bits. bucket_words, bucket_settle, model and table build on it.
 ghost use mathlib.Core.Path.{_≡_};
 ghost use Prim.Native.Nat.{_<_, _≤_, _^_};
 ghost use lib.Count.{trailingZeros};

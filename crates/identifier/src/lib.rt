@@ -2,7 +2,7 @@
 // Definitions: specs/Identifier.antt, specs/Place.antt and specs/Causes.antt, in document 01's words. Laws: proofs/Folding.antt (what
 // folding changes), proofs/Causes.antt (each cause is given if and only if it is the first met), proofs/Words.antt (either
 // case of a letter gives the same word, the vector at level 2 determines the word).
-// Cites answer (the causes) and hash (the word). The calls of table_calls and plane cite it.
+// Cites answer (the causes) and hash (the word). table_calls, table_add and plane cite it.
 mod fold;
 
 use answer::Answer;

@@ -1,10 +1,10 @@
 // The line program of document 01 as a function on byte slices, `run`: calls put to a table that is sound by proof, the lines one after
 // the other.
-// Definitions: specs/Run.antt (what is printed for an input: the calls of concrete folded over the lines); specs/Buffer.antt has what is
+// Definitions: specs/Run.antt (what is printed for an input: the calls of the crate table folded over the lines); specs/Buffer.antt has what is
 // open, in the code's buffer, and what the code does at a line.
 // Laws: proofs/Agree.antt (the model would print the same; the table is sound at each line), proofs/Session.antt (document 01's session).
 // Cites lines_text (a line and what is printed for it), codec, answer, identifier, table_layout, table_open, table_calls and table_add. lines is the program over
-// it, and probe has an entry to it.
+// it, and run_probe has an entry to it.
 use answer::Answer;
 use identifier::Identifier;
 use identifier::Read;

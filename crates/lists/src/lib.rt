@@ -1,2 +1,2 @@
 // Lists: the elements that pass a test, the values of a function, and entries (a word with its plan) in ascending order.
-// Definitions in specs/, laws in proofs/; no code. Cites nothing of the project; gf2, bucket, model and table_calls cite it.
+// Definitions in specs/, laws in proofs/; no code. Cites nothing of the project; most crates cite it.

@@ -15,7 +15,7 @@ use Rattle.lists.specs.Entries.{find}
 use Rattle.lists.proofs.Parts.{drop-take, drop-more}
 use Rattle.gf2.specs.Vectors.{product}
 use Rattle.hash.specs.Mix.{mixOf}
-use Rattle.identifier.specs.Place.{thresholdAt, bucketAt}
+use Rattle.identifier.specs.Place.{thresholds, thresholdAt, bucketAt}
 use Rattle.plane.specs.declared.Held.the-variants.{Plan, Passed}
 use Rattle.plane.specs.Record.{Format, readAll, wordBytes, wordFrom, bucketFrom, entryFrom, entryBody, bucketLength, entryLength}
 use Rattle.plane.specs.Lookup.{bucketOf, levelPlan}
@@ -85,7 +85,7 @@ pub level-bucket : (F : Format) (m v : ℕ) (p : List ℕ) → 0 < m
     → bucketOf (readAll (bucketLength F) (bucketFrom F) m p) v ≡ bucketFrom F (drop (bucketAt m (mixOf v) * (bucketLength F)) p)
 level-bucket F m v p h =
     rw (length-readAll (bucketLength F) (bucketFrom F) m p)
-    (getD-readAll (bucketLength F) (bucketFrom F) m (bucketAt m (mixOf v)) p (record { bound = 0; sols = [] }) (mod-lt (mixOf v / 8) h))
+    (getD-readAll (bucketLength F) (bucketFrom F) m (bucketAt m (mixOf v)) p (record { bound = 0; sols = [] }) (mod-lt (mixOf v / thresholds) h))
 
 module _ (F : Format) (m v at : ℕ) (p : List ℕ) (some : 0 < m) (e : at ≡ bucketAt m (mixOf v) * (bucketLength F)) where
   pub level-held : thresholdAt (mixOf v) < getD (drop at p) 1 0 → levelPlan (readAll (bucketLength F) (bucketFrom F) m p) v ≡ Plan (product (bucketFrom F (drop at p) .sols) v)

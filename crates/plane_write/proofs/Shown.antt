@@ -11,7 +11,7 @@ use lib.Seq.{getD-drop}
 use lib.ListN.{length, getD, take, drop, length-map}
 use Rattle.lists.proofs.Entries.{none≢some}
 use Rattle.hash.specs.Mix.{mixOf}
-use Rattle.identifier.specs.Place.{secondOf, bucketAt}
+use Rattle.identifier.specs.Place.{thresholds, secondOf, bucketAt}
 use Rattle.bucket.specs.declared.Bucket.{Bucket}
 use Rattle.bucket.specs.Bucket.{live, lookup}
 use Rattle.bucket_words.specs.Words.{bucketWords, bucketFrom}
@@ -50,7 +50,7 @@ live-plan false a p e = absurd (none≢some e)
 module _ (n r : ℕ) where
   -- the bucket of v in the plane is that of the table
   seen-bucket : (bs : List Bucket) (v : ℕ) → 0 < length bs → bucketOf (map seenOf bs) v ≡ seenOf (C.bucketOf n r mixOf bs v)
-  seen-bucket bs v h = rw (length-map bs seenOf) (getD-seen bs (bucketAt (length bs) (mixOf v)) _ _ (mod-lt (mixOf v / 8) h))
+  seen-bucket bs v h = rw (length-map bs seenOf) (getD-seen bs (bucketAt (length bs) (mixOf v)) _ _ (mod-lt (mixOf v / thresholds) h))
 
   seen-plan : (bs : List Bucket) (v q : ℕ) → 0 < length bs → orElse (levelPlan (map seenOf bs) v) q ≡ cond (C.holds n r mixOf bs v) (lookup (C.bucketOf n r mixOf bs v) v) q
   unfolding levelPlan

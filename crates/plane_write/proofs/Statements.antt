@@ -11,7 +11,7 @@ use lib.ListN.{length, getD, take}
 use Rattle.answer.specs.declared.Answer.the-variants.{Accepted}
 use Rattle.answer.specs.Numbers.{numberOf, valueOf}
 use Rattle.answer.specs.Causes.{NoneMet, InOrder, Exactly}
-use Rattle.answer.proofs.Causes.{number-exactly}
+use Rattle.answer.proofs.Causes.{in-order-apart, number-exactly}
 use Rattle.identifier.specs.Identifier.{readOf}
 use Rattle.identifier.specs.Causes.{wrongLength, wrongByte}
 use Rattle.identifier.specs.declared.Read.the-variants.{Word}
@@ -96,11 +96,11 @@ write-order = Causes.write-order
 -- read for the last cause of each
 pub cause-10 : (id p : List ℕ) (at : ℕ)
     → ((numberOf (lookupCall id p) ≡ 10) × (valueOf (lookupCall id p) ≡ at)) ↔ (NoneMet (wrongLength id ∷ wrongByte id ∷ []) × WrongOffset format1 p at)
-cause-10 id p = number-exactly (wrongLength id ∷ wrongByte id ∷ []) (wrongPlane format1 p) [] (lookupReturns id p) (lookupCall id p) (lookup-order id p) (lookup-causes id p)
+cause-10 id p = number-exactly (wrongLength id ∷ wrongByte id ∷ []) (wrongPlane format1 p) [] (lookupReturns id p) (lookupCall id p) (in-order-apart 0 (lookupCauses id p) (lookup-order id p)) (lookup-causes id p)
 
 pub cause-9 : (t out : List ℕ) → ((i : ℕ) → getD t i 0 < 2 ^ 64) → (v : ℕ)
     → ((numberOf (writeCall t out .answer) ≡ 9) × (valueOf (writeCall t out .answer) ≡ v)) ↔ (NoneMet (wrongTable t ∷ notSound t ∷ []) × ((length out < lengthNeeded t) × (v ≡ lengthNeeded t)))
-cause-9 t out b = number-exactly (wrongTable t ∷ notSound t ∷ []) (shortOutput t out) [] (writeReturns t) (writeCall t out .answer) (write-order t out) (write-causes t out b)
+cause-9 t out b = number-exactly (wrongTable t ∷ notSound t ∷ []) (shortOutput t out) [] (writeReturns t) (writeCall t out .answer) (in-order-apart 0 (writeCauses t out) (write-order t out)) (write-causes t out b)
 
 -- "Kept as it was": the output
 pub refused-keeps : (t out : List ℕ) → accepted (writeCall t out .answer) ≡ false → writeCall t out .output ≡ out

@@ -1,5 +1,5 @@
 -- The causes of the writer in document 01's words and order, with what is returned with each and what an accepted call returns. t are any
--- numbers as table, out any bytes as output; causes 4 and 5 are those of the concrete crate.
+-- numbers as table, out any bytes as output; causes 4 and 5 are those of the crate table.
 -- Assumes nothing.
 use Prim.Native.Nat.{ℕ, _<_}
 use mathlib.Core.Path.{_≡_}

@@ -1,5 +1,5 @@
 -- An add as the code goes about it: the words that leave level 1 arrive at level 2 one after the other, more than one on a draft first;
--- arriving has the arrival of one. S is the mix, n the number of rows, r of solution words.
+-- table_arrive has the arrival of one. S is the mix, n the number of rows, r of solution words.
 -- Assumes nothing.
 use Prim.Native.Nat.{ℕ}
 use mathlib.Core.Path.{_≡_}

@@ -3,7 +3,7 @@
 // specs/Arrival.antt has the steps as the code goes about them, at every number of rows and of solution words, and `Kept`, what each of
 // them keeps. Laws: proofs/Tables.antt (such a table and its numbers), proofs/Base.antt (words into the pairs of the base list),
 // proofs/Arrival.antt (the words that leave a bucket, as the code keeps them), proofs/Settled.antt (what the code finds settled is what
-// concrete's `arriveAt` leaves).
+// the crate table's `arriveAt` leaves).
 // Cites table, table_layout (places), bucket, identifier (thresholds), bucket_settle (one bucket under its bound) and table_base. table_add cites it.
 use bucket::Bucket;
 use bucket_settle::Outgoing;

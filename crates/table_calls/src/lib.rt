@@ -1,5 +1,5 @@
 // The calls of document 01's table on a lent slice of any length and contents, with an identifier of any bytes: query, change and
-// withdrawal. Each is an equation with a definition of concrete (specs/Calls.antt): the answer, causes in document 01's order, and
+// withdrawal. Each is an equation with a definition of the crate table (specs/Calls.antt): the answer, causes in document 01's order, and
 // every number of the table afterwards. specs/Ready.antt has what every call tests first; the functions by word, which ask for a table
 // that passes, are for callers that know it does. proofs/Touched.antt has what one touched bucket or base list does to the numbers.
 // Cites table, table_layout (shape, places), table_sound, table_base, bucket and identifier. The C entries and the line program build on it.

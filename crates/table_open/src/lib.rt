@@ -1,4 +1,4 @@
-// Opening a table of document 01 on a lent slice of any length and contents: an equation with `openCall` of concrete (specs/Calls.antt), the
+// Opening a table of document 01 on a lent slice of any length and contents: an equation with `openCall` of the crate table (specs/Calls.antt), the
 // answer, causes 3 and 4, and every number of the table afterwards. proofs/Opened.antt has the numbers of an opened table, part by part.
 // Cites table, table_layout (limits, places), bucket and answer. The library, the line program and run_probe build on it.
 use answer::Answer;

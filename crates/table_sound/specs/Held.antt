@@ -1,5 +1,5 @@
 -- The parts of the test of a table, in the order in which the code computes them, with one test for both levels. Only the crate's
--- own functions cite them: proofs/Held.antt says that they make concrete's test.
+-- own functions cite them: proofs/Held.antt says that they make the test of the crate table.
 -- Assumes nothing.
 use Prim.Native.Nat.{ℕ, _+_, _*_}
 use mathlib.Core.Bool.{Bool, true, false, _&&_}

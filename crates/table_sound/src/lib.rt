@@ -1,5 +1,5 @@
 // Document 01's cause 5: the test whether a table of the right shape that is handed in is sound, for any contents. The test is an equation
-// with concrete's (specs/Test.antt, Calls.antt); specs/Held.antt is for the crate's own functions.
+// with those of the crate table (specs/Test.antt, Calls.antt); specs/Held.antt is for the crate's own functions.
 // Cites table, bucket, bucket_rows (the rows of K), identifier, hash and table_layout (the places); table_calls and plane_write build on it.
 use bucket::Bucket;
 use table_layout::Table;

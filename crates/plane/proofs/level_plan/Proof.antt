@@ -8,7 +8,7 @@ use borrow.Author.Needs.{needs}
 use lib.ListN.{length-take, length-drop}
 use Rattle.gf2.specs.Vectors.{product}
 use Rattle.hash.specs.Mix.{mixOf}
-use Rattle.identifier.specs.Place.{bucketAt}
+use Rattle.identifier.specs.Place.{thresholds, bucketAt}
 use Rattle.plane.specs.declared.Held.the-variants.{Plan}
 use Rattle.plane.specs.Record.{format1, bucketLength, PlaneBucket}
 use Rattle.plane.proofs.Read.{bucket-part, level-held, level-passed}
@@ -26,7 +26,7 @@ found : (c : tie.After-bucket) → c .bucket .result ≡ bucketAt (c .before .be
 found c = rw (c .before .wide .ensures) at (c .bucket .ensures)
 
 below : (c : tie.After-bucket) → c .bucket .result < c .before .before .before .args .m
-below c = rw (found c) (mod-lt (mixOf (c .before .before .before .args .v) / 8) (c .before .before .before .pre .0))
+below c = rw (found c) (mod-lt (mixOf (c .before .before .before .args .v) / thresholds) (c .before .before .before .pre .0))
 
 mul-at : tie.Need-mul-at
 mul-at c = omega (arith, below c)

@@ -1,0 +1,124 @@
+-- The three statements, over the definitions that the contracts of the entries cite: `openCall`, `call`, `writeCall`, `lookupCall`. Each theorem stands
+-- under the words that it is for; the crates named prove it. docs/READING.md lists the definitions that it takes to read this file.
+-- Assumes nothing.
+use Prim.Native.Nat.{ℕ, _^_, _≤_, _<_}
+use mathlib.Core.Path.{_≡_}
+use mathlib.Core.Bool.{true, false}
+use mathlib.Core.Logic.{_↔_}
+use mathlib.Core.Option.{none, some}
+use mathlib.Core.List.{List}
+use native.Mathlib.Omega.{arith}
+use lib.ListN.{length, getD, take}
+use Rattle.lists.specs.Entries.{planLimit, words, find}
+use Rattle.gf2.specs.Bound.{Largest}
+use Rattle.answer.specs.declared.Answer.{Answer}
+use Rattle.answer.specs.declared.Answer.the-variants.{Accepted, WrongLength, WrongByte, WrongBuckets, WrongTable, NotSound, Live, NotLive, Full, ShortOutput, WrongPlane}
+use Rattle.answer.specs.Numbers.{numberOf}
+use Rattle.answer.specs.Causes.{Exactly}
+use Rattle.identifier.specs.Identifier.{readOf}
+use Rattle.identifier.specs.declared.Read.the-variants.{Word}
+use Rattle.model.specs.Levels.{firstLevel, secondLevel, passed, due}
+use Rattle.model.specs.Model.{baseLimit, Call, add, query, wouldLeave, base}
+use Rattle.model.specs.Request.{Token, ask, wordFor}
+use Rattle.model.specs.Machine.{accepted, after, Alike}
+use Rattle.model.specs.History.{told}
+use Rattle.table.specs.Calls.{tableOf, shaped, FlatSound, openCall, queried, call}
+use Rattle.table.specs.History.{PlanFits, Put, tables, Opened, acceptedCalls, flatState, Same}
+use Rattle.table.specs.Causes.{openCauses, openReturns, callCauses, callReturns}
+use Rattle.table.proofs.Statements as Table
+use Rattle.plane.specs.Lookup.{lookupCall}
+use Rattle.plane.specs.Causes.{lookupCauses, lookupReturns}
+use Rattle.plane_write.specs.Write.{writeCall, shownTo}
+use Rattle.plane_write.specs.Causes.{writeCauses, writeReturns}
+use Rattle.plane_write.proofs.Statements as Plane
+
+-- ---- statement 1: "Any bytes as identifier, table or plane are answered or turned down by a number of document 01's table, without fault". No
+-- entry has a `requires`, and every function is proved safe and ending
+
+-- "by a number of document 01's table"
+pub numbers : (a : Answer) → numberOf a ≤ 10
+numbers (Accepted n) = omega arith
+numbers (WrongLength n) = omega arith
+numbers (WrongByte i) = omega arith
+numbers WrongBuckets = omega arith
+numbers (WrongTable n) = omega arith
+numbers NotSound = omega arith
+numbers (Live p) = omega arith
+numbers NotLive = omega arith
+numbers Full = omega arith
+numbers (ShortOutput n) = omega arith
+numbers (WrongPlane i) = omega arith
+
+-- "each number given if and only if its cause is the first met", and what is returned with it: specs/Causes of the crates named list the causes
+-- of each entry in the document's words
+pub open-causes : (b1 b2 : ℕ) (t : List ℕ) → Exactly (openCauses b1 b2 t) openReturns (openCall b1 b2 t .answer)
+open-causes = Table.open-causes
+
+-- the numbers of a table have 64 bits, as those of every `&[u64]`; a plan is a byte
+pub call-causes : (t : List ℕ) → ((i : ℕ) → getD t i 0 < 2 ^ 64) → (c : Call Token) → PlanFits c → Exactly (callCauses t c) (callReturns t c) (call t c .answer)
+call-causes = Table.call-causes
+
+pub write-causes : (t out : List ℕ) → ((i : ℕ) → getD t i 0 < 2 ^ 64) → Exactly (writeCauses t out) (writeReturns t) (writeCall t out .answer)
+write-causes = Plane.write-causes
+
+pub lookup-causes : (id p : List ℕ) → Exactly (lookupCauses id p) (lookupReturns id p) (lookupCall id p)
+lookup-causes = Plane.lookup-causes
+
+-- "a call turned down leaves table and output exactly as they were"
+pub open-keeps : (b1 b2 : ℕ) (t : List ℕ) → accepted (openCall b1 b2 t .answer) ≡ false → openCall b1 b2 t .table ≡ t
+open-keeps = Table.refused-opening
+
+pub call-keeps : (t : List ℕ) (c : Call Token) → accepted (call t c .answer) ≡ false → call t c .table ≡ t
+call-keeps t c = Table.refused-keeps t (ask c)
+
+pub write-keeps : (t out : List ℕ) → accepted (writeCall t out .answer) ≡ false → writeCall t out .output ≡ out
+write-keeps = Plane.refused-keeps
+
+-- ---- statement 2: t is what an accepted opening left, ps any calls since, refused ones included
+
+module _ (t : List ℕ) (o : Opened t) (ps : List Put) where
+  -- "every live identifier gives its word's last accepted plan, from the table" (`told`, `queried`: Accepted); "the table says not live of every
+  -- other word"
+  pub plan-from-table : (i : Token) (w : ℕ) → wordFor (query i) ≡ Word w → call (after tables t ps) (query i) ≡ queried (after tables t ps) (told w (acceptedCalls t ps))
+  plan-from-table = Table.query-tells t o ps
+
+  module _ (out : List ℕ) (n : ℕ) (e : writeCall (after tables t ps) out .answer ≡ Accepted n) where
+    -- "and from the plane": n bytes were written
+    pub plan-from-plane : (id : List ℕ) (w p : ℕ) → readOf id ≡ Word w → told w (acceptedCalls t ps) ≡ some p
+        → lookupCall id (take n (writeCall (after tables t ps) out .output)) ≡ Accepted p
+    plan-from-plane = Plane.last-plan t o ps out n e
+
+    -- "a plane written and read again answers for each identifier as the table's own XOR words or base list do"
+    pub plane-as-table : (id : List ℕ) → lookupCall id (take n (writeCall (after tables t ps) out .output)) ≡ shownTo (tableOf (after tables t ps)) (readOf id)
+    plane-as-table = Plane.list-gives t o ps out n e
+
+-- ---- statement 3
+
+-- "Two tables reached by any lists of calls and equal in bucket numbers, live words, plans and bounds answer every further list of calls alike and
+-- stay equal"
+pub lists-alike : (t u : List ℕ) → Opened t → Opened u → (ps qs : List Put) → Same (after tables t ps) (after tables u qs)
+    → (cs : List Put) → Alike tables Same (after tables t ps) (after tables u qs) cs
+lists-alike = Table.statement-3
+
+-- any sound table, also one handed in from elsewhere; a list of calls leaves one
+module _ (t : List ℕ) (k : shaped t ≡ true) (h : FlatSound t) (i : Token) (p : ℕ) (l : p < planLimit) where
+  -- "After every accepted add each bucket's bound is the largest number not above its old one below which no non-empty selection of words due there
+  -- XORs to zero, first level"
+  pub bounds-first : accepted (call t (add i p) .answer) ≡ true → (j : ℕ) → j < flatState t .size .buckets1
+      → Largest (getD (flatState t .bounds1) j 0)
+      (due firstLevel (flatState t .size .buckets1) (words (flatState (call t (add i p) .table) .live)) j)
+      (getD (flatState (call t (add i p) .table) .bounds1) j 0)
+  bounds-first = Table.bounds-first t k h i p l
+
+  -- "before second", where the words are due that the first does not hold now
+  pub bounds-second : accepted (call t (add i p) .answer) ≡ true → (j : ℕ) → j < flatState t .size .buckets2
+      → Largest (getD (flatState t .bounds2) j 0)
+      (due secondLevel (flatState t .size .buckets2)
+      (passed firstLevel (flatState t .size .buckets1) (flatState (call t (add i p) .table) .bounds1) (words (flatState (call t (add i p) .table) .live))) j)
+      (getD (flatState (call t (add i p) .table) .bounds2) j 0)
+  bounds-second = Table.bounds-second t k h i p l
+
+  -- "An add with no earlier cause is refused as full exactly when, under those bounds, more than 64 words would fall to the base list"
+  pub full-exactly : (w : ℕ) → wordFor (add i p) ≡ Word w → find w (flatState t .live) ≡ none
+      → (call t (add i p) .answer ≡ Full) ↔ (baseLimit < length (base firstLevel secondLevel (wouldLeave firstLevel secondLevel (flatState t) (record { word = w; plan = p }))))
+  full-exactly = Table.full-exactly t k h i p l
