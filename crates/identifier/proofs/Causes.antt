@@ -70,28 +70,6 @@ module _ (s : List ℕ) where
   outcome f g h =
       by-test (sized (length s)) (λ e. by-test (ltb (firstRefused s) (length s)) (λ l. g e (ltb-true _ _ l)) (λ l. h e (ltb-false _ _ l))) f
 
-  -- cause 1, with the length: the number of bytes is wrong
-  pub read-length : (n : ℕ) → (readOf s ≡ Refused (WrongLength n)) ↔ ((sized (length s) ≡ false) × (n ≡ length s))
-  read-length n = (
-    λ e. outcome
-        (λ u. let r = unsized u in (u, cc))
-        (λ u l. let r = refused u l in let z : _≡_ {A = ℕ} 0 1 = cc in absurd (omega arith))
-        (λ u l. let r = accepted u l in let z : _≡_ {A = ℕ} 0 1 = cc in absurd (omega arith)),
-    λ p. unsized (p .0) ∙ ap (λ (k : ℕ). Refused (WrongLength k)) (sym (p .1)),
-  )
-
-  -- cause 2, with the index of the first byte that is not allowed
-  pub read-byte : (i : ℕ) → (readOf s ≡ Refused (WrongByte i)) ↔ ((sized (length s) ≡ true) × (i < length s) × First s i)
-  read-byte i = (
-    λ e. outcome
-        (λ u. let r = unsized u in let z : _≡_ {A = ℕ} 0 1 = cc in absurd (omega arith))
-        (λ u l. let r = refused u l in let q : firstRefused s ≡ i = cc in (u, rw q at l, subst (First s) q (first-refused s)))
-        (λ u l. let r = accepted u l in let z : _≡_ {A = ℕ} 0 1 = cc in absurd (omega arith)),
-    λ p.
-        let q : firstRefused s ≡ i = first-one s (firstRefused s) i (first-refused s) (p .2) in
-        rw q at (refused (p .0) (rw q (p .1))),
-  )
-
   -- accepted, with the word: the number of bytes is right and each is allowed
   pub read-word : (w : ℕ) → (readOf s ≡ Word w) ↔ ((sized (length s) ≡ true) × AllowedTo s (length s) × (w ≡ wordOf s))
   read-word w = (
