@@ -6,3 +6,4 @@ pub mod Keep
 pub mod Entries
 pub mod Sorts
 pub mod Edits
+pub mod Every

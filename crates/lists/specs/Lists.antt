@@ -28,3 +28,8 @@ putAt i x xs = take i xs ++ x ∷ drop i xs
 abbrev pub joined : {A : Type 0} → List A → List A → List A
 joined xs [] = xs
 joined xs (x ∷ new) = joined (x ∷ xs) new
+
+-- each element of the list has the property
+abbrev pub Every : {A : Type 0} → (A → Type 0) → List A → Type 0
+Every P [] = Unit {0}
+Every P (x ∷ xs) = P x × Every P xs

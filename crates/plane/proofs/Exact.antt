@@ -12,6 +12,7 @@ use lib.ListN.{length, getD, take, drop, length-drop, take-append-drop}
 use lib.Seq.{drop-cons, drop-drop, getD-take, getD-drop, length-take-le, take-all}
 use Rattle.lists.specs.Entries.{Entry, Above, Ascending}
 use Rattle.lists.proofs.Parts.{drop-more}
+use Rattle.lists.specs.Lists.{Every}
 use Rattle.codec.specs.Bytes.{toBytes}
 use Rattle.codec.proofs.Equal.{equal-eq}
 use Rattle.codec.proofs.Round.{Bytes, to-from, fromBytes-lt}
@@ -21,7 +22,7 @@ use Rattle.table.specs.Layout.{inRange}
 use Rattle.plane.specs.declared.Wrong.the-variants.{Nowhere}
 use Rattle.plane.specs.Record.{Format, bucketBytes, entryBytes, endLength, Kind, sizeOf, recordOf, bucketRecords, entryRecords, bytesOf, readAll, wordBytes, wordFrom, headerKind, headerBody, headerRecord, bucketBody, bucketRecord, bucketFrom, entryBody, entryRecord, entryFrom, endKind, endBody, endBytes, endRecord, bucketLength, entryLength}
 use Rattle.plane.specs.Plane.{endFits, fits, wrongIn, allAllowed, boundAllowed, entryAllowed, exceeding, buckets1, buckets2, bucketCount, baseCount, planeBytes, planeFrom, bucketsAt, whole, bucketsWrong, entriesWrong, wrongAt}
-use Rattle.plane.specs.Fits.{Every, Below, FitsBucket, FitsEntry, Fits}
+use Rattle.plane.specs.Fits.{Below, FitsBucket, FitsEntry, Fits}
 use Rattle.plane.proofs.Scan.{both, right, whole-length, Right, parts, entriesIn, endIn}
 use Rattle.plane.proofs.Read.{length-readAll, read-add}
 

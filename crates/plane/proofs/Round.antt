@@ -10,6 +10,8 @@ use borrow.Author.Tests.{le-leb, eq-eqb}
 use lib.ListN.{length, drop, length-append}
 use lib.Seq.{take-at, drop-at, getD-at, drop-append-add, drop-drop}
 use Rattle.lists.specs.Entries.{Entry, Above, Ascending}
+use Rattle.lists.specs.Lists.{Every}
+use Rattle.lists.proofs.Every.{every, every-split}
 use Rattle.codec.specs.Bytes.{fromBytes, toBytes}
 use Rattle.codec.proofs.Equal.{equal-refl}
 use Rattle.codec.proofs.Round.{length-toBytes, from-to}
@@ -19,17 +21,9 @@ use Rattle.plane.specs.declared.Wrong.the-variants.{Nowhere}
 use Rattle.plane.specs.Record.{Format, Kind, sizeOf, recordOf, bucketRecords, entryRecords, bytesOf, readAll, wordBytes, wordFrom, headerBody, headerRecord, PlaneBucket, bucketRecord, bucketFrom, entryRecord, entryFrom, endBytes, endRecord, bucketLength, entryLength}
 use Rattle.plane.specs.Plane.{wrongIn, allAllowed, boundAllowed, entryAllowed, exceeding, Plane, planeBytes, planeFrom, bucketsAt, entriesAt, endAt, planeLength, bucketsWrong, entriesWrong, wrongAt}
 use Rattle.plane.proofs.Scan.{both, scan-next, Right, nowhere}
-use Rattle.plane.specs.Fits.{Every, Below, FitsBucket, FitsEntry, Fits}
+use Rattle.plane.specs.Fits.{Below, FitsBucket, FitsEntry, Fits}
 
 -- ---- things one after the other
-
-pub every : {A : Type 0} {P Q : A → Type 0} → ((x : A) → P x → Q x) → (xs : List A) → Every P xs → Every Q xs
-every f [] h = tt
-every f (x ∷ xs) h = (f x (h .0), every f xs (h .1))
-
-pub every-split : {A : Type 0} (P : A → Type 0) (xs ys : List A) → Every P (xs ++ ys) → Every P xs × Every P ys
-every-split P [] ys h = (tt, h)
-every-split P (x ∷ xs) ys h = ((h .0, every-split P xs ys (h .1) .0), every-split P xs ys (h .1) .1)
 
 module _ {A : Type 0} (f : A → List ℕ) where
   pub bytes-append : (xs ys : List A) → bytesOf f (xs ++ ys) ≡ bytesOf f xs ++ bytesOf f ys

@@ -3,19 +3,15 @@
 use Prim.Native.Nat.{ℕ, _^_, _≤_, _<_}
 use mathlib.Core.Path.{_≡_}
 use mathlib.Core.Bool.{true}
-use mathlib.Core.List.{List, [], _∷_, _++_}
+use mathlib.Core.List.{List, _++_}
 use lib.ListN.{length}
+use Rattle.lists.specs.Lists.{Every}
 use Rattle.lists.specs.Entries.{Entry, Ascending}
 use Rattle.bucket.specs.Bucket.{largestBound}
 use Rattle.model.specs.Model.{baseLimit}
 use Rattle.table.specs.Layout.{inRange}
 use Rattle.plane.specs.Record.{Format, wordBytes, PlaneBucket}
 use Rattle.plane.specs.Plane.{Plane, planeBytes}
-
--- each element of the list has the property
-abbrev pub Every : {A : Type 0} → (A → Type 0) → List A → Type 0
-Every P [] = Unit {0}
-Every P (x ∷ xs) = P x × Every P xs
 
 -- a number of n bytes
 abbrev pub Below : ℕ → ℕ → Type 0

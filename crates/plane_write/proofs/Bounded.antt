@@ -16,6 +16,7 @@ use borrow.Author.Tests.{ltb-false}
 use Rattle.lists.specs.Entries.{Entry, update, remove, words}
 use Rattle.lists.proofs.Tests.{by-test}
 use Rattle.lists.proofs.Entries.{update-length}
+use Rattle.lists.specs.Lists.{Every}
 use Rattle.gf2.specs.Vectors.{colStep, solStep}
 use Rattle.gf2.proofs.Inverse as Inverse
 use Rattle.gf2.proofs.Inverse.{set-lt, flip-lt, colStep-lt, length-colStep}
@@ -38,7 +39,6 @@ use Rattle.table.specs.Calls.{rows, solutions, tableOf, planIn, shaped, sound, 
 use Rattle.table.specs.History.{Put, request, tables, Opened}
 use Rattle.table.proofs.Numbers.{ShapedTable, back}
 use Rattle.table.proofs.History.{open-cases}
-use Rattle.plane.specs.Fits.{Every}
 use Rattle.plane_write.proofs.Shown.{Narrow, Sols}
 
 module _ (n r : ℕ) where

@@ -8,6 +8,7 @@ use native.Mathlib.Numerals.{add-one}
 use native.Mathlib.Omega.{arith}
 use lib.ListN.{length, getD, set, take, drop, length-append, length-drop}
 use lib.Seq.{getD-drop, take-suc, length-take-le}
+use Rattle.lists.specs.Lists.{Every}
 use Rattle.codec.specs.Bytes.{toBytes}
 use Rattle.codec.specs.Parts.{written}
 use Rattle.codec.proofs.Part.{written-none, written-more, written-append, written-cons, written-three}
@@ -19,7 +20,6 @@ use Rattle.plane.specs.Record.{Format, bytesOf, readAll, wordBytes, bucketRecor
 use Rattle.plane.specs.Plane.{bucketsAt, entriesAt, endAt}
 use Rattle.plane.proofs.Read.{length-readAll, read-add}
 use Rattle.plane_write.specs.Steps.{seenFrom, pairFrom, recordsOf}
-use Rattle.plane.specs.Fits.{Every}
 use Rattle.plane.proofs.Round.{Sized, bytes-append, length-bytes}
 
 -- the record of a base entry, once the byte of its kind and its word are there

@@ -10,6 +10,8 @@ use native.Mathlib.Nat.{mod-lt, zero-lt-suc, lt-of-lt-of-le, not-suc-le-zero, le
 use lib.Seq.{getD-drop}
 use lib.ListN.{length, getD, take, drop, length-map}
 use Rattle.lists.proofs.Entries.{none≢some}
+use Rattle.lists.specs.Lists.{Every}
+use Rattle.lists.proofs.Every.{every-append, mem-every}
 use Rattle.hash.specs.Mix.{mixOf}
 use Rattle.identifier.specs.Place.{thresholds, secondOf, bucketAt}
 use Rattle.bucket.specs.declared.Bucket.{Bucket}
@@ -24,7 +26,7 @@ use Rattle.table.proofs.Numbers.{header-read}
 use Rattle.plane.specs.declared.Held.the-variants.{Plan, Passed}
 use Rattle.plane.specs.Record.{Format, wordBytes, PlaneBucket}
 use Rattle.plane.specs.Lookup.{bucketOf, holds, levelPlan, orElse, orStranger, secondPlan, planFrom}
-use Rattle.plane.specs.Fits.{Every, Below, FitsBucket, FitsEntry, Fits}
+use Rattle.plane.specs.Fits.{Below, FitsBucket, FitsEntry, Fits}
 use Rattle.plane_write.specs.Write.{seenOf, planeOf, shownPlan}
 
 -- ---- the plan of a word
@@ -81,14 +83,6 @@ every-take : (k : ℕ) (xs : List ℕ) → Words xs → Every (Below wordBytes) 
 every-take zero xs h = tt
 every-take (suc k) [] h = tt
 every-take (suc k) (x ∷ xs) h = (h 0, every-take k xs (λ i. h (suc i)))
-
-every-append : {A : Type 0} (P : A → Type 0) (xs ys : List A) → Every P xs → Every P ys → Every P (xs ++ ys)
-every-append P [] ys h k = k
-every-append P (x ∷ xs) ys h k = (h .0, every-append P xs ys (h .1) k)
-
-mem-every : {A : Type 0} (P : A → Type 0) (xs : List A) → ((x : A) → List·Memᴰ x xs → P x) → Every P xs
-mem-every P [] h = tt
-mem-every P (x ∷ xs) h = (h x (List·Memᴰ·head refl), mem-every P xs (λ y m. h y (List·Memᴰ·tail m)))
 
 -- the solution words of a bucket
 abbrev pub Narrow : Bucket → Type 0

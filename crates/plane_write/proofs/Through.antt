@@ -9,6 +9,7 @@ use borrow.Author.Tests.{lt-ltb, le-ltb}
 use lib.ListN.{length, getD, drop, length-map}
 use lib.Seq.{drop-drop}
 use Rattle.lists.specs.Entries.{Entry}
+use Rattle.lists.proofs.Every.{every-at}
 use Rattle.answer.specs.declared.Answer.the-variants.{Accepted, ShortOutput}
 use Rattle.codec.specs.Parts.{written}
 use Rattle.codec.proofs.Part.{written-fits, written-append}
@@ -18,15 +19,10 @@ use Rattle.table.specs.Layout.{header, levelFrom, pairsFrom, bucketPlace, table
 use Rattle.table.proofs.Numbers.{header-read}
 use Rattle.plane.specs.Record.{Format, readAll, PlaneBucket, headerRecord}
 use Rattle.plane.specs.Plane.{planeBytes, bucketsAt}
-use Rattle.plane.specs.Fits.{Every, FitsBucket, FitsEntry, Fits}
+use Rattle.plane.specs.Fits.{FitsBucket, FitsEntry, Fits}
 use Rattle.plane_write.specs.Write.{seenOf, planeOf, inFront, putFront}
 use Rattle.plane_write.specs.Steps.{seenFrom, pairFrom, recordsOf}
 use Rattle.plane.proofs.Read.{length-readAll, getD-readAll, read-add}
-
-every-at : {A : Type 0} (P : A → Type 0) (d : A) (xs : List A) → Every P xs → (i : ℕ) → i < length xs → P (getD xs i d)
-every-at P d [] h i l = absurd (not-suc-le-zero l)
-every-at P d (x ∷ xs) h zero l = h .0
-every-at P d (x ∷ xs) h (suc i) l = every-at P d xs (h .1) i (le-of-suc-le-suc l)
 
 -- ---- read one after the other
 
