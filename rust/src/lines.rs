@@ -92,7 +92,7 @@ fn open(opened: &mut Option<Opened>, buckets1: u64, buckets2: u64) -> Answer {
         return Answer::refused(BUCKET_NUMBERS, 0);
     };
     let mut table = vec![0; shape.table_len()];
-    let answer = table_calls::open(&mut table, buckets1, buckets2);
+    let answer = table::open(&mut table, buckets1, buckets2);
     if answer.is_accepted() {
         *opened = Some(Opened { shape, table });
     }

@@ -38,7 +38,7 @@ pub fn plane_len(buckets: usize, entries: usize) -> usize {
 /// Writes the plane of a table to the output and returns its length; causes
 /// 4, 5 and 9.
 pub fn write(table: &[u64], output: &mut [u8]) -> Answer {
-    let shape = match table_calls::check(table) {
+    let shape = match table::check(table) {
         Ok(shape) => shape,
         Err(refusal) => return refusal,
     };

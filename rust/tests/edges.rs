@@ -20,12 +20,12 @@ fn refused(cause: u64, value: u64) -> Answer {
 fn identifiers_of_20_and_21_bytes() {
     let mut table = ExactTable::open(1, 1).numbers();
     let opened = table.clone();
-    assert_eq!(table_calls::add(&mut table, &[b'a'; 21], 3), refused(1, 21));
-    assert_eq!(table_calls::add(&mut table, b"", 3), refused(1, 0));
+    assert_eq!(table::add(&mut table, &[b'a'; 21], 3), refused(1, 21));
+    assert_eq!(table::add(&mut table, b"", 3), refused(1, 0));
     assert_eq!(table, opened);
-    assert_eq!(table_calls::add(&mut table, &[b'a'; 20], 3), accepted(1));
-    assert_eq!(table_calls::query(&table, &[b'A'; 20]), accepted(3));
-    assert_eq!(table_calls::query(&table, &[b'A'; 21]), refused(1, 21));
+    assert_eq!(table::add(&mut table, &[b'a'; 20], 3), accepted(1));
+    assert_eq!(table::query(&table, &[b'A'; 20]), accepted(3));
+    assert_eq!(table::query(&table, &[b'A'; 21]), refused(1, 21));
 }
 
 #[test]
@@ -41,27 +41,27 @@ fn openings() {
         (u64::MAX, 1),
         (1, u64::MAX),
     ] {
-        assert_eq!(table_calls::open(&mut table, b1, b2), refused(3, 0));
+        assert_eq!(table::open(&mut table, b1, b2), refused(3, 0));
         // Also before the length is looked at.
-        assert_eq!(table_calls::open(&mut [], b1, b2), refused(3, 0));
+        assert_eq!(table::open(&mut [], b1, b2), refused(3, 0));
     }
     for (b1, b2) in [(47, 32), (48, 31), (1, 1)] {
-        assert_eq!(table_calls::open(&mut table, b1, b2), refused(4, 6052));
+        assert_eq!(table::open(&mut table, b1, b2), refused(4, 6052));
     }
-    assert_eq!(table_calls::open(&mut [], 1, 1), refused(4, 0));
+    assert_eq!(table::open(&mut [], 1, 1), refused(4, 0));
     assert!(table.iter().all(|&n| n == 77));
-    assert_eq!(table_calls::open(&mut table, 48, 32), accepted(0));
+    assert_eq!(table::open(&mut table, 48, 32), accepted(0));
     assert_eq!(table, ExactTable::open(48, 32).numbers());
 
     let mut small = vec![u64::MAX; 280];
-    assert_eq!(table_calls::open(&mut small[..279], 1, 1), refused(4, 279));
-    assert_eq!(table_calls::open(&mut small, 1, 1), accepted(0));
+    assert_eq!(table::open(&mut small[..279], 1, 1), refused(4, 279));
+    assert_eq!(table::open(&mut small, 1, 1), accepted(0));
     assert_eq!(small, ExactTable::open(1, 1).numbers());
     // The same length by other numbers of buckets.
     let mut other = vec![5; 4 + 74 * 3 + 128];
-    assert_eq!(table_calls::open(&mut other, 1, 2), accepted(0));
+    assert_eq!(table::open(&mut other, 1, 2), accepted(0));
     assert_eq!(other, ExactTable::open(1, 2).numbers());
-    assert_eq!(table_calls::open(&mut other, 2, 1), accepted(0));
+    assert_eq!(table::open(&mut other, 2, 1), accepted(0));
     assert_eq!(other, ExactTable::open(2, 1).numbers());
 }
 
@@ -90,11 +90,11 @@ fn base_entries_64_and_65_under_bounds_0() {
     let mut table = exact.numbers();
     for i in 1..=64 {
         let id = format!("card-{i}");
-        assert_eq!(table_calls::add(&mut table, id.as_bytes(), i as u8), accepted(i));
+        assert_eq!(table::add(&mut table, id.as_bytes(), i as u8), accepted(i));
     }
     let full = table.clone();
-    assert_eq!(table_calls::add(&mut table, b"card-65", 1), refused(8, 0));
-    assert_eq!(table_calls::add(&mut table, b"card-64", 1), refused(6, 64));
+    assert_eq!(table::add(&mut table, b"card-65", 1), refused(8, 0));
+    assert_eq!(table::add(&mut table, b"card-64", 1), refused(6, 64));
     assert_eq!(table, full);
 
     let mut output = vec![0; 10 + 132 + 640 + 1];
@@ -106,10 +106,10 @@ fn base_entries_64_and_65_under_bounds_0() {
         assert_eq!(plane::lookup(id.as_bytes(), &output[..782]), accepted(plan));
     }
 
-    assert_eq!(table_calls::withdraw(&mut table, b"card-7"), accepted(7));
-    assert_eq!(table_calls::add(&mut table, b"card-65", 1), accepted(64));
-    assert_eq!(table_calls::query(&table, b"Card-65"), accepted(1));
-    assert_eq!(table_calls::query(&table, b"Card-7"), refused(7, 0));
+    assert_eq!(table::withdraw(&mut table, b"card-7"), accepted(7));
+    assert_eq!(table::add(&mut table, b"card-65", 1), accepted(64));
+    assert_eq!(table::query(&table, b"Card-65"), accepted(1));
+    assert_eq!(table::query(&table, b"Card-7"), refused(7, 0));
 }
 
 /// From an opened table on, by adds alone, with every number compared: the
@@ -126,7 +126,7 @@ fn base_entries_64_and_65_after_adds() {
         let (word, plan) = (rng.next(), rng.byte());
         let before = table.clone();
         exact.add(word, plan);
-        let answer = table_calls::add_word(&mut table, word, plan);
+        let answer = table::add_word(&mut table, word, plan);
         assert_eq!(table, exact.numbers());
         if answer.is_accepted() {
             live += 1;

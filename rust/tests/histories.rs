@@ -12,14 +12,14 @@ use reference::table::{self, Shape};
 fn opened(buckets1: u64, buckets2: u64) -> Vec<u64> {
     let shape = Shape::new(buckets1, buckets2).unwrap();
     let mut table = vec![u64::MAX; shape.table_len()];
-    let answer = table_calls::open(&mut table, buckets1, buckets2);
+    let answer = table::open(&mut table, buckets1, buckets2);
     assert_eq!(answer, Answer { cause: 0, value: 0 });
     table
 }
 
 /// Answers, bounds, base list and live words against the plain map.
 fn compare(table: &[u64], slow: &SlowTable) {
-    let shape = table_calls::check(table).expect("a table of a history is sound");
+    let shape = table::check(table).expect("a table of a history is sound");
     assert_eq!(table[3], slow.plans.len() as u64);
     for (index, &bound) in slow.bounds1.iter().chain(&slow.bounds2).enumerate() {
         assert_eq!(shape.bound(table, index), bound);
@@ -122,25 +122,25 @@ fn history(
         let was_live = slow.plans.contains_key(&word);
         let pick = rng.below(10);
         let (answer, expected) = if !was_live && pick < 9 || was_live && pick == 9 {
-            let answer = table_calls::add_word(&mut table, word, plan);
+            let answer = table::add_word(&mut table, word, plan);
             if !was_live {
                 model.add(word, plan);
             }
             (answer, slow.add(word, plan))
         } else if pick < 4 || pick == 9 {
-            let answer = table_calls::withdraw_word(&mut table, word);
+            let answer = table::withdraw_word(&mut table, word);
             if was_live {
                 model.withdraw(word);
             }
             (answer, slow.withdraw(word))
         } else if pick < 7 {
-            let answer = table_calls::change_word(&mut table, word, plan);
+            let answer = table::change_word(&mut table, word, plan);
             if was_live {
                 model.change(word, plan);
             }
             (answer, slow.change(word, plan))
         } else {
-            (table_calls::query_word(&table, word), slow.query(word))
+            (table::query_word(&table, word), slow.query(word))
         };
         assert_eq!(answer, expected);
         if !answer.is_accepted() {
@@ -262,16 +262,16 @@ fn identifiers() {
             };
             let (answer, expected) = match rng.below(8) {
                 0 => (
-                    table_calls::withdraw(&mut table, &id),
+                    table::withdraw(&mut table, &id),
                     by_word(&mut |w| slow.withdraw(w)),
                 ),
                 1 => (
-                    table_calls::change(&mut table, &id, plan),
+                    table::change(&mut table, &id, plan),
                     by_word(&mut |w| slow.change(w, plan)),
                 ),
-                2 => (table_calls::query(&table, &id), by_word(&mut |w| slow.query(w))),
+                2 => (table::query(&table, &id), by_word(&mut |w| slow.query(w))),
                 _ => (
-                    table_calls::add(&mut table, &id, plan),
+                    table::add(&mut table, &id, plan),
                     by_word(&mut |w| slow.add(w, plan)),
                 ),
             };
@@ -286,7 +286,7 @@ fn identifiers() {
                 let len = plane::write(&table, &mut plane).value as usize;
                 for id in &pool {
                     let looked = plane::lookup(id, &plane[..len]);
-                    let queried = table_calls::query(&table, id);
+                    let queried = table::query(&table, id);
                     if queried.is_accepted() {
                         assert_eq!(looked, queried);
                     } else {

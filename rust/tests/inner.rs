@@ -13,7 +13,7 @@ fn checked_and_inner_calls() {
     for (buckets1, buckets2) in [(1, 1), (2, 1), (3, 2), (7, 5)] {
         let shape = Shape::new(buckets1, buckets2).unwrap();
         let mut table = vec![0; shape.table_len()];
-        table_calls::open(&mut table, buckets1, buckets2);
+        table::open(&mut table, buckets1, buckets2);
         let mut inner = table.clone();
         let cards = 240 * (buckets1 + buckets2);
         for _ in 0..3000 {
@@ -27,22 +27,22 @@ fn checked_and_inner_calls() {
             let word = identifier::word(id);
             let (checked, answer): (Answer, Answer) = match rng.below(10) {
                 0..=5 => (
-                    table_calls::add(&mut table, id, plan),
+                    table::add(&mut table, id, plan),
                     word.and_then(|word| shape.add(&mut inner, word, plan))
                         .into(),
                 ),
                 6 => (
-                    table_calls::change(&mut table, id, plan),
+                    table::change(&mut table, id, plan),
                     word.and_then(|word| shape.change(&mut inner, word, plan))
                         .into(),
                 ),
                 7 => (
-                    table_calls::withdraw(&mut table, id),
+                    table::withdraw(&mut table, id),
                     word.and_then(|word| shape.withdraw(&mut inner, word))
                         .into(),
                 ),
                 _ => (
-                    table_calls::query(&table, id),
+                    table::query(&table, id),
                     word.and_then(|word| shape.query(&inner, word)).into(),
                 ),
             };

@@ -12,7 +12,7 @@ const ACCEPTED: Answer = Answer { cause: 0, value: 0 };
 const NOT_SOUND: Answer = Answer { cause: 5, value: 0 };
 
 fn soundness(table: &[u64]) -> Answer {
-    match table_calls::check(table) {
+    match table::check(table) {
         Ok(_) => ACCEPTED,
         Err(refusal) => refusal,
     }
@@ -59,20 +59,20 @@ fn each_rule_alone() {
         // All calls give it, and keep the table and the output.
         let kept = other.clone();
         let mut output = [9; 10_000];
-        assert_eq!(table_calls::add(&mut other, b"x", 1), NOT_SOUND);
-        assert_eq!(table_calls::change(&mut other, b"x", 1), NOT_SOUND);
-        assert_eq!(table_calls::withdraw(&mut other, b"x"), NOT_SOUND);
-        assert_eq!(table_calls::query(&other, b"x"), NOT_SOUND);
+        assert_eq!(table::add(&mut other, b"x", 1), NOT_SOUND);
+        assert_eq!(table::change(&mut other, b"x", 1), NOT_SOUND);
+        assert_eq!(table::withdraw(&mut other, b"x"), NOT_SOUND);
+        assert_eq!(table::query(&other, b"x"), NOT_SOUND);
         assert_eq!(reference::plane::write(&other, &mut output), NOT_SOUND);
         assert_eq!(
-            table_calls::add(&mut other, b"", 1),
+            table::add(&mut other, b"", 1),
             Answer { cause: 1, value: 0 }
         );
-        assert_eq!(table_calls::query(&other, b" "), Answer { cause: 2, value: 0 });
+        assert_eq!(table::query(&other, b" "), Answer { cause: 2, value: 0 });
         assert_eq!(other, kept);
         assert_eq!(output, [9; 10_000]);
         // Opening does not mind.
-        assert_eq!(table_calls::open(&mut other, 2, 2), ACCEPTED);
+        assert_eq!(table::open(&mut other, 2, 2), ACCEPTED);
         assert_eq!(other, ExactTable::open(2, 2).numbers());
     };
 
@@ -168,10 +168,10 @@ fn lengths_and_bucket_numbers() {
         assert_eq!(oracle::soundness(table), expected);
         let mut other = table.to_vec();
         let mut output = [9; 200];
-        assert_eq!(table_calls::add(&mut other, b"x", 1), expected);
-        assert_eq!(table_calls::change(&mut other, b"x", 1), expected);
-        assert_eq!(table_calls::withdraw(&mut other, b"x"), expected);
-        assert_eq!(table_calls::query(&other, b"x"), expected);
+        assert_eq!(table::add(&mut other, b"x", 1), expected);
+        assert_eq!(table::change(&mut other, b"x", 1), expected);
+        assert_eq!(table::withdraw(&mut other, b"x"), expected);
+        assert_eq!(table::query(&other, b"x"), expected);
         assert_eq!(reference::plane::write(&other, &mut output), expected);
         assert_eq!(other, table);
         assert_eq!(output, [9; 200]);
@@ -218,24 +218,24 @@ fn a_bound_of_zero_and_w2_of_zero() {
     assert_eq!(soundness(&table), ACCEPTED);
     let zero = oracle::unsecond(0);
     assert_eq!(
-        table_calls::query_word(&table, zero),
+        table::query_word(&table, zero),
         Answer { cause: 7, value: 0 }
     );
     assert_eq!(
-        table_calls::add_word(&mut table, zero, 7),
+        table::add_word(&mut table, zero, 7),
         Answer { cause: 0, value: 1 }
     );
     assert_eq!(soundness(&table), ACCEPTED);
     assert_eq!(
-        table_calls::query_word(&table, zero),
+        table::query_word(&table, zero),
         Answer { cause: 0, value: 7 }
     );
     assert_eq!(
-        table_calls::add_word(&mut table, zero, 8),
+        table::add_word(&mut table, zero, 8),
         Answer { cause: 6, value: 7 }
     );
     assert_eq!(
-        table_calls::withdraw_word(&mut table, zero),
+        table::withdraw_word(&mut table, zero),
         Answer { cause: 0, value: 7 }
     );
     assert_eq!(table, exact.numbers());

@@ -199,19 +199,19 @@ fn cards(rng: &mut Rng, count: usize) -> Vec<Vec<u8>> {
 fn filled_table(rng: &mut Rng, b1: u64, b2: u64, base: u64) -> (Vec<u64>, Vec<Vec<u8>>) {
     let shape = Shape::new(b1, b2).expect("in range");
     let mut t = vec![0; shape.table_len()];
-    table_calls::open(&mut t, b1, b2);
+    table::open(&mut t, b1, b2);
     let mut inside = Vec::new();
     for id in cards(rng, 8000) {
         let word = identifier::word(&id).expect("an identifier");
         let mut next = t.clone();
-        if shape.add(&mut next, word, rng.byte()).is_ok() && next[table_calls::BASE_COUNT] <= base {
+        if shape.add(&mut next, word, rng.byte()).is_ok() && next[table::BASE_COUNT] <= base {
             t = next;
             inside.push(id);
-        } else if t[table_calls::BASE_COUNT] == base {
+        } else if t[table::BASE_COUNT] == base {
             break;
         }
     }
-    assert_eq!(t[table_calls::BASE_COUNT], base);
+    assert_eq!(t[table::BASE_COUNT], base);
     (t, inside)
 }
 
@@ -223,7 +223,7 @@ fn fill(
     add: impl Fn(&mut [u64], &[u8]) -> bool,
 ) -> (u32, Vec<u64>) {
     let mut t = vec![0; Shape::new(b1, b2).expect("in range").table_len()];
-    table_calls::open(&mut t, b1, b2);
+    table::open(&mut t, b1, b2);
     let taken = ids.iter().take_while(|id| add(&mut t, id)).count();
     (taken as u32, t)
 }
@@ -232,7 +232,7 @@ fn fill(
 fn filling(rng: &mut Rng, b1: u64, b2: u64) {
     let ids = cards(rng, 8000);
     let ours = || fill(&ids, b1, b2, |t, id| ours::add(t, id, 7).cause == 0);
-    let theirs = || fill(&ids, b1, b2, |t, id| table_calls::add(t, id, 7).cause == 0);
+    let theirs = || fill(&ids, b1, b2, |t, id| table::add(t, id, 7).cause == 0);
     let (taken, t) = ours();
     assert_eq!((taken, t), theirs());
     compare_in(
@@ -256,7 +256,7 @@ fn filling_words(rng: &mut Rng, b1: u64, b2: u64) {
         .collect();
     let shape = Shape::new(b1, b2).expect("in range");
     let theirs = |t: &mut [u64]| {
-        table_calls::open(t, b1, b2);
+        table::open(t, b1, b2);
         words
             .iter()
             .take_while(|&&w| shape.add(t, w, w as u8).is_ok())
@@ -298,7 +298,7 @@ fn tables(rng: &mut Rng) {
             },
             || {
                 asked.iter().for_each(|id| {
-                    black_box(table_calls::query(&t, id));
+                    black_box(table::query(&t, id));
                 })
             },
         );
@@ -312,7 +312,7 @@ fn tables(rng: &mut Rng) {
             },
             || {
                 asked.iter().for_each(|id| {
-                    black_box(table_calls::change(&mut b, id, 7));
+                    black_box(table::change(&mut b, id, 7));
                 })
             },
         );
@@ -327,8 +327,8 @@ fn tables(rng: &mut Rng) {
             },
             || {
                 for id in &asked {
-                    black_box(table_calls::withdraw(&mut b, id));
-                    black_box(table_calls::add(&mut b, id, 9));
+                    black_box(table::withdraw(&mut b, id));
+                    black_box(table::add(&mut b, id, 9));
                 }
             },
         );
@@ -395,7 +395,7 @@ fn opening_and_withdrawing(rng: &mut Rng) {
             },
             || {
                 for _ in 0..N {
-                    black_box(table_calls::open(black_box(&mut b), b1, b2));
+                    black_box(table::open(black_box(&mut b), b1, b2));
                 }
             },
         );
@@ -412,7 +412,7 @@ fn opening_and_withdrawing(rng: &mut Rng) {
             || {
                 b.copy_from_slice(&t);
                 inside.iter().for_each(|id| {
-                    black_box(table_calls::withdraw(&mut b, id));
+                    black_box(table::withdraw(&mut b, id));
                 })
             },
         );
@@ -481,11 +481,11 @@ fn plane_sizes(rng: &mut Rng) {
         let mut each = Vec::new();
         for _ in 0..FILLS {
             let mut t = vec![0; shape.table_len()];
-            table_calls::open(&mut t, b1, b2);
+            table::open(&mut t, b1, b2);
             while shape.add(&mut t, rng.next(), rng.byte()).is_ok() {}
             let written = ours::write_plane(&t, &mut [0; 6000]);
             assert!(written.is_accepted());
-            let live = t[table_calls::LIVE_COUNT];
+            let live = t[table::LIVE_COUNT];
             words += live;
             bytes += written.value;
             each.push(written.value as f64 / live as f64);

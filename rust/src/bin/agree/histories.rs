@@ -59,7 +59,7 @@ impl History {
             "open",
             (b1, b2),
             ours::open(&mut history.ours_t, b1, b2),
-            table_calls::open(&mut history.t, b1, b2),
+            table::open(&mut history.t, b1, b2),
         );
         history
     }
@@ -152,14 +152,14 @@ impl History {
             "open",
             (b1, b2),
             ours::open(&mut self.ours_t, b1, b2),
-            table_calls::open(&mut self.t, b1, b2),
+            table::open(&mut self.t, b1, b2),
         );
         same_all("table", (b1, b2), &self.ours_t, &self.t);
     }
 
     /// The plane of both, looked up for every card: a live one gives its plan.
     fn plane(&mut self) {
-        if table_calls::check(&self.t) != Ok(self.shape) {
+        if table::check(&self.t) != Ok(self.shape) {
             differ("table", self.t.len(), "not sound by the reference");
         }
         let (mut ours_out, mut out) = ([0xa5; 6000], [0xa5; 6000]);

@@ -88,7 +88,7 @@ fn each_damage(seen: &mut Seen, id: &[u8], whole: &[u8], from: usize) {
 pub fn edges(rng: &mut Rng) {
     let cards = cards(rng, 60);
     let mut t = vec![0; 280];
-    table_calls::open(&mut t, 1, 1);
+    table::open(&mut t, 1, 1);
     let mut expected = vec![0; 142];
     plane::write(&t, &mut expected);
     let mut out = vec![7; 142];
@@ -113,14 +113,14 @@ pub fn edges(rng: &mut Rng) {
     // 48 and 32 buckets of bound 0: every word goes to the base list, which takes 64.
     let shape = Shape::new(48, 32).expect("in range");
     let mut t = vec![0; shape.table_len()];
-    table_calls::open(&mut t, 48, 32);
+    table::open(&mut t, 48, 32);
     for bucket in 0..80 {
         t[4 + 74 * bucket + 73] = 0;
     }
     let mut ours_t = t.clone();
     let mut count = 0;
     for id in reference_cards(65) {
-        let answer = table_calls::add(&mut t, &id, 9);
+        let answer = table::add(&mut t, &id, 9);
         same("base add", &id, ours::add(&mut ours_t, &id, 9), answer);
         same_all("table", &id, &ours_t, &t);
         count += u64::from(answer.is_accepted());

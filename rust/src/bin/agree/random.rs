@@ -63,7 +63,7 @@ pub fn some_table(rng: &mut Rng, cards: &[Vec<u8>]) -> Vec<u64> {
     let (b1, b2) = some_shape(rng);
     let shape = Shape::new(b1, b2).expect("in range");
     let mut t = vec![0; shape.table_len()];
-    table_calls::open(&mut t, b1, b2);
+    table::open(&mut t, b1, b2);
     for _ in 0..rng.below(cards.len() as u64 + 1) {
         let id = rng.pick(cards);
         let word = identifier::word(id).expect("a card");

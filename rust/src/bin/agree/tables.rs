@@ -20,7 +20,7 @@ fn call(rng: &mut Rng, seen: &mut Seen, cards: &[Vec<u8>], ours_t: &mut [u64], t
         "open",
         (b1, b2),
         ours::open(ours_t, b1, b2),
-        table_calls::open(t, b1, b2),
+        table::open(t, b1, b2),
     );
     same_all("table", (b1, b2), ours_t, t);
 }
@@ -35,24 +35,24 @@ fn call_but_open(
     let id = card(rng, cards);
     let plan = rng.byte();
     match rng.below(24) {
-        0..=6 => seen.same("query", &id, ours::query(ours_t, &id), table_calls::query(t, &id)),
+        0..=6 => seen.same("query", &id, ours::query(ours_t, &id), table::query(t, &id)),
         7..=12 => seen.same(
             "change",
             &id,
             ours::change(ours_t, &id, plan),
-            table_calls::change(t, &id, plan),
+            table::change(t, &id, plan),
         ),
         13..=15 => seen.same(
             "withdraw",
             &id,
             ours::withdraw(ours_t, &id),
-            table_calls::withdraw(t, &id),
+            table::withdraw(t, &id),
         ),
         _ => seen.same(
             "add",
             &id,
             ours::add(ours_t, &id, plan),
-            table_calls::add(t, &id, plan),
+            table::add(t, &id, plan),
         ),
     }
     same_all("table", &id, ours_t, t);
@@ -102,14 +102,14 @@ pub fn histories(rng: &mut Rng, cases: u64) {
             "open",
             (b1, b2),
             ours::open(&mut ours_t, b1, b2),
-            table_calls::open(&mut t, b1, b2),
+            table::open(&mut t, b1, b2),
         );
         let mut filling = true;
         for _ in 0..2000 {
             if filling {
                 let id = rng.pick::<Vec<u8>>(&cards);
                 let plan = rng.byte();
-                let answer = table_calls::add(&mut t, id, plan);
+                let answer = table::add(&mut t, id, plan);
                 seen.same("add", id, ours::add(&mut ours_t, id, plan), answer);
                 same_all("table", id, &ours_t, &t);
                 if answer.cause == 8 {
