@@ -7,7 +7,7 @@ use Rattle.answer.specs.declared.Answer.{Answer}
 use Rattle.identifier.specs.Identifier.{readOf}
 use Rattle.identifier.specs.declared.Read.{Read}
 use Rattle.identifier.specs.declared.Read.the-variants.{Word, Refused}
-use Rattle.model.specs.Request.{subject, askOf}
+use Rattle.model.specs.Request.{subject, askOf, wordFor}
 use Rattle.table.specs.Calls.{turnedDown, served, call}
 use Rattle.table.specs.History.{flatState}
 use Rattle.table.proofs.Statements.{stands-sound, sound-stands}
@@ -35,8 +35,8 @@ nameless Del i p = refl
 nameless Get i p = refl
 
 module _ (t : List ℕ) (h : Ready t) (v : Verb) (i : List ℕ) (p : ℕ) (x : Read) (e : x ≡ readOf i) where
-  read : x ≡ admitted t (readOf (subject (callOf v i p)))
-  read = e ∙ ap readOf (subject-of v i p) ∙ admits-all t h (readOf (subject (callOf v i p)))
+  read : x ≡ admitted t (wordFor (callOf v i p))
+  read = e ∙ ap readOf (subject-of v i p) ∙ admits-all t h (wordFor (callOf v i p))
 
   pub asked-word : (w : ℕ) → x ≡ Word w → call t (callOf v i p) ≡ served t w (callOf v [] p)
   asked-word w q = call-word t (callOf v i p) x read w q ∙ ap (served t w) (nameless v i p)

@@ -18,7 +18,7 @@ use Rattle.identifier.specs.declared.Read.{Read}
 use Rattle.identifier.specs.declared.Read.the-variants.{Word, Refused}
 use Rattle.model.specs.Model.{baseLimit}
 use Rattle.table.specs.Test.{shapeTest}
-use Rattle.table.specs.Layout.{mostBuckets1, mostBuckets2, inRange, header, lengthOf}
+use Rattle.table.specs.Layout.{buckets1At, buckets2At, baseCountAt, mostBuckets1, mostBuckets2, inRange, header, lengthOf}
 use Rattle.table.specs.Calls.{rows, solutions, tableOf, shaped, sound, FlatSound}
 use Rattle.table.proofs.Statements.{sound-exactly, header-read}
 use Rattle.plane.specs.Record.{format1}
@@ -31,9 +31,9 @@ use Rattle.plane.proofs.Round.{plane-length, written-right, written-read}
 use Rattle.plane_write.proofs.Shown.{Words, Sols, narrow, plane-fits, shown}
 
 module _ (t : List ℕ) (w : Sols (tableOf t)) (k : shaped t ≡ true) (h : FlatSound t) where
-  in-range : inRange (getD t 0 0) (getD t 1 0) ≡ true
+  in-range : inRange (getD t buckets1At 0) (getD t buckets2At 0) ≡ true
   unfolding shapeTest
-  in-range = both (inRange (getD t 0 0) (getD t 1 0)) _ (both (leb header (length t)) _ k .1) .0
+  in-range = both (inRange (getD t buckets1At 0) (getD t buckets2At 0)) _ (both (leb header (length t)) _ k .1) .0
 
   pub fits : Fits format1 (planeOf (tableOf t))
   fits = plane-fits rows format1 t w unmixOf (lit≤ tt) in-range (h .table)
@@ -51,12 +51,12 @@ module _ (t : List ℕ) (w : Sols (tableOf t)) (k : shaped t ≡ true) (h : Flat
 
 -- what the writer knows of a sound table t
 pub record Known (t : List ℕ) : Type 0 where
-  pub size : length t ≡ lengthOf rows solutions (getD t 0 0) (getD t 1 0)
-  pub most1 : getD t 0 0 ≤ mostBuckets1
-  pub most2 : getD t 1 0 ≤ mostBuckets2
-  pub few : getD t 2 0 ≤ baseLimit
+  pub size : length t ≡ lengthOf rows solutions (getD t buckets1At 0) (getD t buckets2At 0)
+  pub most1 : getD t buckets1At 0 ≤ mostBuckets1
+  pub most2 : getD t buckets2At 0 ≤ mostBuckets2
+  pub few : getD t baseCountAt 0 ≤ baseLimit
   pub fits : Fits format1 (planeOf (tableOf t))
-  pub long : length (planeBytes format1 (planeOf (tableOf t))) ≡ planeLength format1 (getD t 0 0 + getD t 1 0) (getD t 2 0)
+  pub long : length (planeBytes format1 (planeOf (tableOf t))) ≡ planeLength format1 (getD t buckets1At 0 + getD t buckets2At 0) (getD t baseCountAt 0)
 
 pub known : (t : List ℕ) → Words t → shaped t ≡ true → sound t ≡ true → Known t
 unfolding shapeTest
@@ -64,12 +64,12 @@ known t w k q =
     let h : FlatSound t = sound-exactly t k w .0 q in
     let f : Fits format1 (planeOf (tableOf t)) = fits t (narrow rows format1 t w) k h in
     let r = header-read t in
-    let c = both (inRange (getD t 0 0) (getD t 1 0)) _ (both (leb header (length t)) _ k .1) in
-    let d = both (leb 1 (getD t 0 0) && leb (getD t 0 0) mostBuckets1) _ (c .0) in
+    let c = both (inRange (getD t buckets1At 0) (getD t buckets2At 0)) _ (both (leb header (length t)) _ k .1) in
+    let d = both (leb 1 (getD t buckets1At 0) && leb (getD t buckets1At 0) mostBuckets1) _ (c .0) in
     record {
-      size = eqb-true (length t) (lengthOf rows solutions (getD t 0 0) (getD t 1 0)) (c .1);
-      most1 = leb-true (getD t 0 0) mostBuckets1 (both (leb 1 (getD t 0 0)) _ (d .0) .1);
-      most2 = leb-true (getD t 1 0) mostBuckets2 (both (leb 1 (getD t 1 0)) _ (d .1) .1);
+      size = eqb-true (length t) (lengthOf rows solutions (getD t buckets1At 0) (getD t buckets2At 0)) (c .1);
+      most1 = leb-true (getD t buckets1At 0) mostBuckets1 (both (leb 1 (getD t buckets1At 0)) _ (d .0) .1);
+      most2 = leb-true (getD t buckets2At 0) mostBuckets2 (both (leb 1 (getD t buckets2At 0)) _ (d .1) .1);
       few = rw (r .2) at (h .table .fits);
       fits = f;
       long = plane-length format1 (planeOf (tableOf t)) f

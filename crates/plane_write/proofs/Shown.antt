@@ -20,7 +20,7 @@ use Rattle.bucket_words.specs.Words.{bucketWords, bucketFrom}
 use Rattle.bucket_settle.specs.Settle.{SoundBucket, planOf}
 use Rattle.table.specs.Table as C
 use Rattle.table.specs.Table.{Table}
-use Rattle.table.specs.Layout.{inRange, levelFrom, bucketPlace, tableFrom}
+use Rattle.table.specs.Layout.{buckets1At, buckets2At, inRange, levelFrom, bucketPlace, tableFrom}
 use Rattle.table.specs.Sound.{SoundTable}
 use Rattle.table.proofs.Numbers.{header-read}
 use Rattle.plane.specs.declared.Held.the-variants.{Plan, Passed}
@@ -110,11 +110,11 @@ module _ (n : ℕ) (F : Format) where
   pub narrow : (xs : List ℕ) → Words xs → Sols (tableFrom n r xs)
   unfolding tableFrom
   narrow xs w = (
-    level-narrow (getD xs 0 0) (drop (bucketPlace n r 0) xs) (words-drop (bucketPlace n r 0) xs w),
-    level-narrow (getD xs 1 0) (drop (bucketPlace n r (getD xs 0 0)) xs) (words-drop (bucketPlace n r (getD xs 0 0)) xs w),
+    level-narrow (getD xs buckets1At 0) (drop (bucketPlace n r 0) xs) (words-drop (bucketPlace n r 0) xs w),
+    level-narrow (getD xs buckets2At 0) (drop (bucketPlace n r (getD xs buckets1At 0)) xs) (words-drop (bucketPlace n r (getD xs buckets1At 0)) xs w),
   )
 
-  pub plane-fits : (xs : List ℕ) → Sols (tableFrom n r xs) → (U : ℕ → ℕ) → 2 ^ n ≤ 256 ^ wordBytes → inRange (getD xs 0 0) (getD xs 1 0) ≡ true
+  pub plane-fits : (xs : List ℕ) → Sols (tableFrom n r xs) → (U : ℕ → ℕ) → 2 ^ n ≤ 256 ^ wordBytes → inRange (getD xs buckets1At 0) (getD xs buckets2At 0) ≡ true
       → SoundTable n r mixOf U (tableFrom n r xs) → Fits F (planeOf (tableFrom n r xs))
   plane-fits xs w U hn g h =
       let t : Table = tableFrom n r xs in

@@ -15,7 +15,7 @@ use Rattle.codec.specs.Parts.{written}
 use Rattle.codec.proofs.Part.{written-fits, written-append}
 use Rattle.bucket.specs.Bucket.{largestBound}
 use Rattle.bucket_words.specs.Words.{bucketWords}
-use Rattle.table.specs.Layout.{header, levelFrom, pairsFrom, bucketPlace, tableFrom}
+use Rattle.table.specs.Layout.{buckets1At, buckets2At, baseCountAt, header, levelFrom, pairsFrom, bucketPlace, tableFrom}
 use Rattle.table.proofs.Numbers.{header-read}
 use Rattle.plane.specs.Record.{Format, readAll, PlaneBucket, headerRecord}
 use Rattle.plane.specs.Plane.{planeBytes, bucketsAt}
@@ -42,13 +42,13 @@ module _ (n : ℕ) (F : Format) where
 
   module _ (xs : List ℕ) where
     abbrev b1 : ℕ
-    b1 = getD xs 0 0
+    b1 = getD xs buckets1At 0
 
     abbrev b2 : ℕ
-    b2 = getD xs 1 0
+    b2 = getD xs buckets2At 0
 
     abbrev k : ℕ
-    k = getD xs 2 0
+    k = getD xs baseCountAt 0
 
     levels-read : map seenOf (tableFrom n r xs .level1) ++ map seenOf (tableFrom n r xs .level2) ≡ readAll (bucketWords n r) (seenFrom n r) (b1 + b2) (drop header xs)
     unfolding tableFrom
@@ -85,11 +85,11 @@ module _ (n : ℕ) (F : Format) where
 
 -- the header, then the records, in front of an output with room for them
 pub front-put : (n : ℕ) (F : Format) (xs out o : List ℕ) → length (planeBytes F (planeOf (tableFrom n (F .words) xs))) ≤ length out
-    → o ≡ written bucketsAt (recordsOf n F (getD xs 0 0 + getD xs 1 0) (getD xs 2 0) xs) (written 0 (headerRecord F (getD xs 0 0) (getD xs 1 0) (getD xs 2 0)) out)
+    → o ≡ written bucketsAt (recordsOf n F (getD xs buckets1At 0 + getD xs buckets2At 0) (getD xs baseCountAt 0) xs) (written 0 (headerRecord F (getD xs buckets1At 0) (getD xs buckets2At 0) (getD xs baseCountAt 0)) out)
     → o ≡ inFront (planeBytes F (planeOf (tableFrom n (F .words) xs))) out .output
 front-put n F xs out o h e =
     e
-    ∙ sym (written-append 0 (headerRecord F (getD xs 0 0) (getD xs 1 0) (getD xs 2 0)) (recordsOf n F (getD xs 0 0 + getD xs 1 0) (getD xs 2 0) xs) out)
+    ∙ sym (written-append 0 (headerRecord F (getD xs buckets1At 0) (getD xs buckets2At 0) (getD xs baseCountAt 0)) (recordsOf n F (getD xs buckets1At 0 + getD xs buckets2At 0) (getD xs baseCountAt 0) xs) out)
     ∙ ap (λ (p : List ℕ). written 0 p out) (sym (plane-bytes n F xs))
     ∙ written-fits 0 (planeBytes F (planeOf (tableFrom n (F .words) xs))) out (omega arith)
     ∙ rw zero-add refl

@@ -19,7 +19,7 @@ ghost use Rattle.hash.specs.Mix.{mixOf};
 ghost use Rattle.answer.specs.declared.Answer.the-variants.{Accepted};
 ghost use Rattle.model.specs.Model.{add};
 ghost use Rattle.table.specs.Table.{withBase};
-ghost use Rattle.table.specs.Layout.{numbersOf};
+ghost use Rattle.table.specs.Layout.{liveCountAt, numbersOf};
 ghost use Rattle.table.specs.Calls.{rows, solutions, tableOf, served, call};
 ghost use Rattle.table_calls.specs.Ready.{Ready};
 ghost use Rattle.table_arrive.specs.Arrival.{Passed, FlatKept};
@@ -105,8 +105,8 @@ pub(crate) fn pass_on(t: &mut [u64], out: Outgoing) -> bool
 
 // One more live word.
 pub(crate) fn count_one(t: &mut [u64]) -> Answer
-    requires { ⌜ (3 < length (now t)) × (getD (now t) 3 0 + 1 < 2 ^ 64) ⌝ }
-    ensures { λ r. ⌜ (r ≡ Accepted (getD (now (t .entry)) 3 0 + 1)) × (now (t .exit) ≡ set (now (t .entry)) 3 (getD (now (t .entry)) 3 0 + 1)) ⌝ }
+    requires { ⌜ (liveCountAt < length (now t)) × (getD (now t) liveCountAt 0 + 1 < 2 ^ 64) ⌝ }
+    ensures { λ r. ⌜ (r ≡ Accepted (getD (now (t .entry)) liveCountAt 0 + 1)) × (now (t .exit) ≡ set (now (t .entry)) liveCountAt (getD (now (t .entry)) liveCountAt 0 + 1)) ⌝ }
 {
     let count = t[Table::LIVE_COUNT_AT] + 1;
     t[Table::LIVE_COUNT_AT] = count;

@@ -20,7 +20,7 @@ ghost use Rattle.bucket_settle.specs.Settle.{SoundBucket, thresholdOf};
 ghost use Rattle.bucket_settle.specs.Outgoing.{settledOf};
 ghost use Rattle.model.specs.Model.{baseLimit};
 ghost use Rattle.table.specs.Table.{withBase};
-ghost use Rattle.table.specs.Layout.{pairsFrom, basePairs, numbersOf};
+ghost use Rattle.table.specs.Layout.{baseCountAt, pairsFrom, basePairs, numbersOf};
 ghost use Rattle.table.specs.Calls.{rows, solutions, tableOf};
 ghost use Rattle.table_base.specs.Base.{Pairs};
 ghost use Rattle.table_arrive.specs.Arrival.{entriesOf, settledAt, storedAt, goesIn, addedIn, toSecond, Straight, Passed, FlatKept};
@@ -87,7 +87,7 @@ pub(crate) fn insert_all(pairs: &mut [u64], count: usize, out: Outgoing)
 
 // The words into the base list of a table, and its count.
 pub(crate) fn enter_base(t: &mut [u64], out: Outgoing)
-    requires { ⌜ FlatKept rows solutions (now t) × (getD (now t) 2 0 + out .count ≤ baseLimit) ⌝ }
+    requires { ⌜ FlatKept rows solutions (now t) × (getD (now t) baseCountAt 0 + out .count ≤ baseLimit) ⌝ }
     ensures { λ _. ⌜ now (t .exit) ≡ numbersOf (withBase (tableOf (now (t .entry))) (insertAll (entriesOf out) (tableOf (now (t .entry)) .base))) ⌝ }
 {
     let a = table_layout::base_place(t);

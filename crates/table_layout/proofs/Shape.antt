@@ -13,7 +13,7 @@ use borrow.Author.Tests.{eqb-true, leb-true}
 use Rattle.lists.proofs.Tests.{and-one, and-two}
 use Rattle.bucket_words.specs.Words.{bucketWords, bucketFrom}
 use Rattle.table.specs.Table.{nth, index, bucketOf}
-use Rattle.table.specs.Layout.{mostBuckets1, mostBuckets2, inRange, header, bucketPlace, lengthOf, tableFrom}
+use Rattle.table.specs.Layout.{buckets1At, buckets2At, mostBuckets1, mostBuckets2, inRange, header, bucketPlace, lengthOf, tableFrom}
 use Rattle.table.specs.Test.{shapeTest}
 use Rattle.table.proofs.Numbers.{header-read, read-first, read-second}
 
@@ -50,15 +50,15 @@ one-more w at {m} {i} h k =
 
 module _ (n r : ℕ) (xs : List ℕ) where
   abbrev b1 : ℕ
-  b1 = getD xs 0 0
+  b1 = getD xs buckets1At 0
 
   abbrev b2 : ℕ
-  b2 = getD xs 1 0
+  b2 = getD xs buckets2At 0
 
   -- the right shape
   pub record Shape : Type 0 where
-    pub range : Range (getD xs 0 0) (getD xs 1 0)
-    pub size : length xs ≡ lengthOf n r (getD xs 0 0) (getD xs 1 0)
+    pub range : Range (getD xs buckets1At 0) (getD xs buckets2At 0)
+    pub size : length xs ≡ lengthOf n r (getD xs buckets1At 0) (getD xs buckets2At 0)
 
   -- the bound of the bucket at a place
   pub bound-is : (p : ℕ) → bucketFrom n r (drop p xs) .bound ≡ getD xs (p + (n + 1 + r)) 0
@@ -102,5 +102,5 @@ module _ (n r : ℕ) (xs : List ℕ) where
 pub shape : {n r : ℕ} {xs : List ℕ} → shapeTest n r xs ≡ true → Shape n r xs
 unfolding shapeTest
 shape {n} {r} {xs} e =
-    let q : (inRange (getD xs 0 0) (getD xs 1 0) && _) ≡ true = and-two (leb header (length xs)) _ e in
-    record { range = range _ _ (and-one _ _ q); size = eqb-true _ _ (and-two (inRange (getD xs 0 0) (getD xs 1 0)) _ q) }
+    let q : (inRange (getD xs buckets1At 0) (getD xs buckets2At 0) && _) ≡ true = and-two (leb header (length xs)) _ e in
+    record { range = range _ _ (and-one _ _ q); size = eqb-true _ _ (and-two (inRange (getD xs buckets1At 0) (getD xs buckets2At 0)) _ q) }

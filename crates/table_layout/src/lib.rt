@@ -10,7 +10,7 @@ ghost use lib.ListN.{length, getD, drop};
 ghost use Rattle.hash.specs.Mix.{mixOf};
 ghost use Rattle.bucket_words.specs.Words.{bucketFrom};
 ghost use Rattle.table.specs.Table.{index, holds};
-ghost use Rattle.table.specs.Layout.{inRange, bucketPlace, lengthOf};
+ghost use Rattle.table.specs.Layout.{buckets1At, buckets2At, inRange, bucketPlace, lengthOf};
 ghost use Rattle.table.specs.Calls.{rows, solutions, tableOf, shaped};
 
 // The table of document 01: its limits and the places of its parts.
@@ -97,7 +97,7 @@ pub fn shaped(t: &[u64]) -> bool
 
 // The bound of bucket i, level 1 first.
 pub fn bound_at(t: &[u64], i: usize) -> u64
-    requires { ⌜ (shaped (now t) ≡ true) × (i < getD (now t) 0 0 + getD (now t) 1 0) ⌝ }
+    requires { ⌜ (shaped (now t) ≡ true) × (i < getD (now t) buckets1At 0 + getD (now t) buckets2At 0) ⌝ }
     ensures { λ r. ⌜ r ≡ bucketFrom rows solutions (drop (bucketPlace rows solutions i) (now (t .entry))) .bound ⌝ }
 {
     t[bucket_place(i) + Bucket::BOUND_AT]
@@ -106,7 +106,7 @@ pub fn bound_at(t: &[u64], i: usize) -> u64
 // The number of the bucket of v at level 1.
 pub fn first_index(t: &[u64], v: u64) -> usize
     requires { ⌜ shaped (now t) ≡ true ⌝ }
-    ensures { λ r. ⌜ r ≡ index mixOf (getD (now (t .entry)) 0 0) v ⌝ }
+    ensures { λ r. ⌜ r ≡ index mixOf (getD (now (t .entry)) buckets1At 0) v ⌝ }
 {
     identifier::bucket(v, t[Table::BUCKETS_1_AT]) as usize
 }
@@ -114,7 +114,7 @@ pub fn first_index(t: &[u64], v: u64) -> usize
 // The number of the bucket of v at level 2, after those of level 1.
 pub fn second_index(t: &[u64], v: u64) -> usize
     requires { ⌜ shaped (now t) ≡ true ⌝ }
-    ensures { λ r. ⌜ r ≡ getD (now (t .entry)) 0 0 + index mixOf (getD (now (t .entry)) 1 0) v ⌝ }
+    ensures { λ r. ⌜ r ≡ getD (now (t .entry)) buckets1At 0 + index mixOf (getD (now (t .entry)) buckets2At 0) v ⌝ }
 {
     (t[Table::BUCKETS_1_AT] + identifier::bucket(v, t[Table::BUCKETS_2_AT])) as usize
 }
@@ -122,7 +122,7 @@ pub fn second_index(t: &[u64], v: u64) -> usize
 // The place of v's bucket at level 1.
 pub fn first_place(t: &[u64], v: u64) -> usize
     requires { ⌜ shaped (now t) ≡ true ⌝ }
-    ensures { λ r. ⌜ r ≡ bucketPlace rows solutions (index mixOf (getD (now (t .entry)) 0 0) v) ⌝ }
+    ensures { λ r. ⌜ r ≡ bucketPlace rows solutions (index mixOf (getD (now (t .entry)) buckets1At 0) v) ⌝ }
 {
     bucket_place(first_index(t, v))
 }
@@ -130,7 +130,7 @@ pub fn first_place(t: &[u64], v: u64) -> usize
 // The place of v's bucket at level 2.
 pub fn second_place(t: &[u64], v: u64) -> usize
     requires { ⌜ shaped (now t) ≡ true ⌝ }
-    ensures { λ r. ⌜ r ≡ bucketPlace rows solutions (getD (now (t .entry)) 0 0 + index mixOf (getD (now (t .entry)) 1 0) v) ⌝ }
+    ensures { λ r. ⌜ r ≡ bucketPlace rows solutions (getD (now (t .entry)) buckets1At 0 + index mixOf (getD (now (t .entry)) buckets2At 0) v) ⌝ }
 {
     bucket_place(second_index(t, v))
 }
@@ -154,7 +154,7 @@ pub fn holds_second(t: &[u64], v: u64) -> bool
 // The place of the base list.
 pub fn base_place(t: &[u64]) -> usize
     requires { ⌜ shaped (now t) ≡ true ⌝ }
-    ensures { λ r. ⌜ r ≡ bucketPlace rows solutions (getD (now (t .entry)) 0 0 + getD (now (t .entry)) 1 0) ⌝ }
+    ensures { λ r. ⌜ r ≡ bucketPlace rows solutions (getD (now (t .entry)) buckets1At 0 + getD (now (t .entry)) buckets2At 0) ⌝ }
 {
     bucket_place((t[Table::BUCKETS_1_AT] + t[Table::BUCKETS_2_AT]) as usize)
 }

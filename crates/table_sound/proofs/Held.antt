@@ -21,7 +21,7 @@ use Rattle.bucket.specs.Bucket.{largestBound}
 use Rattle.bucket_words.specs.Words.{bucketWords, bucketFrom}
 use Rattle.model.specs.Model.{baseLimit}
 use Rattle.table.specs.Table.{thr, index}
-use Rattle.table.specs.Layout.{header, levelFrom, pairsFrom, bucketPlace, tableFrom, unusedIn}
+use Rattle.table.specs.Layout.{buckets1At, buckets2At, baseCountAt, liveCountAt, header, levelFrom, pairsFrom, bucketPlace, tableFrom, unusedIn}
 use Rattle.table.specs.Content.{occupied}
 use Rattle.table.specs.Test.{allOf, ascends, bucketTest, levelTest, row1, row2, row0, soundTest}
 use Rattle.table.specs.Calls.{rows, solutions, tableOf, sound}
@@ -93,21 +93,21 @@ order true true true true true true true = refl
 
 module _ (t : List ℕ) where
   abbrev b1 : ℕ
-  b1 = getD t 0 0
+  b1 = getD t buckets1At 0
 
   abbrev b2 : ℕ
-  b2 = getD t 1 0
+  b2 = getD t buckets2At 0
 
   -- what the tests of the base list say, at its place
   module _ {place : ℕ} (e : place ≡ bucketPlace rows solutions (b1 + b2)) where
-    pub ascending : {x y : Bool} → x ≡ ascends (pairsFrom (getD t 2 0) (drop place t)) → x ≡ y → ascends (pairsFrom (getD t 2 0) (drop (bucketPlace rows solutions (b1 + b2)) t)) ≡ y
-    ascending f h = ap (λ (k : ℕ). ascends (pairsFrom (getD t 2 0) (drop k t))) (sym e) ∙ sym f ∙ h
+    pub ascending : {x y : Bool} → x ≡ ascends (pairsFrom (getD t baseCountAt 0) (drop place t)) → x ≡ y → ascends (pairsFrom (getD t baseCountAt 0) (drop (bucketPlace rows solutions (b1 + b2)) t)) ≡ y
+    ascending f h = ap (λ (k : ℕ). ascends (pairsFrom (getD t baseCountAt 0) (drop k t))) (sym e) ∙ sym f ∙ h
 
-    pub unused : {x y : Bool} → x ≡ allOf (λ x. eqb x 0) (drop (place + 2 * getD t 2 0) t) → x ≡ y → allOf (λ x. eqb x 0) (drop (bucketPlace rows solutions (b1 + b2) + 2 * getD t 2 0) t) ≡ y
-    unused f h = ap (λ (k : ℕ). allOf (λ x. eqb x 0) (drop (k + 2 * getD t 2 0) t)) (sym e) ∙ sym f ∙ h
+    pub unused : {x y : Bool} → x ≡ allOf (λ x. eqb x 0) (drop (place + 2 * getD t baseCountAt 0) t) → x ≡ y → allOf (λ x. eqb x 0) (drop (bucketPlace rows solutions (b1 + b2) + 2 * getD t baseCountAt 0) t) ≡ y
+    unused f h = ap (λ (k : ℕ). allOf (λ x. eqb x 0) (drop (k + 2 * getD t baseCountAt 0) t)) (sym e) ∙ sym f ∙ h
 
-  pub base-fits : countsSound t ≡ true → getD t 2 0 ≤ baseLimit
-  base-fits h = leb-true _ _ (and-one (leb (getD t 2 0) baseLimit) _ h)
+  pub base-fits : countsSound t ≡ true → getD t baseCountAt 0 ≤ baseLimit
+  base-fits h = leb-true _ _ (and-one (leb (getD t baseCountAt 0) baseLimit) _ h)
 
   first-level : levelTest rows (row1 rows solutions mixOf unmixOf (tableOf t)) 0 (tableOf t .level1) ≡ levelSound t false b1 header
   unfolding tableFrom
@@ -117,7 +117,7 @@ module _ (t : List ℕ) where
   unfolding tableFrom
   second-level = λ j. levelTest rows (λ i b v. eqb (index mixOf (header-read rows solutions t .1 j) v) i && (ltb (thr mixOf v) (b .bound) && passes t true v)) 0 (tableOf t .level2)
 
-  all-rows : occupied (tableOf t .level1) + (occupied (tableOf t .level2) + length (tableOf t .base)) ≡ occupied (levelFrom rows solutions (b1 + b2) (drop header t)) + getD t 2 0
+  all-rows : occupied (tableOf t .level1) + (occupied (tableOf t .level2) + length (tableOf t .base)) ≡ occupied (levelFrom rows solutions (b1 + b2) (drop header t)) + getD t baseCountAt 0
   unfolding tableFrom
   all-rows =
       let e = rw (drop-drop (b1 * bucketWords rows solutions) header t) at (occupied-both rows solutions b1 b2 (drop header t)) in
@@ -136,5 +136,5 @@ module _ (t : List ℕ) where
       (ascends (T .base))
       (allOf (λ x. eqb x 0) (unusedIn rows solutions t))
       ∙ ap₂ (λ (x y : Bool). x && (baseSound t && y))
-      (ap₂ (λ (c o : ℕ). leb c baseLimit && eqb (getD t 3 0) o) (header-read rows solutions t .2) all-rows)
+      (ap₂ (λ (c o : ℕ). leb c baseLimit && eqb (getD t liveCountAt 0) o) (header-read rows solutions t .2) all-rows)
       (ap₂ (λ (x y : Bool). x && y) first-level second-level)

@@ -12,7 +12,7 @@ use Rattle.bucket.specs.declared.Bucket.{Bucket}
 use Rattle.bucket_words.specs.Words.{bucketFrom}
 use Rattle.model.specs.Model.{baseLimit}
 use Rattle.table.specs.Table.{thr, index}
-use Rattle.table.specs.Layout.{header, levelFrom, pairsFrom, bucketPlace}
+use Rattle.table.specs.Layout.{buckets1At, buckets2At, baseCountAt, liveCountAt, header, levelFrom, pairsFrom, bucketPlace}
 use Rattle.table.specs.Content.{occupied}
 use Rattle.table.specs.Test.{passes1, row0, allOf, ascends, bucketTest, levelTest}
 use Rattle.table.specs.Calls.{rows, solutions, tableOf}
@@ -47,12 +47,12 @@ pairTest t e = row0 rows solutions mixOf unmixOf (tableOf t) e
 -- the base count is in range, and the live count is right
 abbrev pub countsSound : List ℕ → Bool
 countsSound t =
-    leb (getD t 2 0) baseLimit
-    && eqb (getD t 3 0) (occupied (levelFrom rows solutions (getD t 0 0 + getD t 1 0) (drop header t)) + getD t 2 0)
+    leb (getD t baseCountAt 0) baseLimit
+    && eqb (getD t liveCountAt 0) (occupied (levelFrom rows solutions (getD t buckets1At 0 + getD t buckets2At 0) (drop header t)) + getD t baseCountAt 0)
 
 -- the base list: its words ascend, unused pairs are 0, each entry is held there
 abbrev pub baseSound : List ℕ → Bool
 baseSound t =
-    let place : ℕ = bucketPlace rows solutions (getD t 0 0 + getD t 1 0) in
-    ascends (pairsFrom (getD t 2 0) (drop place t))
-    && (allOf (λ x. eqb x 0) (drop (place + 2 * getD t 2 0) t) && allOf (pairTest t) (pairsFrom (getD t 2 0) (drop place t)))
+    let place : ℕ = bucketPlace rows solutions (getD t buckets1At 0 + getD t buckets2At 0) in
+    ascends (pairsFrom (getD t baseCountAt 0) (drop place t))
+    && (allOf (λ x. eqb x 0) (drop (place + 2 * getD t baseCountAt 0) t) && allOf (pairTest t) (pairsFrom (getD t baseCountAt 0) (drop place t)))

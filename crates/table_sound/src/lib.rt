@@ -9,7 +9,7 @@ ghost use Prim.Native.Nat.{_+_, _*_, _<_, _≤_};
 ghost use lib.Dec.{eqb};
 ghost use lib.ListN.{length, getD, drop};
 ghost use Rattle.gf2.specs.Select.{chosen};
-ghost use Rattle.table.specs.Layout.{levelFrom, pairsFrom};
+ghost use Rattle.table.specs.Layout.{baseCountAt, levelFrom, pairsFrom};
 ghost use Rattle.table.specs.Content.{occupied};
 ghost use Rattle.table.specs.Test.{allOf, ascends};
 ghost use Rattle.table.specs.Calls.{rows, solutions, shaped, sound};
@@ -190,7 +190,7 @@ pub(crate) fn counts_sound(t: &[u64]) -> bool
 
 // The base list is sound.
 pub(crate) fn base_sound(t: &[u64]) -> bool
-    requires { do ⌜ (shaped (now t) ≡ true) × (getD (now t) 2 0 ≤ (← ⟦Table::BASE_ENTRIES⟧)) ⌝ }
+    requires { do ⌜ (shaped (now t) ≡ true) × (getD (now t) baseCountAt 0 ≤ (← ⟦Table::BASE_ENTRIES⟧)) ⌝ }
     ensures { λ r. ⌜ r ≡ baseSound (now (t .entry)) ⌝ }
 {
     let count = t[Table::BASE_COUNT_AT];

@@ -5,7 +5,7 @@ use Prim.Native.Nat.{ℕ}
 use native.Mathlib.Omega.{arith}
 use lib.ListN.{getD, drop}
 use borrow.Author.Needs.{needs}
-use Rattle.table.specs.Layout.{pairsFrom}
+use Rattle.table.specs.Layout.{baseCountAt, pairsFrom}
 use Rattle.table.specs.Test.{allOf}
 use Rattle.table_sound.specs.Held.{pairTest}
 use Rattle.table_layout.proofs.Shape.{shape}
@@ -39,7 +39,7 @@ returns c =
     let z = c .before .before .before .before .before in
     let t = z .before .before .before .args .t .now in
     let at = z .base-place .ensures in
-    c .pairs-held .ensures ∙ ap (λ (x : ℕ). allOf (pairTest t) (pairsFrom (getD t 2 0) (drop x t))) at
+    c .pairs-held .ensures ∙ ap (λ (x : ℕ). allOf (pairTest t) (pairsFrom (getD t baseCountAt 0) (drop x t))) at
     ∙ sym (holding (ascending t at (c .before .before .before .before .pairs-ascend .ensures) (c .before .before .before .if1 .taken)) (holding (unused t at (c .before .before .zero-from .ensures) (c .before .if2 .taken)) refl))
 
 returns-2 : tie.Need-returns-2

@@ -5,6 +5,7 @@ use mathlib.Core.Bool.{true}
 use native.Mathlib.Omega.{arith}
 use lib.ListN.{getD}
 use borrow.Author.Needs.{needs}
+use Rattle.table.specs.Layout.{buckets2At}
 use Rattle.table.specs.Calls.{rows, solutions}
 use Rattle.table_sound.specs.Held.{levelSound}
 use Rattle.table_layout.proofs.Shape.{shape, levels-in}
@@ -38,7 +39,7 @@ returns c =
     let t = c .before .before .before .before .before .before .before .before .before .before .before .args .t .now in
     let l = c .before .before .before in
     let b = l .before .before in
-    c .level-sound2 .ensures ∙ ap (levelSound t true (getD t 1 0)) (c .before .bucket-place .ensures)
+    c .level-sound2 .ensures ∙ ap (levelSound t true (getD t buckets2At 0)) (c .before .bucket-place .ensures)
     ∙ sym (whole t ∙ holding (sym (b .before .before .counts-sound .ensures) ∙ b .before .if1 .taken) (holding (sym (b .base-sound .ensures) ∙ l .before .if2 .taken) (holding (sym (l .level-sound .ensures) ∙ c .before .before .if3 .taken) refl)))
 
 returns-2 : tie.Need-returns-2
