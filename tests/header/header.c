@@ -24,7 +24,8 @@ static int failed, compared;
 
 /* The function that was called last, and the causes that each has given. */
 enum { OPEN, ADD, CHANGE, WITHDRAW, QUERY, WRITE_PLANE, PLANE_LOOKUP, FUNCTIONS };
-static int called, given[FUNCTIONS][LIMGOSHI_WRONG_PLANE + 1];
+enum { NUMBERS = 64 }; /* more than there are causes */
+static int called, given[FUNCTIONS][NUMBERS];
 #define limgoshi_open(...) (called = OPEN, limgoshi_open(__VA_ARGS__))
 #define limgoshi_add(...) (called = ADD, limgoshi_add(__VA_ARGS__))
 #define limgoshi_change(...) (called = CHANGE, limgoshi_change(__VA_ARGS__))
@@ -58,8 +59,10 @@ static void before(void)
 static void after(int line, const char *call, uint64_t got, uint64_t cause, uint64_t want)
 {
     compared++;
-    if (got <= LIMGOSHI_WRONG_PLANE)
+    if (got < NUMBERS)
         given[called][got] = 1;
+    else
+        wrong(line, "a number that is no cause");
     if (got != cause || value != want) {
         printf("header.c:%d: %s: answer %" PRIu64 ", value %" PRIu64 ", and not %" PRIu64 ", %" PRIu64 "\n", line, call, got, value, cause, want);
         failed = 1;
@@ -342,7 +345,7 @@ int main(void)
     static const char *const names[FUNCTIONS] = {"open", "add", "change", "withdraw", "query", "write_plane", "plane_lookup"};
     for (int f = 0; f < FUNCTIONS; f++) {
         printf("limgoshi_%s", names[f]);
-        for (int cause = 1; cause <= LIMGOSHI_WRONG_PLANE; cause++)
+        for (int cause = 1; cause < NUMBERS; cause++)
             if (given[f][cause])
                 printf(" %d", cause);
         printf("\n");

@@ -7,6 +7,7 @@ use mathlib.Core.Path.{_≡_, sym, ap, _∙_}
 use mathlib.Core.List.{List, _∷_, _++_, List·Permᴰ, List·Permᴰ·trans, Permᴰ·symm, Permᴰ·map}
 use Rattle.lists.specs.Entries.{Entry, words, insert}
 use Rattle.lists.proofs.Entries.{insert-perm}
+use Rattle.identifier.specs.Place.{thresholds}
 use Rattle.model.specs.Levels.{Level, lower, passed}
 use Rattle.model.specs.Model.{State, wouldLeave}
 use Rattle.model.proofs.Levels.{lower-perm, passed-perm}
@@ -23,7 +24,7 @@ module _ (L1 L2 : Level) (s : State) (v : Valid L1 L2 s) (pos1 : 0 < s .size .bu
 
   pub first-settled : first ≡ wouldLeave L1 L2 s e .bounds1
   first-settled =
-      arrive-lower L1 (s .size .buckets1) (s .bounds1) (words (s .live)) (e .word) (mod-lt (L1 .place (e .word) / 8) pos1) (v .length1) (v .free1)
+      arrive-lower L1 (s .size .buckets1) (s .bounds1) (words (s .live)) (e .word) (mod-lt (L1 .place (e .word) / thresholds) pos1) (v .length1) (v .free1)
       ∙ sym (lower-perm L1 (s .size .buckets1) (s .bounds1) words-insert)
 
   -- the second level's once the words `new` have arrived there: with those that the first level did not hold before, they are those

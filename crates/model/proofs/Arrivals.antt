@@ -16,6 +16,7 @@ use Rattle.lists.proofs.Keep.{joined-sub, joined-perm}
 use Rattle.lists.proofs.Tests.{cases, cond-true, cond-false}
 use Rattle.gf2.specs.Bound.{boundOf}
 use Rattle.gf2.proofs.Bound.{bound-keep, fall, fall-bound}
+use Rattle.identifier.specs.Place.{thresholds}
 use Rattle.model.specs.Levels.{Level, bucket, dueAs, due, lower}
 use Rattle.model.proofs.Levels.{AllFree, lower-at, lower-length, lower-free, lower-again, lower-perm}
 
@@ -83,6 +84,6 @@ module _ (L : Level) (n : ℕ) where
       go : (bs us xs : List ℕ) → length bs ≡ n → AllFree L n bs us → arrives bs us xs ≡ lower L n bs (joined us xs)
       go bs us [] q f = sym (lower-keep bs us q f)
       go bs us (w ∷ xs) q f =
-          ap (λ (b : List ℕ). arrives b (w ∷ us) xs) (arrive-lower bs us w (mod-lt (L .place w / 8) pos) q f)
+          ap (λ (b : List ℕ). arrives b (w ∷ us) xs) (arrive-lower bs us w (mod-lt (L .place w / thresholds) pos) q f)
           ∙ go (lower L n bs (w ∷ us)) (w ∷ us) xs (lower-length L n bs (w ∷ us)) (lower-free L n bs (w ∷ us))
           ∙ lower-again L n bs (joined-sub (w ∷ us) xs)

@@ -18,6 +18,7 @@ use Rattle.lists.proofs.Tests.{cases}
 use Rattle.lists.proofs.Keep.{keep-keep, keep-ext, keep-out, keep-part, keep-none, perm-length}
 use Rattle.lists.proofs.Sorts.{sort-perm, sort-same, sort-order, distinct-perm, ascending-distinct}
 use Rattle.gf2.specs.Select.{putIf, chosen}
+use Rattle.identifier.specs.Place.{thresholds}
 use Rattle.bucket.specs.declared.Bucket.{Bucket}
 use Rattle.bucket_settle.specs.Settle.{contents}
 use Rattle.bucket_settle.proofs.Hold.{Holds}
@@ -80,7 +81,7 @@ module _ (n r : ℕ) (S : ℕ → ℕ) (m : ℕ) (pos : 0 < m) (B : List ℕ) (e
       → List·Permᴰ (allRows n bs) (from i)
   rows-from i [] e h =
       subst⁻¹ (List·Permᴰ [])
-      (keep-none (λ x. not (ltb (at x) i) && ok x) es (λ x. ap (λ (b : Bool). not b && ok x) (lt-ltb (at x) i (le-trans (mod-lt (S (x .word) / 8) pos) (omega arith))))) List·Permᴰ·nil
+      (keep-none (λ x. not (ltb (at x) i) && ok x) es (λ x. ap (λ (b : Bool). not b && ok x) (lt-ltb (at x) i (le-trans (mod-lt (S (x .word) / thresholds) pos) (omega arith))))) List·Permᴰ·nil
   rows-from i (b ∷ bs) e h =
       List·Permᴰ·trans
       (List·Permᴰ·trans (Permᴰ·append-right (allRows n bs) (rows-of (subst (λ (k : ℕ). Holds n r b (held (thr S) (getD B k 0) (dueIn S m k es))) (add-zero i) (h 0 (omega arith)))))

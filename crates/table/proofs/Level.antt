@@ -16,6 +16,7 @@ use Rattle.lists.proofs.Tests.{cases, cond-true, cond-false}
 use Rattle.lists.proofs.Keep.{keep-perm, keep-keep, keep-map, keep-ext, keep-part, shuffle, map-set, getD-map-in}
 use Rattle.gf2.specs.Bound.{Due}
 use Rattle.gf2.proofs.Bound.{fall}
+use Rattle.identifier.specs.Place.{thresholds}
 use Rattle.bucket.specs.declared.Bucket.{Bucket}
 use Rattle.bucket.specs.Bucket.{emptyBucket}
 use Rattle.bucket_settle.specs.Settle.{Settlement, settle}
@@ -139,7 +140,7 @@ module _ (n r : ℕ) (S : ℕ → ℕ) where
     i = index S m (e .word)
 
     i-lt : i < m
-    i-lt = mod-lt (S (e .word) / 8) pos
+    i-lt = mod-lt (S (e .word) / thresholds) pos
 
     abbrev fs : List Entry
     fs = dueIn S m i es

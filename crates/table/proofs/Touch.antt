@@ -14,6 +14,7 @@ use Rattle.lists.specs.Lists.{keep}
 use Rattle.lists.specs.Entries.{Entry, find, update, remove, sort, Distinct}
 use Rattle.lists.proofs.Tests.{cases, by-test}
 use Rattle.lists.proofs.Edits.{find-keep, remove-in, remove-out, update-in, update-out, remove-renamed, update-renamed, sort-update, sort-remove}
+use Rattle.identifier.specs.Place.{thresholds}
 use Rattle.bucket.specs.declared.Bucket.{Bucket}
 use Rattle.bucket.specs.Bucket.{emptyBucket, change, withdraw}
 use Rattle.bucket_settle.specs.Settle.{planOf}
@@ -26,7 +27,7 @@ module _ (n r : ℕ) (S : ℕ → ℕ) where
   -- the test of a level, by its bounds
   pub holds-test : (m : ℕ) (bs : List Bucket) → length bs ≡ m → 0 < m → (v : ℕ) → holds n r S bs v ≡ within S m (bounds bs) v
   holds-test m bs c pos v =
-      subst (λ (k : ℕ). 0 < k → holds n r S bs v ≡ within S k (bounds bs) v) c (λ p. ap (ltb (thr S v)) (sym (bound-at n r bs (index S (length bs) v) (mod-lt (S v / 8) p)))) pos
+      subst (λ (k : ℕ). 0 < k → holds n r S bs v ≡ within S k (bounds bs) v) c (λ p. ap (ltb (thr S v)) (sym (bound-at n r bs (index S (length bs) v) (mod-lt (S v / thresholds) p)))) pos
 
   -- wherever the word is, the live count stays
   pub touch-keeps : (T : Table) (w : ℕ) (f : ℕ → Bucket → Bucket) (g : ℕ → List Entry → List Entry) → touch n r S T w f g .count ≡ T .count
@@ -70,7 +71,7 @@ module _ (n r : ℕ) (S : ℕ → ℕ) where
     i = index S m v
 
     i-lt : i < m
-    i-lt = mod-lt (S v / 8) pos
+    i-lt = mod-lt (S v / thresholds) pos
 
     abbrev b : Bucket
     b = nth n r bs i

@@ -37,7 +37,8 @@ pub fn same_all<T: PartialEq + Debug>(what: &str, input: impl Debug, ours: &[T],
 pub struct Seen([u64; Seen::BAD as usize + 1]);
 
 impl Seen {
-    pub const BAD: u64 = 11;
+    /// Above every cause.
+    pub const BAD: u64 = 100;
 
     pub fn none() -> Seen {
         Seen([0; Seen::BAD as usize + 1])
