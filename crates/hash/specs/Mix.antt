@@ -14,13 +14,15 @@ mulMod w c x = (x * c) % 2 ^ w
 abbrev pub xorShift : ℕ → ℕ → ℕ
 xorShift s x = bitXor x (x / 2 ^ s)
 
--- document 01's constants of S: the summand and the two factors
+-- document 01's constants of S: its summand
 abbrev pub summand : ℕ
 summand = 0x9e3779b97f4a7c15
 
+-- its first factor
 abbrev pub factor₁ : ℕ
 factor₁ = 0xbf58476d1ce4e5b9
 
+-- its second factor
 abbrev pub factor₂ : ℕ
 factor₂ = 0x94d049bb133111eb
 
@@ -37,13 +39,15 @@ abbrev pub unXorShift : ℕ → ℕ → ℕ → ℕ
 unXorShift s zero x = x
 unXorShift s (suc k) x = bitXor x (unXorShift s k (x / 2 ^ s))
 
--- 2^64 less the summand, and the inverses modulo 2^64 of the factors
+-- 2^64 less the summand
 abbrev pub unSummand : ℕ
 unSummand = 0x61c8864680b583eb
 
+-- the inverse of the first factor, modulo 2^64
 abbrev pub unFactor₁ : ℕ
 unFactor₁ = 0x96de1b173f119089
 
+-- of the second
 abbrev pub unFactor₂ : ℕ
 unFactor₂ = 0x319642b2d24d8ec3
 

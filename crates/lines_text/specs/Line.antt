@@ -59,19 +59,23 @@ abbrev pub planned : (ℕ → Call Token) → Number → Command
 planned c (Of p) = ask (c p)
 planned c Wrong = bad
 
--- the words `open`, `add`, `set`, `del`, `get`
+-- the word `open`
 abbrev pub openWord : List ℕ
 openWord = 0x6f ∷ 0x70 ∷ 0x65 ∷ 0x6e ∷ []
 
+-- `add`
 abbrev pub addWord : List ℕ
 addWord = 0x61 ∷ 0x64 ∷ 0x64 ∷ []
 
+-- `set`
 abbrev pub setWord : List ℕ
 setWord = 0x73 ∷ 0x65 ∷ 0x74 ∷ []
 
+-- `del`
 abbrev pub delWord : List ℕ
 delWord = 0x64 ∷ 0x65 ∷ 0x6c ∷ []
 
+-- `get`
 abbrev pub getWord : List ℕ
 getWord = 0x67 ∷ 0x65 ∷ 0x74 ∷ []
 

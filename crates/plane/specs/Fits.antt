@@ -17,15 +17,18 @@ use Rattle.plane.specs.Plane.{Plane, planeBytes}
 abbrev pub Below : ℕ → ℕ → Type 0
 Below n x = x < 256 ^ n
 
+-- a bucket: its bound, the number of its solution words and their size
 pub record FitsBucket (F : Format) (b : PlaneBucket) : Type 0 where
   pub low : b .bound ≤ largestBound
   pub wide : length (b .sols) ≡ F .words
   pub words : Every (Below wordBytes) (b .sols)
 
+-- a base entry: the size of its word and of its plan
 pub record FitsEntry (e : Entry) : Type 0 where
   pub word : Below wordBytes (e .word)
   pub plan : Below 1 (e .plan)
 
+-- a plane: bucket numbers in range, at most 64 base entries, ascending, each bucket and entry within its limits
 pub record Fits (F : Format) (P : Plane) : Type 0 where
   pub range : inRange (length (P .level1)) (length (P .level2)) ≡ true
   pub few : length (P .base) ≤ baseLimit

@@ -43,6 +43,7 @@ orElse Passed q = q
 abbrev pub strangerPlan : ℕ
 strangerPlan = 0
 
+-- the plan that the base list gives, if it has the word
 abbrev pub orStranger : Option ℕ → ℕ
 orStranger none = strangerPlan
 orStranger (some p) = p
@@ -60,6 +61,7 @@ abbrev pub looked : List ℕ → ℕ → Wrong → Answer
 looked p w (At at) = WrongPlane at
 looked p w Nowhere = Accepted (planFrom (planeFrom format1 p) w)
 
+-- causes 1 and 2, by what the bytes are read as, else the word is looked up
 abbrev pub lookupRead : List ℕ → Read → Answer
 lookupRead p (Refused a) = a
 lookupRead p (Word w) = looked p w (wrongAt format1 p)

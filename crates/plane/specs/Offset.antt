@@ -52,10 +52,11 @@ expectedBucket F p i =
     let at : ℕ = bucketsAt + i * bucketLength F in
     record { at = at; kind = F .bucketKind; body = bucketBody F; allowed = leb (bucketFrom F (drop at p) .bound) largestBound }
 
--- where base entry i starts, and its word
+-- where base entry i starts
 abbrev pub entryAt : Format → List ℕ → ℕ → ℕ
 entryAt F p i = entriesAt F (bucketCount p) + i * entryLength
 
+-- the word of base entry i
 abbrev pub entryWord : Format → List ℕ → ℕ → ℕ
 entryWord F p i = entryFrom (drop (entryAt F p i) p) .word
 
@@ -64,6 +65,7 @@ abbrev pub exceedsBefore : Format → List ℕ → ℕ → Bool
 exceedsBefore F p zero = true
 exceedsBefore F p (suc i) = ltb (entryWord F p i) (entryWord F p (suc i))
 
+-- base entry i
 abbrev pub expectedEntry : Format → List ℕ → ℕ → Expected
 expectedEntry F p i = record { at = entryAt F p i; kind = entryKind; body = entryBody; allowed = exceedsBefore F p i }
 

@@ -88,6 +88,7 @@ headerFits F p = whole headerKind headerBody p && (eqb (getD p 1 0) (F .number) 
 abbrev pub boundAllowed : Unit {0} → PlaneBucket → Bool
 boundAllowed s b = leb (b .bound) largestBound
 
+-- a bucket record that is right
 abbrev pub bucketFits : Format → List ℕ → Bool
 bucketFits F p = fits (bucketRecords F) boundAllowed tt p
 
@@ -99,6 +100,7 @@ bucketsWrong F m at p = wrongIn (bucketRecords F) boundAllowed (λ s b. s) tt m 
 abbrev pub entryAllowed : ℕ → Entry → Bool
 entryAllowed least e = leb least (e .word)
 
+-- a base record that is right, after those that leave `least`
 abbrev pub entryFits : ℕ → List ℕ → Bool
 entryFits least p = fits entryRecords entryAllowed least p
 

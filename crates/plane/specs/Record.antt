@@ -52,6 +52,7 @@ format1 = record { number = 1; words = solutions; bucketKind = 2 }
 
 -- ---- kind 1: format, buckets of level 1, of level 2, base count (4 bytes)
 
+-- its kind byte
 abbrev pub headerKind : ℕ
 headerKind = 1
 
@@ -96,6 +97,7 @@ bucketRecords F = record { number = F .bucketKind; body = bucketBody F; write = 
 
 -- ---- kind 3: w' (8), plan (1)
 
+-- its kind byte
 abbrev pub entryKind : ℕ
 entryKind = 3
 
@@ -125,6 +127,7 @@ entryRecords = record { number = entryKind; body = entryBody; write = entryBytes
 
 -- ---- kind 4 closes
 
+-- its kind byte
 abbrev pub endKind : ℕ
 endKind = 4
 

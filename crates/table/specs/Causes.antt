@@ -59,6 +59,7 @@ baseFull t i p = causeIf 8 (baseLimit < length (base firstLevel secondLevel (wou
 
 -- ---- the causes that each can meet, and what it returns if it meets none
 
+-- opening
 abbrev pub openCauses : ℕ → ℕ → List ℕ → List Cause
 openCauses b1 b2 t = wrongBuckets b1 b2 ∷ wrongRoom b1 b2 t ∷ []
 
