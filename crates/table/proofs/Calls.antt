@@ -23,8 +23,7 @@ use Rattle.model.specs.Model as M
 use Rattle.model.specs.Model.{baseLimit, Size, State, Call, add, change, withdraw, query, opened, withLive, wouldLeave, base, stepAdd, stepLive, step}
 use Rattle.model.specs.Request.{Token, wordFor, askOf, serveRead, serve, Request, ask, respond}
 use Rattle.model.proofs.Requests.{word-small}
-use Rattle.table.specs.Table as T
-use Rattle.table.specs.Table.{Table}
+use Rattle.table.specs.Table.{Table, openTable, changedIn, withdrawnFrom, addedTo}
 use Rattle.table.specs.Layout.{leading, buckets1At, buckets2At, mostBuckets1, inRange, numbersOf, unusedIn, lengthOf}
 use Rattle.table.specs.Content.{entriesOf}
 use Rattle.table.specs.Sound.{SoundLevel, SoundTable}
@@ -129,54 +128,42 @@ module _ (t : List ℕ) (s : State) (h : FlatStands t s) where
 
   module _ (w : ℕ) (l : w < 2 ^ rows) where
     -- the call goes as the model's does, by whether w is live
-    by-plan : (f : Option ℕ → Outcome) (g : Option ℕ → M.Outcome) → ((o : Option ℕ) → find w (s .live) ≡ o → Match (f o) (g o)) → Match (f (planIn t w)) (g (find w (s .live)))
-    by-plan f g k = subst⁻¹ (λ (o : Option ℕ). Match (f o) (g (find w (s .live)))) (stands-look w l) (k (find w (s .live)) refl)
+    by-plan : (f : Option ℕ → Outcome) (g : Option ℕ → M.Outcome) → (find w (s .live) ≡ none → Match (f none) (g none))
+        → ((q : ℕ) → find w (s .live) ≡ some q → Match (f (some q)) (g (some q))) → Match (f (planIn t w)) (g (find w (s .live)))
+    by-plan f g a b = subst⁻¹ (λ (o : Option ℕ). Match (f o) (g (find w (s .live)))) (stands-look w l) (go (find w (s .live)) refl)
+      where
+        go : (o : Option ℕ) → find w (s .live) ≡ o → Match (f o) (g o)
+        go none = a
+        go (some q) = b q
 
     live-match : (u : Table) (es : List Entry) → ((q : ℕ) → find w (s .live) ≡ some q → Stands rows solutions mixOf u (withLive s es))
         → Match (replaced t u (planIn t w)) (stepLive s es (find w (s .live)))
-    live-match u es k = by-plan (replaced t u) (stepLive s es) go
-      where
-        go : (o : Option ℕ) → find w (s .live) ≡ o → Match (replaced t u o) (stepLive s es o)
-        go none e = record { says = refl; stands = h }
-        go (some q) e = record { says = refl; stands = numbers-stand u (withLive s es) (k q e) range }
-
-    query-match : Match (queried t (planIn t w)) (step firstLevel secondLevel s (query w))
-    query-match = by-plan (queried t) (stepLive s (s .live)) go
-      where
-        go : (o : Option ℕ) → find w (s .live) ≡ o → Match (queried t o) (stepLive s (s .live) o)
-        go none e = record { says = refl; stands = h }
-        go (some q) e = record { says = refl; stands = h }
+    live-match u es k =
+        by-plan (replaced t u) (stepLive s es) (λ e. record { says = refl; stands = h }) (λ q e. record { says = refl; stands = numbers-stand u (withLive s es) (k q e) range })
 
     add-match : (p : ℕ) → p < 2 ^ solutions
-        → Match (joined t (T.addedTo rows solutions mixOf T₀ (record { word = w; plan = p })) (planIn t w)) (step firstLevel secondLevel s (add w p))
-    add-match p hp = by-plan (joined t u) (stepAdd firstLevel secondLevel s e) go
-      where
-        e : Entry
-        e = record { word = w; plan = p }
-
-        u : Table
-        u = T.addedTo rows solutions mixOf T₀ (record { word = w; plan = p })
-
-        t′ : State
-        t′ = wouldLeave firstLevel secondLevel s (record { word = w; plan = p })
-
-        go : (o : Option ℕ) → find w (s .live) ≡ o → Match (joined t u o) (stepAdd firstLevel secondLevel s e o)
-        go (some q) f = record { says = refl; stands = h }
-        go none f =
-            subst⁻¹ (λ (k : ℕ). Match (cond (ltb baseLimit k) (turnedDown Full t) (record { answer = Accepted (u .count); table = numbersOf u })) (M.unlessFull firstLevel secondLevel s t′))
-            (based-length rows solutions mixOf keeps one T₀ s (h .stands) e (l, hp) f)
-            (match-test (ltb baseLimit (length (base firstLevel secondLevel t′))) (λ b. record { says = refl; stands = h })
-            (λ b.
-            let k = add-stands rows solutions mixOf keeps one T₀ s (h .stands) e (l, hp) f (ltb-false baseLimit _ b) in
-            record { says = ap Accepted (k .counted); stands = numbers-stand u t′ k range }))
+        → Match (joined t (addedTo rows solutions mixOf T₀ (record { word = w; plan = p })) (planIn t w)) (step firstLevel secondLevel s (add w p))
+    add-match p hp =
+        let e : Entry = record { word = w; plan = p } in
+        let u : Table = addedTo rows solutions mixOf T₀ e in
+        let t′ : State = wouldLeave firstLevel secondLevel s e in
+        by-plan (joined t u) (stepAdd firstLevel secondLevel s e)
+        (λ f.
+        subst⁻¹ (λ (k : ℕ). Match (cond (ltb baseLimit k) (turnedDown Full t) (record { answer = Accepted (u .count); table = numbersOf u })) (M.unlessFull firstLevel secondLevel s t′))
+        (based-length rows solutions mixOf keeps one T₀ s (h .stands) e (l, hp) f)
+        (match-test (ltb baseLimit (length (base firstLevel secondLevel t′))) (λ b. record { says = refl; stands = h })
+        (λ b.
+        let k = add-stands rows solutions mixOf keeps one T₀ s (h .stands) e (l, hp) f (ltb-false baseLimit _ b) in
+        record { says = ap Accepted (k .counted); stands = numbers-stand u t′ k range })))
+        (λ q f. record { says = refl; stands = h })
 
     -- the causes 1, 2, 4 and 5 are not met
     pub served-match : (c : Call Token) → PlanFits c → Match (served t w c) (step firstLevel secondLevel s (askOf w c))
     unfolding served
     served-match (add i p) k = add-match p k
-    served-match (change i p) k = live-match (T.changedIn rows solutions mixOf T₀ w p) (update (record { word = w; plan = p }) (s .live)) (λ q f. change-stands rows solutions mixOf keeps one T₀ s (h .stands) w l p q k f)
-    served-match (withdraw i) k = live-match (T.withdrawnFrom rows solutions mixOf T₀ w) (remove w (s .live)) (λ q f. withdraw-stands rows solutions mixOf keeps one T₀ s (h .stands) w l q f)
-    served-match (query i) k = query-match
+    served-match (change i p) k = live-match (changedIn rows solutions mixOf T₀ w p) (update (record { word = w; plan = p }) (s .live)) (λ q f. change-stands rows solutions mixOf keeps one T₀ s (h .stands) w l p q k f)
+    served-match (withdraw i) k = live-match (withdrawnFrom rows solutions mixOf T₀ w) (remove w (s .live)) (λ q f. withdraw-stands rows solutions mixOf keeps one T₀ s (h .stands) w l q f)
+    served-match (query i) k = by-plan (queried t) (stepLive s (s .live)) (λ e. record { says = refl; stands = h }) (λ q e. record { says = refl; stands = h })
 
   -- each call follows the model
   pub call-match : (c : Call Token) → PlanFits c → Match (call t c) (serve s c)
@@ -199,10 +186,10 @@ range-some : (b1 b2 : ℕ) → inRange b1 b2 ≡ true → (0 < b1) × (0 < b2)
 range-some b1 b2 h =
     (leb-true 1 b1 (and-one (leb 1 b1) _ (and-one (leb 1 b1 && leb b1 mostBuckets1) _ h)), leb-true 1 b2 (and-one (leb 1 b2) _ (and-two (leb 1 b1 && leb b1 mostBuckets1) _ h)))
 
-pub open-stands-flat : (z : Size) → inRange (z .buckets1) (z .buckets2) ≡ true → FlatStands (numbersOf (T.openTable rows solutions (z .buckets1) (z .buckets2))) (opened z)
+pub open-stands-flat : (z : Size) → inRange (z .buckets1) (z .buckets2) ≡ true → FlatStands (numbersOf (openTable rows solutions (z .buckets1) (z .buckets2))) (opened z)
 open-stands-flat z h =
     let g = range-some (z .buckets1) (z .buckets2) h in
-    numbers-stand (T.openTable rows solutions (z .buckets1) (z .buckets2)) (opened z) (open-stands rows solutions mixOf z (g .0) (g .1)) h
+    numbers-stand (openTable rows solutions (z .buckets1) (z .buckets2)) (opened z) (open-stands rows solutions mixOf z (g .0) (g .1)) h
 
 pub sound-stands-flat : (t : List ℕ) → shaped t ≡ true → FlatSound t → FlatStands t (flatState t)
 sound-stands-flat t k h = record { shape = k; unused = h .unused; stands = sound-stands rows solutions mixOf unmixOf keeps keepsU unmix-mix mix-unmix refl (tableOf t) (h .table) }

@@ -30,8 +30,7 @@ use Rattle.model.proofs.Refine.{stands-after, accepted-after}
 use Rattle.model.proofs.Calls.{StandsFor, count-after, told-after}
 use Rattle.model.proofs.Requests.{word-small, serve-each, stands-for, respond-never}
 use Rattle.model.proofs.Statements as Model
-use Rattle.table.specs.Table as T
-use Rattle.table.specs.Table.{Table}
+use Rattle.table.specs.Table.{Table, openTable, changedIn, withdrawnFrom, addedTo}
 use Rattle.table.specs.Layout.{liveCountAt, inRange, numbersOf, tableFrom, lengthOf}
 use Rattle.table.specs.Content.{entriesOf}
 use Rattle.table.specs.Calls.{rows, solutions, tableOf, planIn, shaped, sound, FlatSound, Outcome, openCall, joined, replaced, queried, served, callRead, call}
@@ -48,11 +47,11 @@ compares = record { one = λ t u s q e h g. sym (stands-shows t s h) ∙ e ∙ s
 
 -- ---- opening
 
-pub open-cases : (b1 b2 : ℕ) (t : List ℕ) → openCall b1 b2 t .answer ≡ Accepted 0 → (inRange b1 b2 ≡ true) × (openCall b1 b2 t .table ≡ numbersOf (T.openTable rows solutions b1 b2))
+pub open-cases : (b1 b2 : ℕ) (t : List ℕ) → openCall b1 b2 t .answer ≡ Accepted 0 → (inRange b1 b2 ≡ true) × (openCall b1 b2 t .table ≡ numbersOf (openTable rows solutions b1 b2))
 unfolding openCall
 open-cases b1 b2 t =
-    by-test (λ (o : Outcome). o .answer ≡ Accepted 0 → (inRange b1 b2 ≡ true) × (o .table ≡ numbersOf (T.openTable rows solutions b1 b2))) (inRange b1 b2)
-    (λ r. by-test (λ (o : Outcome). o .answer ≡ Accepted 0 → (inRange b1 b2 ≡ true) × (o .table ≡ numbersOf (T.openTable rows solutions b1 b2))) (eqb (length t) (lengthOf rows solutions b1 b2))
+    by-test (λ (o : Outcome). o .answer ≡ Accepted 0 → (inRange b1 b2 ≡ true) × (o .table ≡ numbersOf (openTable rows solutions b1 b2))) (inRange b1 b2)
+    (λ r. by-test (λ (o : Outcome). o .answer ≡ Accepted 0 → (inRange b1 b2 ≡ true) × (o .table ≡ numbersOf (openTable rows solutions b1 b2))) (eqb (length t) (lengthOf rows solutions b1 b2))
     (λ q a. (r, refl)) (λ q a. let z : _≡_ {A = ℕ} 0 1 = cc in absurd (omega arith)))
     (λ r a. let z : _≡_ {A = ℕ} 0 1 = cc in absurd (omega arith))
 
@@ -81,38 +80,30 @@ module _ (t : List ℕ) where
   abbrev Kept : Outcome → Type 0
   Kept o = accepted (o .answer) ≡ false → o .table ≡ t
 
+  -- by whether the word is live
+  kept-by : (f : Option ℕ → Outcome) → Kept (f none) → ((q : ℕ) → Kept (f (some q))) → (o : Option ℕ) → Kept (f o)
+  kept-by f a b none = a
+  kept-by f a b (some q) = b q
+
   kept-replaced : (u : Table) (o : Option ℕ) → Kept (replaced t u o)
-  kept-replaced u (some q) = λ r. absurd (true≢false r)
-  kept-replaced u none = λ r. refl
+  kept-replaced u = kept-by (replaced t u) (λ r. refl) (λ q r. absurd (true≢false r))
 
   kept-served : (w : ℕ) (c : Call Token) → Kept (served t w c)
   unfolding served
-  kept-served w (add i p) = go (planIn t w)
-    where
-      u : Table
-      u = T.addedTo rows solutions mixOf (tableOf t) (record { word = w; plan = p })
+  kept-served w (add i p) =
+      let u : Table = addedTo rows solutions mixOf (tableOf t) (record { word = w; plan = p }) in
+      kept-by (joined t u) (by-test Kept (ltb baseLimit (length (u .base))) (λ b r. refl) (λ b r. absurd (true≢false r))) (λ q r. refl) (planIn t w)
+  kept-served w (change i p) = kept-replaced (changedIn rows solutions mixOf (tableOf t) w p) (planIn t w)
+  kept-served w (withdraw i) = kept-replaced (withdrawnFrom rows solutions mixOf (tableOf t) w) (planIn t w)
+  kept-served w (query i) = kept-by (queried t) (λ r. refl) (λ q r. refl) (planIn t w)
 
-      go : (o : Option ℕ) → Kept (joined t u o)
-      go (some q) = λ r. refl
-      go none = by-test Kept (ltb baseLimit (length (u .base))) (λ b r. refl) (λ b r. absurd (true≢false r))
-  kept-served w (change i p) = kept-replaced (T.changedIn rows solutions mixOf (tableOf t) w p) (planIn t w)
-  kept-served w (withdraw i) = kept-replaced (T.withdrawnFrom rows solutions mixOf (tableOf t) w) (planIn t w)
-  kept-served w (query i) = go (planIn t w)
-    where
-      go : (o : Option ℕ) → Kept (queried t o)
-      go (some q) = λ r. refl
-      go none = λ r. refl
-
-  call-refused : (c : Call Token) → accepted (call t c .answer) ≡ false → call t c .table ≡ t
+  pub request-refused : (q : Request) → accepted (request t q .answer) ≡ false → request t q .table ≡ t
   unfolding call
-  call-refused c = go (wordFor c)
+  request-refused (ask c) = go (wordFor c)
     where
       go : (x : Read) → Kept (callRead t c x)
       go (Refused a) = λ r. refl
       go (Word w) = by-test Kept (shaped t) (λ k. by-test Kept (sound t) (λ h. kept-served w c) (λ h r. refl)) (λ k r. refl)
-
-  pub request-refused : (q : Request) → accepted (request t q .answer) ≡ false → request t q .table ≡ t
-  request-refused (ask c) = call-refused c
 
 -- ---- after any list of requests since an accepted opening
 
