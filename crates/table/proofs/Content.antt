@@ -26,17 +26,10 @@ use Rattle.bucket_settle.proofs.Fall.{held, rows-of}
 use Rattle.model.specs.Model.{State}
 use Rattle.table.specs.Table.{Table, bounds, thr, index, onSecond, nth}
 use Rattle.table.specs.Content.{occupied, allRows, backOf, entriesOf, liveOf}
-use Rattle.table.proofs.Level.{Small, bound-at, within, dueIn, pass, LevelHolds}
+use Rattle.table.proofs.Level.{Small, at-one, bound-at, within, dueIn, pass, LevelHolds}
 use Rattle.table.proofs.Stand.{passes, later, last, Stands}
 
 -- ---- bucket numbers from i on, and from the next on
-
-above-next : (k i : ℕ) (h : Bool) → ((not (ltb k i) && h) && eqb k i) ≡ (eqb k i && h)
-above-next k i h =
-    cases (eqb k i)
-    (λ t. let e = eqb-true k i t in
-    ap₂ (λ (a b : Bool). (not a && h) && b) (le-ltb k i (omega arith)) t ∙ and-true h ∙ sym (ap (λ (b : Bool). b && h) t))
-    (λ f. ap (λ (b : Bool). (not (ltb k i) && h) && b) f ∙ and-false (not (ltb k i) && h) ∙ sym (ap (λ (b : Bool). b && h) f))
 
 above-rest : (k i : ℕ) (h : Bool) → ((not (ltb k i) && h) && not (eqb k i)) ≡ (not (ltb k (suc i)) && h)
 above-rest k i h =
@@ -65,16 +58,12 @@ module _ (n r : ℕ) (S : ℕ → ℕ) (m : ℕ) (pos : 0 < m) (B : List ℕ) (e
   from-split i =
       subst₂ (λ (a b : List Entry). List·Permᴰ (from i) (a ++ b))
       (keep-keep (λ e. eqb (at e) i) (λ e. not (ltb (at e) i) && ok e) es
-      ∙ keep-ext _ (λ e. eqb (at e) i && ltb (thr S (e .word)) (getD B i 0)) es (λ e. above-next (at e) i (ok e) ∙ same e)
+      ∙ keep-ext _ (λ e. eqb (at e) i && ltb (thr S (e .word)) (getD B i 0)) es (λ e.
+      at-one (λ k. not (ltb k i) && ltb (thr S (e .word)) (getD B k 0)) (at e) i
+      ∙ ap (λ (a : Bool). eqb (at e) i && (not a && ltb (thr S (e .word)) (getD B i 0))) (le-ltb i i (omega arith)))
       ∙ sym (keep-keep (λ e. ltb (thr S (e .word)) (getD B i 0)) (λ e. eqb (at e) i) es))
       (keep-keep (λ e. not (eqb (at e) i)) (λ e. not (ltb (at e) i) && ok e) es ∙ keep-ext _ (λ e. not (ltb (at e) (suc i)) && ok e) es (λ e. above-rest (at e) i (ok e)))
       (keep-part (λ e. eqb (at e) i) (from i))
-    where
-      same : (e : Entry) → (eqb (at e) i && ok e) ≡ (eqb (at e) i && ltb (thr S (e .word)) (getD B i 0))
-      same e =
-          cases (eqb (at e) i)
-          (λ t. ap (λ (j : ℕ). eqb (at e) i && ltb (thr S (e .word)) (getD B j 0)) (eqb-true (at e) i t))
-          (λ f. ap (λ (b : Bool). b && ok e) f ∙ sym (ap (λ (b : Bool). b && ltb (thr S (e .word)) (getD B i 0)) f))
 
   rows-from : (i : ℕ) (bs : List Bucket) → i + length bs ≡ m
       → ((j : ℕ) → j < length bs → Holds n r (nth n r bs j) (held (thr S) (getD B (i + j) 0) (dueIn S m (i + j) es)))

@@ -4,7 +4,7 @@
 use Prim.Native.Nat.{ℕ, _/_, _^_, _<_}
 use native.Mathlib.Nat.{mod-lt}
 use mathlib.Core.Path.{_≡_, refl, sym, ap, ap₂, _∙_, subst, subst⁻¹, subst₂}
-use mathlib.Core.Bool.{Bool, false, not, _&&_, and-true, and-false}
+use mathlib.Core.Bool.{Bool, false, not, _&&_, and-comm, and-false}
 use mathlib.Core.List.{List, [], _∷_, _++_, map, map-map, append-assoc, List·Permᴰ, List·Permᴰ·trans, Permᴰ·refl, Permᴰ·symm, Permᴰ·append-right, Permᴰ·append-left, List·Memᴰ, List·Memᴰ·head, List·Memᴰ·tail}
 use lib.Dec.{eqb, ltb}
 use lib.ListN.{length, getD, set, length-set, length-map}
@@ -22,8 +22,7 @@ use Rattle.bucket.specs.Bucket.{emptyBucket}
 use Rattle.bucket_settle.specs.Settle.{Settlement, settle}
 use Rattle.bucket_settle.proofs.Hold.{Holds, holds-perm}
 use Rattle.bucket_settle.proofs.Fall.{held, over, seen, Settles, settle-law}
-use Rattle.model.specs.Levels as M
-use Rattle.model.specs.Levels.{Level, dueAs, due}
+use Rattle.model.specs.Levels.{Level, dueAs, due, holds}
 use Rattle.model.proofs.Arrivals.{arrive, arrives}
 use Rattle.table.specs.Table.{Placed, bounds, thr, index, second, nth, arriveAt, arriveAll}
 
@@ -42,6 +41,11 @@ Fits n r e = (e .word < 2 ^ n) × (e .plan < 2 ^ r)
 abbrev pub Small : ℕ → ℕ → List Entry → Type 0
 Small n r es = (e : Entry) → List·Memᴰ e es → Fits n r e
 
+-- a test of a number that is i is one of i
+pub at-one : (f : ℕ → Bool) (k i : ℕ) → (f k && eqb k i) ≡ (eqb k i && f i)
+at-one f k i =
+    and-comm (f k) (eqb k i) ∙ cases (eqb k i) (λ t. ap (λ (j : ℕ). eqb k i && f j) (eqb-true k i t)) (λ e. ap (λ (b : Bool). b && f k) e ∙ sym (ap (λ (b : Bool). b && f i) e))
+
 module _ (S : ℕ → ℕ) where
   -- the model's levels for the mix S
   abbrev pub firstLevel : Level
@@ -52,7 +56,7 @@ module _ (S : ℕ → ℕ) where
 
   -- the vector v is held, in its bucket of m, under these bounds
   abbrev pub within : ℕ → List ℕ → ℕ → Bool
-  within m B v = M.holds firstLevel m B v
+  within m B v = holds firstLevel m B v
 
   -- of the entries es: those due in bucket i of m, and those that the bounds pass on
   abbrev pub dueIn : ℕ → ℕ → List Entry → List Entry
@@ -66,12 +70,6 @@ module _ (S : ℕ → ℕ) where
   abbrev away : ℕ → ℕ → List ℕ → List Entry → List Entry
   away m i B es = keep (λ e. not (within m B (e .word)) && not (eqb (index S m (e .word)) i)) es
 
-  pass-here : (i x k : ℕ) (B : List ℕ) → (not (ltb x (getD B k 0)) && eqb k i) ≡ (eqb k i && not (ltb x (getD B i 0)))
-  pass-here i x k B =
-      cases (eqb k i)
-      (λ t. ap₂ (λ (j : ℕ) (b : Bool). not (ltb x (getD B j 0)) && b) (eqb-true k i t) t ∙ and-true (not (ltb x (getD B i 0))) ∙ sym (ap (λ (b : Bool). b && not (ltb x (getD B i 0))) t))
-      (λ f. ap (λ (b : Bool). not (ltb x (getD B k 0)) && b) f ∙ and-false (not (ltb x (getD B k 0))) ∙ sym (ap (λ (b : Bool). b && not (ltb x (getD B i 0))) f))
-
   pub due-in : (m i : ℕ) (es : List Entry) → due firstLevel m (words es) i ≡ map (seen (thr S)) (dueIn m i es)
   due-in m i es =
       ap (map (dueAs firstLevel)) (keep-map (λ (e : Entry). e .word) (λ w. eqb (index S m w) i) es) ∙ map-map (dueAs firstLevel) (λ (e : Entry). e .word) (dueIn m i es)
@@ -80,7 +78,7 @@ module _ (S : ℕ → ℕ) where
   pass-split m i B es =
       subst₂ (λ (l k : List Entry). List·Permᴰ (pass m B es) (l ++ k))
       (keep-keep (λ e. eqb (index S m (e .word)) i) (λ e. not (within m B (e .word))) es
-      ∙ keep-ext _ (λ e. eqb (index S m (e .word)) i && not (ltb (thr S (e .word)) (getD B i 0))) es (λ e. pass-here i (thr S (e .word)) (index S m (e .word)) B)
+      ∙ keep-ext _ (λ e. eqb (index S m (e .word)) i && not (ltb (thr S (e .word)) (getD B i 0))) es (λ e. at-one (λ k. not (ltb (thr S (e .word)) (getD B k 0))) (index S m (e .word)) i)
       ∙ sym (keep-keep (λ e. not (ltb (thr S (e .word)) (getD B i 0))) (λ e. eqb (index S m (e .word)) i) es))
       (keep-keep (λ e. not (eqb (index S m (e .word)) i)) (λ e. not (within m B (e .word))) es)
       (keep-part (λ e. eqb (index S m (e .word)) i) (pass m B es))
