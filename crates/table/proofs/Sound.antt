@@ -34,7 +34,7 @@ use Rattle.table.specs.Content.{occupied, allRows, backOf, entriesOf, li
 use Rattle.table.specs.Sound.{Row, SoundLevel, SoundTable}
 use Rattle.table.proofs.Level.{Fits, Small, bounds-length, bound-at, firstLevel, secondLevel, within, dueIn, due-in, LevelHolds}
 use Rattle.table.proofs.Touch.{holds-test}
-use Rattle.table.proofs.Stand.{passes, later, last, due-map, words-second, last-length, Stands, test1, test2, distinct-last}
+use Rattle.table.proofs.Stand.{passes, later, last, due-map, words-second, last-length, Stands, test1, test2, distinct-later, distinct-last}
 use Rattle.table.proofs.Content.{all-length, entries-length, table-count}
 
 -- ---- the entries of a bucket are its live vectors
@@ -226,33 +226,23 @@ module _ (n r : ℕ) (S U : ℕ → ℕ) (keeps : (x : ℕ) → x < 2 ^ n → S 
     t2 : (w : ℕ) → holds n r S (T .level2) w ≡ within S (s .size .buckets2) (s .bounds2) w
     t2 w = holds-test n r S (length (T .level2)) (T .level2) refl (h .level2 .some) w
 
-    abbrev p1 : Entry → Bool
-    p1 e = not (within S (s .size .buckets1) (s .bounds1) (e .word))
-
-    abbrev p2 : Entry → Bool
-    p2 e = not (within S (s .size .buckets2) (s .bounds2) (e .word))
-
     -- what the second level is due is E2
     later-in : (e : Entry) → List·Memᴰ e E2 → List·Memᴰ e (later S s)
     later-in e m =
         Memᴰ·cast (sym (λ i. record { word = front (e .word) (small2 e m .0) i; plan = e .plan }))
-        (Memᴰ·map (onSecond S) (keep-in p1 (s .live) (live-in (backOf U e) (Memᴰ·append-right E1 (Memᴰ·map (backOf U) m))) (ap not (sym (t1 (U (U (e .word)))) ∙ past1 e m))))
+        (Memᴰ·map (onSecond S) (keep-in _ (s .live) (live-in (backOf U e) (Memᴰ·append-right E1 (Memᴰ·map (backOf U) m))) (ap not (sym (t1 (U (U (e .word)))) ∙ past1 e m))))
 
     later-out : (e : Entry) → List·Memᴰ e (later S s) → List·Memᴰ e E2
     later-out e m =
         let q = Memᴰ·of-map (onSecond S) (passes S s) m in
-        let k = keep-out p1 (s .live) (q .0) (q .1) in
+        let k = keep-out _ (s .live) (q .0) (q .1) in
         ⊎-elim
         (λ a. absurd (clash (level-held n r S (T .level1) (h .level1) (q .0) a) (t1 (q .0 .word) ∙ not-true _ (k .1))))
         (λ y. Memᴰ·cast (sym (q .2) ∙ sym (ap (onSecond S) (y .2)) ∙ (λ i. record { word = front (y .0 .word) (small2 (y .0) (y .1) .0) i; plan = y .0 .plan })) (y .1))
         (live-out (q .0) (k .0))
 
-    inj : (u v : ℕ) → u < 2 ^ n → v < 2 ^ n → second S u ≡ second S v → u ≡ v
-    inj u v hu hv e = sym (behind u hu) ∙ ap (λ (x : ℕ). U (U x)) e ∙ behind v hv
-
     later-distinct : Distinct (later S s)
-    later-distinct =
-        distinct-renamed (second S) (2 ^ n) inj (passes S s) (λ e m. small-live e (keep-out p1 (s .live) e m .0) .0) (keep-distinct p1 (s .live) (ascending-distinct (s .live) ascending-live))
+    later-distinct = distinct-later n r S keeps one-to-one s ascending-live small-live
 
     on1 : LevelHolds n r S (s .size .buckets1) (T .level1) (s .live)
     on1 =
@@ -266,10 +256,10 @@ module _ (n r : ℕ) (S U : ℕ → ℕ) (keeps : (x : ℕ) → x < 2 ^ n → S 
 
     base-is : T .base ≡ sort (last S s)
     base-is =
-        ascending-ext (T .base) (sort (last S s)) (h .ascending) (sort-ascending (last S s) (keep-distinct p2 (later S s) later-distinct))
-        (λ e m. mem-sort (last S s) e (keep-in p2 (later S s) (later-in e (Memᴰ·append-right (allRows n (T .level2)) m)) (ap not (sym (t2 (e .word)) ∙ h .base-words e m .1))))
+        ascending-ext (T .base) (sort (last S s)) (h .ascending) (sort-ascending (last S s) (keep-distinct _ (later S s) later-distinct))
+        (λ e m. mem-sort (last S s) e (keep-in _ (later S s) (later-in e (Memᴰ·append-right (allRows n (T .level2)) m)) (ap not (sym (t2 (e .word)) ∙ h .base-words e m .1))))
         (λ e m.
-        let k = keep-out p2 (later S s) e (sort-mem (last S s) e m) in
+        let k = keep-out _ (later S s) e (sort-mem (last S s) e m) in
         ⊎-elim (λ a. absurd (clash (level-held n r S (T .level2) (h .level2) e a) (t2 (e .word) ∙ not-true _ (k .1)))) (λ b. b) (List·Memᴰ·append-cases (allRows n (T .level2)) (later-out e (k .0))))
 
     -- the words due at the second level, as the model lists them
@@ -316,23 +306,17 @@ module _ (n r : ℕ) (S U : ℕ → ℕ) (keeps : (x : ℕ) → x < 2 ^ n → S 
   -- ---- and a table that stands for a state is sound
 
   module _ (bytes : 2 ^ r ≡ planLimit) (T : Table) (s : State) (st : Stands n r S T s) where
-    abbrev q1 : Entry → Bool
-    q1 e = not (within S (s .size .buckets1) (s .bounds1) (e .word))
-
-    abbrev q2 : Entry → Bool
-    q2 e = not (within S (s .size .buckets2) (s .bounds2) (e .word))
-
     -- what is due at the second level passed the first
     came : (e : Entry) → List·Memᴰ e (later S s) → Fits n r e × (holds n r S (T .level1) (U (U (e .word))) ≡ false)
     came e m =
         let q = Memᴰ·of-map (onSecond S) (passes S s) m in
-        let k = keep-out q1 (s .live) (q .0) (q .1) in
+        let k = keep-out _ (s .live) (q .0) (q .1) in
         let p = st .small (q .0) (k .0) in
         subst (λ (x : Entry). Fits n r x × (holds n r S (T .level1) (U (U (x .word))) ≡ false)) (q .2)
         ((keeps _ (keeps _ (p .0)), p .1), ap (holds n r S (T .level1)) (behind (q .0 .word) (p .0)) ∙ test1 n r S keeps one-to-one T s st (q .0 .word) ∙ not-true _ (k .1))
 
-    last-of : (e : Entry) → List·Memᴰ e (T .base) → List·Memᴰ e (later S s) × (q2 e ≡ true)
-    last-of e m = keep-out q2 (later S s) e (sort-mem (last S s) e (subst (List·Memᴰ e) (st .based) m))
+    last-of : (e : Entry) → List·Memᴰ e (T .base) → List·Memᴰ e (later S s) × (not (within S (s .size .buckets2) (s .bounds2) (e .word)) ≡ true)
+    last-of e m = keep-out _ (later S s) e (sort-mem (last S s) e (subst (List·Memᴰ e) (st .based) m))
 
     pub stands-sound : SoundTable n r S U T
     stands-sound = record {

@@ -11,7 +11,7 @@ use mathlib.Core.List.{List, [], _∷_, _++_, map, map-map, map-append, Sublist�
 use lib.Dec.{eqb}
 use lib.ListN.{length, getD, set, replicate, length-replicate, getD-replicate, length-map}
 use Rattle.lists.specs.Lists.{keep, tabulate, joined}
-use Rattle.lists.specs.Entries.{Entry, words, find, insert, update, remove, sort, insertAll, Distinct}
+use Rattle.lists.specs.Entries.{Entry, words, find, insert, update, remove, sort, insertAll, Ascending, Distinct}
 use Rattle.lists.proofs.Tests.{by-test}
 use Rattle.lists.proofs.Keep.{keep-perm, keep-map, keep-out, map-sub, perm-length, joined-perm}
 use Rattle.lists.proofs.Entries.{insert-perm, insert-length, insert-ascending, update-words, update-ascending, update-length, update-perm, remove-sub, remove-ascending, remove-length, remove-perm}
@@ -135,16 +135,16 @@ module _ (n r : ℕ) (S : ℕ → ℕ) (keeps : (x : ℕ) → x < 2 ^ n → S x 
 
   -- ---- states whose live words are in order
 
-  module _ (s : State) (v : Valid (firstLevel S) (secondLevel S) s) (small : Small n r (s .live)) where
-    small-passes : Small n r (passes S s)
-    small-passes e m = small e (keep-out _ (s .live) e m .0)
+  module _ (s : State) where
+    small-passes : Small n r (s .live) → Small n r (passes S s)
+    small-passes small e m = small e (keep-out _ (s .live) e m .0)
 
-    distinct-later : Distinct (later S s)
-    distinct-later =
-        distinct-renamed (second S) (2 ^ n) inj (passes S s) (λ e m. small-passes e m .0) (keep-distinct _ (s .live) (ascending-distinct (s .live) (v .ascending)))
+    pub distinct-later : Ascending (s .live) → Small n r (s .live) → Distinct (later S s)
+    distinct-later up small =
+        distinct-renamed (second S) (2 ^ n) inj (passes S s) (λ e m. small-passes small e m .0) (keep-distinct _ (s .live) (ascending-distinct (s .live) up))
 
-    pub distinct-last : Distinct (last S s)
-    distinct-last = keep-distinct _ (later S s) distinct-later
+    pub distinct-last : Valid (firstLevel S) (secondLevel S) s → Small n r (s .live) → Distinct (last S s)
+    distinct-last v small = keep-distinct _ (later S s) (distinct-later (v .ascending) small)
 
   module _ (T : Table) (s : State) (st : Stands n r S T s) where
     pub test1 : (w : ℕ) → holds n r S (T .level1) w ≡ within S (s .size .buckets1) (s .bounds1) w
@@ -169,7 +169,7 @@ module _ (n r : ℕ) (S : ℕ → ℕ) (keeps : (x : ℕ) → x < 2 ^ n → S x 
       -- the word is due at the second level, and in the base list
       find-later : holds n r S (T .level1) w ≡ false → find w′ (later S s) ≡ find w (s .live)
       find-later f =
-          find-renamed (second S) (2 ^ n) inj w (passes S s) l (λ e m. small-passes s (st .valid) (st .small) e m .0)
+          find-renamed (second S) (2 ^ n) inj w (passes S s) l (λ e m. small-passes s (st .small) e m .0)
           ∙ find-keep (λ v. not (within S (s .size .buckets1) (s .bounds1) v)) w (s .live) (pass1 w f)
 
       find-last : holds n r S (T .level1) w ≡ false → holds n r S (T .level2) w′ ≡ false → find w′ (last S s) ≡ find w (s .live)
@@ -197,52 +197,32 @@ module _ (n r : ℕ) (S : ℕ → ℕ) (keeps : (x : ℕ) → x < 2 ^ n → S x 
         later-in : holds n r S (T .level1) w ≡ false → later S s′ ≡ g w′ (later S s)
         later-in t =
             ap (map (onSecond S)) (edit .inside (λ v. not (within S (s .size .buckets1) (s .bounds1) v)) w (s .live) (pass1 w t))
-            ∙ edit .twice w (passes S s) l (λ e m. small-passes s (st .valid) (st .small) e m .0)
+            ∙ edit .twice w (passes S s) l (λ e m. small-passes s (st .small) e m .0)
 
         touch-stands : (c : ℕ) → c ≡ length (g w (s .live)) → Stands n r S (withCount (touch n r S T w f g) c) s′
         touch-stands c count =
             by-test (λ (U : Table). Stands n r S (withCount U c) s′) (holds n r S (T .level1) w)
-            (λ t. record {
-              valid = valid;
-              pos1 = st .pos1;
-              pos2 = st .pos2;
-              small = small;
-              level1 = level-touch n r S w (st .pos1) (st .level1) l f g edit q live t;
-              bounds1 = touch-bounds n r S w (st .pos1) (st .level1) l f g edit q live t ∙ st .bounds1;
-              level2 = subst⁻¹ (λ (es : List Entry). LevelHolds n r S (s .size .buckets2) (T .level2) (map (onSecond S) es)) (passes-out t) (st .level2);
-              bounds2 = st .bounds2;
-              based = st .based ∙ sym (ap (λ (es : List Entry). sort (pass S (s .size .buckets2) (s .bounds2) (map (onSecond S) es))) (passes-out t));
-              counted = count;
-            })
+            (λ t. now (level-touch n r S w (st .pos1) (st .level1) l f g edit q live t) (touch-bounds n r S w (st .pos1) (st .level1) l f g edit q live t ∙ st .bounds1)
+            (subst⁻¹ (λ (es : List Entry). LevelHolds n r S (s .size .buckets2) (T .level2) (map (onSecond S) es)) (passes-out t) (st .level2)) (st .bounds2)
+            (st .based ∙ sym (ap (λ (es : List Entry). sort (pass S (s .size .buckets2) (s .bounds2) (map (onSecond S) es))) (passes-out t))))
             (λ t. by-test (λ (U : Table). Stands n r S (withCount U c) s′) (holds n r S (T .level2) w′)
-            (λ u. record {
-              valid = valid;
-              pos1 = st .pos1;
-              pos2 = st .pos2;
-              small = small;
-              level1 = level-past n r S w (st .pos1) (st .level1) l f g edit t;
-              bounds1 = st .bounds1;
-              level2 = subst⁻¹ (LevelHolds n r S (s .size .buckets2) (put S (T .level2) w′ (f w′ (bucketOf n r S (T .level2) w′)))) (later-in t)
-                  (level-touch n r S w′ (st .pos2) (st .level2) l′ f g edit q (find-later t ∙ live) u);
-              bounds2 = touch-bounds n r S w′ (st .pos2) (st .level2) l′ f g edit q (find-later t ∙ live) u ∙ st .bounds2;
-              based = st .based ∙ sym (ap (λ (es : List Entry). sort (pass S (s .size .buckets2) (s .bounds2) es)) (later-in t)
-                  ∙ ap sort (edit .outside (λ v. not (within S (s .size .buckets2) (s .bounds2) v)) w′ (later S s) (pass2 w′ u)));
-              counted = count;
-            })
-            (λ u. record {
-              valid = valid;
-              pos1 = st .pos1;
-              pos2 = st .pos2;
-              small = small;
-              level1 = level-past n r S w (st .pos1) (st .level1) l f g edit t;
-              bounds1 = st .bounds1;
-              level2 = subst⁻¹ (LevelHolds n r S (s .size .buckets2) (T .level2)) (later-in t) (level-past n r S w′ (st .pos2) (st .level2) l′ f g edit u);
-              bounds2 = st .bounds2;
-              based = ap (g w′) (st .based) ∙ edit .sorted w′ q (last S s) (distinct-last s (st .valid) (st .small)) (find-last t u ∙ live)
-                  ∙ sym (ap (λ (es : List Entry). sort (pass S (s .size .buckets2) (s .bounds2) es)) (later-in t)
-                  ∙ ap sort (edit .inside (λ v. not (within S (s .size .buckets2) (s .bounds2) v)) w′ (later S s) (pass2 w′ u)));
-              counted = count;
-            }))
+            (λ u. now (level-past n r S w (st .pos1) (st .level1) l f g edit t) (st .bounds1)
+            (subst⁻¹ (LevelHolds n r S (s .size .buckets2) (put S (T .level2) w′ (f w′ (bucketOf n r S (T .level2) w′)))) (later-in t)
+            (level-touch n r S w′ (st .pos2) (st .level2) l′ f g edit q (find-later t ∙ live) u))
+            (touch-bounds n r S w′ (st .pos2) (st .level2) l′ f g edit q (find-later t ∙ live) u ∙ st .bounds2)
+            (st .based ∙ sym (last-in t ∙ ap sort (edit .outside (λ v. not (within S (s .size .buckets2) (s .bounds2) v)) w′ (later S s) (pass2 w′ u)))))
+            (λ u. now (level-past n r S w (st .pos1) (st .level1) l f g edit t) (st .bounds1)
+            (subst⁻¹ (LevelHolds n r S (s .size .buckets2) (T .level2)) (later-in t) (level-past n r S w′ (st .pos2) (st .level2) l′ f g edit u)) (st .bounds2)
+            (ap (g w′) (st .based) ∙ edit .sorted w′ q (last S s) (distinct-last s (st .valid) (st .small)) (find-last t u ∙ live)
+            ∙ sym (last-in t ∙ ap sort (edit .inside (λ v. not (within S (s .size .buckets2) (s .bounds2) v)) w′ (later S s) (pass2 w′ u))))))
+          where
+            -- levels and a base list that stand for those of s′
+            now : {b1 b2 : List Bucket} {es : List Entry} → LevelHolds n r S (s .size .buckets1) b1 (s′ .live) → bounds b1 ≡ s .bounds1
+                → LevelHolds n r S (s .size .buckets2) b2 (later S s′) → bounds b2 ≡ s .bounds2 → es ≡ sort (last S s′) → Stands n r S (record { level1 = b1; level2 = b2; base = es; count = c }) s′
+            now l1 e1 l2 e2 b = record { valid = valid; pos1 = st .pos1; pos2 = st .pos2; small = small; level1 = l1; bounds1 = e1; level2 = l2; bounds2 = e2; based = b; counted = count }
+
+            last-in : holds n r S (T .level1) w ≡ false → sort (last S s′) ≡ sort (pass S (s .size .buckets2) (s .bounds2) (g w′ (later S s)))
+            last-in t = ap (λ (es : List Entry). sort (pass S (s .size .buckets2) (s .bounds2) es)) (later-in t)
 
         -- the live count stays
         touch-stays : T .count ≡ length (g w (s .live)) → Stands n r S (touch n r S T w f g) s′
