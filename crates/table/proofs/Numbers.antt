@@ -72,13 +72,6 @@ module _ (n r : ℕ) where
 
   -- ---- one level
 
-  module _ (b : Bucket) (bs : List Bucket) (f : AllShaped (b ∷ bs)) where
-    head : Shaped n r b
-    head = f 0 (omega arith)
-
-    tail : AllShaped bs
-    tail i l = f (suc i) (omega arith)
-
   -- a bucket's words are the first of the level's
   past : (b : Bucket) (rest : List ℕ) → Shaped n r b → (k : ℕ) → drop (bucketWords n r + k) (wordsOf b ++ rest) ≡ drop k rest
   past b rest h k = subst (λ (m : ℕ). drop (m + k) (wordsOf b ++ rest) ≡ drop k rest) (length-words n r b h) (drop-append-add (wordsOf b) rest k)
@@ -89,8 +82,8 @@ module _ (n r : ℕ) where
   pub length-level : (bs : List Bucket) → AllShaped bs → length (levelNumbers bs) ≡ length bs * bucketWords n r
   length-level [] f = omega arith
   length-level (b ∷ bs) f =
-      let h = length-level bs (tail b bs f) in
-      omega (arith, length-append (wordsOf b) (levelNumbers bs), length-words n r b (head b bs f))
+      let h = length-level bs (λ j l. f (suc j) (omega arith)) in
+      omega (arith, length-append (wordsOf b) (levelNumbers bs), length-words n r b (f 0 (omega arith)))
 
   pub length-levelFrom : (m : ℕ) (xs : List ℕ) → length (levelFrom n r m xs) ≡ m
   length-levelFrom zero xs = refl
@@ -101,9 +94,9 @@ module _ (n r : ℕ) where
   back-level (b ∷ bs) rest f =
       let w : bucketWords n r ≡ bucketWords n r + 0 = omega arith in
       ap (λ (l : List ℕ). levelFrom n r (suc (length bs)) l) (append-assoc (wordsOf b) (levelNumbers bs) rest)
-      ∙ ap₂ {C = List Bucket} _∷_ (from-words n r b (head b bs f) (levelNumbers bs ++ rest))
-      (ap (levelFrom n r (length bs)) (ap (λ (k : ℕ). drop k (wordsOf b ++ (levelNumbers bs ++ rest))) w ∙ past b (levelNumbers bs ++ rest) (head b bs f) 0)
-      ∙ back-level bs rest (tail b bs f))
+      ∙ ap₂ {C = List Bucket} _∷_ (from-words n r b (f 0 (omega arith)) (levelNumbers bs ++ rest))
+      (ap (levelFrom n r (length bs)) (ap (λ (k : ℕ). drop k (wordsOf b ++ (levelNumbers bs ++ rest))) w ∙ past b (levelNumbers bs ++ rest) (f 0 (omega arith)) 0)
+      ∙ back-level bs rest (λ j l. f (suc j) (omega arith)))
 
   forth-level : (m : ℕ) (xs : List ℕ) → m * bucketWords n r ≤ length xs → levelNumbers (levelFrom n r m xs) ++ drop (m * bucketWords n r) xs ≡ xs
   forth-level zero xs h = let e : 0 * bucketWords n r ≡ 0 = omega arith in ap (λ (k : ℕ). drop k xs) e
@@ -134,17 +127,17 @@ module _ (n r : ℕ) where
       let g : 0 * bucketWords n r + bucketWords n r ≡ bucketWords n r + 0 = omega arith in
       append-assoc (wordsOf b) (levelNumbers bs) rest
       ∙ sym (ap₂ (λ (k : ℕ) (l : List ℕ). take k (wordsOf c ++ levelNumbers bs ++ rest) ++ (wordsOf b ++ l)) e
-      (ap₂ (λ (k : ℕ) (l : List ℕ). drop k l) g (append-assoc (wordsOf c) (levelNumbers bs) rest) ∙ past c (levelNumbers bs ++ rest) (head c bs f) 0))
+      (ap₂ (λ (k : ℕ) (l : List ℕ). drop k l) g (append-assoc (wordsOf c) (levelNumbers bs) rest) ∙ past c (levelNumbers bs ++ rest) (f 0 (omega arith)) 0))
   write-level (c ∷ bs) rest (suc i) b f h =
       let Y : List ℕ = levelNumbers bs ++ rest in
       let e : suc i * bucketWords n r ≡ bucketWords n r + i * bucketWords n r = omega arith in
       let g : suc i * bucketWords n r + bucketWords n r ≡ bucketWords n r + (i * bucketWords n r + bucketWords n r) = omega arith in
       append-assoc (wordsOf c) (levelNumbers (set bs i b)) rest
-      ∙ ap (λ (l : List ℕ). wordsOf c ++ l) (write-level bs rest i b (tail c bs f) (le-of-suc-le-suc h))
+      ∙ ap (λ (l : List ℕ). wordsOf c ++ l) (write-level bs rest i b (λ j l. f (suc j) (omega arith)) (le-of-suc-le-suc h))
       ∙ sym (append-assoc (wordsOf c) (take (i * bucketWords n r) Y) (wordsOf b ++ drop (i * bucketWords n r + bucketWords n r) Y))
       ∙ sym (ap₂ (λ (p q : List ℕ). p ++ (wordsOf b ++ q))
-      (ap₂ (λ (k : ℕ) (l : List ℕ). take k l) e (append-assoc (wordsOf c) (levelNumbers bs) rest) ∙ front c Y (head c bs f) (i * bucketWords n r))
-      (ap₂ (λ (k : ℕ) (l : List ℕ). drop k l) g (append-assoc (wordsOf c) (levelNumbers bs) rest) ∙ past c Y (head c bs f) (i * bucketWords n r + bucketWords n r)))
+      (ap₂ (λ (k : ℕ) (l : List ℕ). take k l) e (append-assoc (wordsOf c) (levelNumbers bs) rest) ∙ front c Y (f 0 (omega arith)) (i * bucketWords n r))
+      (ap₂ (λ (k : ℕ) (l : List ℕ). drop k l) g (append-assoc (wordsOf c) (levelNumbers bs) rest) ∙ past c Y (f 0 (omega arith)) (i * bucketWords n r + bucketWords n r)))
 
   -- a bucket is read from its own words
   pub from-part : (xs : List ℕ) → bucketFrom n r (take (bucketWords n r) xs) ≡ bucketFrom n r xs
@@ -166,13 +159,6 @@ module _ (n r : ℕ) where
   -- the header has its length
   pub length-heads : (T : Table) → length (heads T) ≡ header
   length-heads T = refl
-
-  -- it keeps to the bucket numbers
-  heads-first : (T : Table) (bs : List Bucket) → length bs ≡ length (T .level1) → heads (withFirst T bs) ≡ heads T
-  heads-first T bs e = ap {B = List ℕ} (λ m. m ∷ length (T .level2) ∷ length (T .base) ∷ T .count ∷ []) e
-
-  heads-second : (T : Table) (bs : List Bucket) → length bs ≡ length (T .level2) → heads (withSecond T bs) ≡ heads T
-  heads-second T bs e = ap {B = List ℕ} (λ m. length (T .level1) ∷ m ∷ length (T .base) ∷ T .count ∷ []) e
 
   module _ (T : Table) (h : ShapedTable T) where
     abbrev l1 : List ℕ
@@ -271,7 +257,7 @@ module _ (n r : ℕ) where
     write-first i b l =
         let w : ℕ = bucketWords n r in
         let e : bucketPlace n r i + w ≡ header + (i * w + w) = omega arith in
-        ap₂ (λ (p q : List ℕ). p ++ q) (heads-first T (set (T .level1) i b) (length-set (T .level1) i b)) (write-level (T .level1) from2 i b (h .first) l)
+        ap₂ (λ (k : ℕ) (q : List ℕ). k ∷ m2 ∷ length (T .base) ∷ T .count ∷ q) (length-set (T .level1) i b) (write-level (T .level1) from2 i b (h .first) l)
         ∙ sym (append-assoc (heads T) (take (i * w) from1) (wordsOf b ++ drop (i * w + w) from1))
         ∙ sym (ap₂ (λ (p q : List ℕ). p ++ (wordsOf b ++ q)) (take-heads (i * w)) (ap (λ (j : ℕ). drop j (numbersOf T)) e ∙ drop-heads (i * w + w)))
 
@@ -283,7 +269,7 @@ module _ (n r : ℕ) where
         let w : ℕ = bucketWords n r in
         let e : bucketPlace n r (m1 + i) ≡ bucketPlace n r m1 + i * w = omega (arith, add-mul m1 i w) in
         let g : bucketPlace n r (m1 + i) + w ≡ bucketPlace n r m1 + (i * w + w) = omega (arith, add-mul m1 i w) in
-        ap₂ (λ (p q : List ℕ). p ++ (l1 ++ q)) (heads-second T (set (T .level2) i b) (length-set (T .level2) i b)) (write-level (T .level2) (basePairs (T .base)) i b (h .second) l)
+        ap₂ (λ (k : ℕ) (q : List ℕ). m1 ∷ k ∷ length (T .base) ∷ T .count ∷ (l1 ++ q)) (length-set (T .level2) i b) (write-level (T .level2) (basePairs (T .base)) i b (h .second) l)
         ∙ ap (λ (l : List ℕ). heads T ++ l) (sym (append-assoc l1 (take (i * w) from2) (wordsOf b ++ drop (i * w + w) from2)))
         ∙ sym (append-assoc (heads T) (l1 ++ take (i * w) from2) (wordsOf b ++ drop (i * w + w) from2))
         ∙ sym (ap₂ (λ (p q : List ℕ). p ++ (wordsOf b ++ q)) (ap (λ (j : ℕ). take j (numbersOf T)) e ∙ take-first (i * w)) (ap (λ (j : ℕ). drop j (numbersOf T)) g ∙ drop-first (i * w + w)))
@@ -343,6 +329,13 @@ module _ (n r : ℕ) where
   four (a ∷ b ∷ c ∷ []) h = absurd (omega arith)
   four (a ∷ b ∷ c ∷ d ∷ xs) h = refl
 
+  -- both levels are among as many numbers
+  pub room : (xs : List ℕ) (a b : ℕ) → length xs ≡ lengthOf n r a b
+      → (a * bucketWords n r ≤ length (drop (bucketPlace n r 0) xs)) × (b * bucketWords n r ≤ length (drop (bucketPlace n r a) xs))
+  room xs a b e =
+      let s = add-mul a b (bucketWords n r) in
+      (omega (arith, length-drop (bucketPlace n r 0) xs), omega (arith, length-drop (bucketPlace n r a) xs))
+
   module _ (xs : List ℕ) (h : Laid xs) where
     abbrev a : ℕ
     a = getD xs buckets1At 0
@@ -355,9 +348,6 @@ module _ (n r : ℕ) where
 
     abbrev w : ℕ
     w = bucketWords n r
-
-    whole : length xs ≡ header + (a * w + b * w) + baseNumbers
-    whole = h .size ∙ ap (λ (k : ℕ). header + k + baseNumbers) (add-mul a b w)
 
     abbrev tail-of : List ℕ
     tail-of = drop (bucketPlace n r (a + b)) xs
@@ -385,9 +375,9 @@ module _ (n r : ℕ) where
         let g : bucketPlace n r 0 + a * w ≡ bucketPlace n r a = omega arith in
         ap (λ (l : List ℕ). levelNumbers (levelFrom n r a (drop (bucketPlace n r 0) xs)) ++ l)
         (ap (λ (l : List ℕ). levelNumbers (levelFrom n r b (drop (bucketPlace n r a) xs)) ++ l) (tail-pairs ∙ ap (λ (k : ℕ). drop k xs) (sym e) ∙ sym (drop-drop (b * w) (bucketPlace n r a) xs))
-        ∙ forth-level b (drop (bucketPlace n r a) xs) (omega (arith, length-drop (bucketPlace n r a) xs, whole))
+        ∙ forth-level b (drop (bucketPlace n r a) xs) (room xs a b (h .size) .1)
         ∙ ap (λ (k : ℕ). drop k xs) (sym g) ∙ sym (drop-drop (a * w) (bucketPlace n r 0) xs))
-        ∙ forth-level a (drop (bucketPlace n r 0) xs) (omega (arith, length-drop (bucketPlace n r 0) xs, whole))
+        ∙ forth-level a (drop (bucketPlace n r 0) xs) (room xs a b (h .size) .0)
 
     -- the table gives the numbers back
     pub forth : numbersOf (tableFrom n r xs) ≡ xs

@@ -29,7 +29,7 @@ use Rattle.model.specs.Levels.{due, passed}
 use Rattle.model.specs.Model.{baseLimit, State}
 use Rattle.model.proofs.Levels.{passed-words}
 use Rattle.model.proofs.Valid.{Valid}
-use Rattle.table.specs.Table.{Table, bounds, thr, index, second, onSecond, nth, holds}
+use Rattle.table.specs.Table.{Table, bounds, thr, index, onSecond, nth, holds}
 use Rattle.table.specs.Content.{occupied, allRows, backOf, entriesOf, liveOf, stateOf}
 use Rattle.table.specs.Sound.{Row, SoundLevel, SoundTable}
 use Rattle.table.proofs.Level.{Fits, Small, bounds-length, bound-at, firstLevel, secondLevel, within, dueIn, due-in, LevelHolds}

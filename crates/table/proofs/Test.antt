@@ -33,7 +33,7 @@ use Rattle.table.specs.Layout.{buckets1At, buckets2At, baseCountAt, head
 use Rattle.table.specs.Sound as D
 use Rattle.table.specs.Sound.{SoundTable, FlatSound}
 use Rattle.table.specs.Test.{allOf, before, ascends, bucketTest, levelTest, row1, row2, row0, tableTest, soundTest}
-use Rattle.table.proofs.Numbers.{length-levelFrom}
+use Rattle.table.proofs.Numbers.{length-levelFrom, room}
 
 -- ---- tests one after the other
 
@@ -222,13 +222,10 @@ module _ (n r : ℕ) where
   below-take (suc k) (x ∷ xs) h zero = h 0
   below-take (suc k) (x ∷ xs) h (suc j) = below-take k xs (λ i. h (suc i)) j
 
-  bucket-ranged : (xs : List ℕ) → bucketWords n r ≤ length xs → Below xs → Ranged n r (bucketFrom n r xs)
-  unfolding bucketFrom
-  bucket-ranged xs l h = record { shaped = from-shaped n r xs l; cols-lt = below-take n xs h; mark-lt = h n }
-
   level-ranged : (m : ℕ) (xs : List ℕ) → m * bucketWords n r ≤ length xs → Below xs → (i : ℕ) → i < m → Ranged n r (nth n r (levelFrom n r m xs) i)
+  unfolding bucketFrom
   level-ranged zero xs l h i k = absurd (not-suc-le-zero k)
-  level-ranged (suc m) xs l h zero k = bucket-ranged xs (omega arith) h
+  level-ranged (suc m) xs l h zero k = record { shaped = from-shaped n r xs (omega arith); cols-lt = below-take n xs h; mark-lt = h n }
   level-ranged (suc m) xs l h (suc i) k =
       level-ranged m (drop (bucketWords n r) xs) (omega (arith, length-drop (bucketWords n r) xs)) (below-drop (bucketWords n r) xs h) i (le-of-suc-le-suc k)
 
@@ -246,18 +243,6 @@ module _ (n r : ℕ) where
       abbrev b : ℕ
       b = getD xs buckets2At 0
 
-      abbrev w : ℕ
-      w = bucketWords n r
-
-      whole : length xs ≡ header + (a * w + b * w) + baseNumbers
-      whole = size ∙ ap (λ (k : ℕ). header + k + baseNumbers) (add-mul a b w)
-
-      room1 : a * w ≤ length (drop (bucketPlace n r 0) xs)
-      room1 = omega (arith, length-drop (bucketPlace n r 0) xs, whole)
-
-      room2 : b * w ≤ length (drop (bucketPlace n r a) xs)
-      room2 = omega (arith, length-drop (bucketPlace n r a) xs, whole)
-
       pub test-sound : soundTest n r S U xs ≡ true → FlatSound n r S U xs
       unfolding soundTest tableFrom
       test-sound t =
@@ -265,8 +250,8 @@ module _ (n r : ℕ) where
           let size2 = length-levelFrom n r b (drop (bucketPlace n r a) xs) in
           record {
             table = table-out n r S U (tableFrom n r xs) (subst⁻¹ (λ (k : ℕ). 0 < k) size1 some1) (subst⁻¹ (λ (k : ℕ). 0 < k) size2 some2)
-                (λ i l. level-ranged a (drop (bucketPlace n r 0) xs) room1 (below-drop (bucketPlace n r 0) xs bits) i (subst (λ (k : ℕ). i < k) size1 l))
-                (λ i l. level-ranged b (drop (bucketPlace n r a) xs) room2 (below-drop (bucketPlace n r a) xs bits) i (subst (λ (k : ℕ). i < k) size2 l))
+                (λ i l. level-ranged a (drop (bucketPlace n r 0) xs) (room n r xs a b size .0) (below-drop (bucketPlace n r 0) xs bits) i (subst (λ (k : ℕ). i < k) size1 l))
+                (λ i l. level-ranged b (drop (bucketPlace n r a) xs) (room n r xs a b size .1) (below-drop (bucketPlace n r a) xs bits) i (subst (λ (k : ℕ). i < k) size2 l))
                 (pairs-below (getD xs baseCountAt 0) _ (below-drop (bucketPlace n r (a + b)) xs bits))
                 (and-one (tableTest n r S U (tableFrom n r xs)) _ t);
             unused = zeros-out (unusedIn n r xs) (and-two (tableTest n r S U (tableFrom n r xs)) _ t);
