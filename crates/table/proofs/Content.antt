@@ -13,7 +13,7 @@ use lib.Dec.{eqb, ltb}
 use lib.ListN.{length, getD, length-append, length-map}
 use borrow.Author.Tests.{eqb-true, eqb-false, ltb-true, ltb-false, lt-ltb, le-ltb}
 use Rattle.lists.specs.Lists.{keep}
-use Rattle.lists.specs.Entries.{Entry, words, Distinct}
+use Rattle.lists.specs.Entries.{Entry, words}
 use Rattle.lists.proofs.Tests.{cases}
 use Rattle.lists.proofs.Keep.{keep-keep, keep-ext, keep-out, keep-part, keep-none, perm-length}
 use Rattle.lists.proofs.Sorts.{sort-perm, sort-same, sort-order, distinct-perm, ascending-distinct}
@@ -100,10 +100,7 @@ level-rows n r S m pos bs es l =
 
 chosen-length : (m : ℕ) (rs : List ℕ) → m < 2 ^ length rs → length (chosen m rs) ≡ ones m
 unfolding ones
-chosen-length m [] h = sym (ap ones zero-m)
-  where
-    zero-m : m ≡ 0
-    zero-m = omega arith
+chosen-length m [] h = let e : m ≡ 0 = omega arith in sym (ap ones e)
 chosen-length m (x ∷ xs) h =
     go (m % 2) (mod-lt m (omega arith)) ∙ ap (λ (k : ℕ). m % 2 + k) (chosen-length (m / 2) xs (omega (arith, pow-suc 2 (length xs)))) ∙ sym (ones-step m)
   where
@@ -159,10 +156,9 @@ module _ (n r : ℕ) (S U : ℕ → ℕ) (keeps : (x : ℕ) → x < 2 ^ n → S 
 
     pub table-live : liveOf n U T ≡ s .live
     unfolding liveOf
-    table-live = sort-order table-entries (distinct-perm (Permᴰ·symm table-entries) d) ∙ sort-same (s .live) (st .valid .ascending) d
-      where
-        d : Distinct (s .live)
-        d = ascending-distinct (s .live) (st .valid .ascending)
+    table-live =
+        let d = ascending-distinct (s .live) (st .valid .ascending) in
+        sort-order table-entries (distinct-perm (Permᴰ·symm table-entries) d) ∙ sort-same (s .live) (st .valid .ascending) d
 
     -- the live count is the number of occupied rows and base entries
     pub table-count : T .count ≡ occupied (T .level1) + (occupied (T .level2) + length (T .base))

@@ -142,17 +142,15 @@ module _ (n r : ℕ) where
   -- a bucket is read from its own words
   pub from-part : (xs : List ℕ) → bucketFrom n r (take (bucketWords n r) xs) ≡ bucketFrom n r xs
   unfolding bucketFrom
-  from-part xs = λ i. record {
-    cols = take-take n (bucketWords n r) xs (omega arith) i;
-    mark = getD-take (bucketWords n r) xs n 0 (omega arith) i;
-    sols = sols i;
-    bound = getD-take (bucketWords n r) xs (n + 1 + r) 0 (omega arith) i;
-  }
-    where
-      sols : take r (drop (n + 1) (take (bucketWords n r) xs)) ≡ take r (drop (n + 1) xs)
-      sols =
-          let e : bucketWords n r ≡ n + 1 + (r + 1) = omega arith in
-          ap (λ (k : ℕ). take r (drop (n + 1) (take k xs))) e ∙ ap (take r) (drop-take (n + 1) (r + 1) xs) ∙ take-take r (r + 1) (drop (n + 1) xs) (omega arith)
+  from-part xs =
+      let e : bucketWords n r ≡ n + 1 + (r + 1) = omega arith in
+      let sols = ap (λ (k : ℕ). take r (drop (n + 1) (take k xs))) e ∙ ap (take r) (drop-take (n + 1) (r + 1) xs) ∙ take-take r (r + 1) (drop (n + 1) xs) (omega arith) in
+      λ i. record {
+        cols = take-take n (bucketWords n r) xs (omega arith) i;
+        mark = getD-take (bucketWords n r) xs n 0 (omega arith) i;
+        sols = sols i;
+        bound = getD-take (bucketWords n r) xs (n + 1 + r) 0 (omega arith) i;
+      }
 
   -- ---- the whole table
 
@@ -189,7 +187,7 @@ module _ (n r : ℕ) where
     -- the numbers from a place on
     pub drop-heads : (k : ℕ) → drop (header + k) (numbersOf T) ≡ drop k from1
     unfolding numbersOf
-    drop-heads k = ap (λ (j : ℕ). drop (j + k) (heads T ++ from1)) (sym (length-heads T)) ∙ drop-append-add (heads T) from1 k
+    drop-heads = drop-append-add (heads T) from1
 
     drop-first : (k : ℕ) → drop (bucketPlace n r m1 + k) (numbersOf T) ≡ drop k from2
     drop-first k =
@@ -208,7 +206,7 @@ module _ (n r : ℕ) where
     -- and before it
     take-heads : (k : ℕ) → take (header + k) (numbersOf T) ≡ heads T ++ take k from1
     unfolding numbersOf
-    take-heads k = ap (λ (j : ℕ). take (j + k) (heads T ++ from1)) (sym (length-heads T)) ∙ take-append-add (heads T) from1 k
+    take-heads = take-append-add (heads T) from1
 
     take-first : (k : ℕ) → take (bucketPlace n r m1 + k) (numbersOf T) ≡ heads T ++ (l1 ++ take k from2)
     take-first k =
@@ -352,14 +350,8 @@ module _ (n r : ℕ) where
     abbrev tail-of : List ℕ
     tail-of = drop (bucketPlace n r (a + b)) xs
 
-    length-tail : length tail-of ≡ baseNumbers
-    length-tail = omega (arith, length-drop (bucketPlace n r (a + b)) xs, h .size)
-
     length-unused : length (unusedIn n r xs) ≡ baseNumbers - 2 * c
     length-unused = omega (arith, length-drop (bucketPlace n r (a + b) + 2 * c) xs, h .size)
-
-    enough : 2 * c ≤ length tail-of
-    enough = let f : c ≤ baseLimit = h .fits in omega (arith, length-tail)
 
     rest-zero : replicate (baseNumbers - 2 * length (pairsFrom c tail-of)) 0 ≡ drop (2 * c) tail-of
     rest-zero =
@@ -367,7 +359,9 @@ module _ (n r : ℕ) where
         ∙ zeros (unusedIn n r xs) (h .unused) ∙ sym (drop-drop (2 * c) (bucketPlace n r (a + b)) xs)
 
     tail-pairs : basePairs (pairsFrom c tail-of) ≡ tail-of
-    tail-pairs = ap (λ (l : List ℕ). pairNumbers (pairsFrom c tail-of) ++ l) rest-zero ∙ forth-pairs c tail-of enough
+    tail-pairs =
+        let f : c ≤ baseLimit = h .fits in
+        ap (λ (l : List ℕ). pairNumbers (pairsFrom c tail-of) ++ l) rest-zero ∙ forth-pairs c tail-of (omega (arith, length-drop (bucketPlace n r (a + b)) xs, h .size))
 
     inner : levelNumbers (levelFrom n r a (drop (bucketPlace n r 0) xs)) ++ (levelNumbers (levelFrom n r b (drop (bucketPlace n r a) xs)) ++ basePairs (pairsFrom c tail-of)) ≡ drop (bucketPlace n r 0) xs
     inner =

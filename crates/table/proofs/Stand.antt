@@ -65,14 +65,12 @@ module _ (S : ℕ → ℕ) where
 
   pub last-length : (s : State) → length (last s) ≡ length (base (firstLevel S) (secondLevel S) s)
   last-length s =
+      let past : Entry → Bool = λ e. not (within S (s .size .buckets2) (s .bounds2) (second S (e .word))) in
       ap length (keep-map (onSecond S) (λ e. not (within S (s .size .buckets2) (s .bounds2) (e .word))) (passes s))
       ∙ length-map (keep past (passes s)) (onSecond S)
       ∙ sym (ap (λ (ws : List ℕ). length (passed (secondLevel S) (s .size .buckets2) (s .bounds2) ws)) (passed-words (firstLevel S) (s .size .buckets1) (s .bounds1) (s .live))
       ∙ ap length (passed-words (secondLevel S) (s .size .buckets2) (s .bounds2) (passes s))
       ∙ length-map (keep past (passes s)) (λ e. e .word))
-    where
-      past : Entry → Bool
-      past e = not (within S (s .size .buckets2) (s .bounds2) (second S (e .word)))
 
 module _ (n r : ℕ) (S : ℕ → ℕ) where
   -- the table T stands for the state s: each level holds its due of the live words, the base list the others
@@ -320,21 +318,18 @@ module _ (n r : ℕ) (S : ℕ → ℕ) (keeps : (x : ℕ) → x < 2 ^ n → S x 
           ∙ last-length S t
 
       pub add-stands : length (base (firstLevel S) (secondLevel S) t) ≤ baseLimit → Stands n r S (addedTo n r S T e) t
-      add-stands h = record {
-        valid = valid;
-        pos1 = st .pos1;
-        pos2 = st .pos2;
-        small = small;
-        level1 = level-perm n r S live-perm (a1 .level);
-        bounds1 = now1;
-        level2 = level-perm n r S due2 (a2 .level);
-        bounds2 = now2;
-        based = ap (insertAll (p2 .out)) (st .based) ∙ insert-all-sort (p2 .out) (last S s) (last S t) based-now (distinct-last s (st .valid) (st .small)) (distinct-last t valid small);
-        counted = ap suc (st .counted) ∙ sym (insert-length e (s .live));
-      }
-        where
-          valid : Valid (firstLevel S) (secondLevel S) t
-          valid = valid-settled (firstLevel S) (secondLevel S) s (st .valid) (insert e (s .live)) (insert-ascending e (s .live) (st .valid .ascending) fresh) h
-
-          small : Small n r (insert e (s .live))
-          small = small-perm n r live-perm small-both
+      add-stands h =
+          let small : Small n r (insert e (s .live)) = small-perm n r live-perm small-both in
+          let valid = valid-settled (firstLevel S) (secondLevel S) s (st .valid) (insert e (s .live)) (insert-ascending e (s .live) (st .valid .ascending) fresh) h in
+          record {
+            valid = valid;
+            pos1 = st .pos1;
+            pos2 = st .pos2;
+            small = small;
+            level1 = level-perm n r S live-perm (a1 .level);
+            bounds1 = now1;
+            level2 = level-perm n r S due2 (a2 .level);
+            bounds2 = now2;
+            based = ap (insertAll (p2 .out)) (st .based) ∙ insert-all-sort (p2 .out) (last S s) (last S t) based-now (distinct-last s (st .valid) (st .small)) (distinct-last t valid small);
+            counted = ap suc (st .counted) ∙ sym (insert-length e (s .live));
+          }

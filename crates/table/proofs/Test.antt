@@ -1,7 +1,7 @@
 -- The test says true exactly of sound tables, in numbers that have the length of the layout and are below 2 ^ n.
 -- Assumes nothing.
 use Prim.Native.Nat.{ℕ, zero, suc, _+_, _*_, _^_, _≤_, _<_}
-use native.Mathlib.Nat.{not-suc-le-zero, le-of-suc-le-suc, add-mul, add-zero, zero-add}
+use native.Mathlib.Nat.{not-suc-le-zero, le-of-suc-le-suc, add-zero, zero-add}
 use native.Mathlib.Omega.{arith}
 use mathlib.Core.Path.{_≡_, refl, sym, ap, _∙_, subst, subst⁻¹}
 use mathlib.Core.Bool.{Bool, true, not, _&&_, true≢false}
@@ -29,7 +29,7 @@ use Rattle.bucket_words.proofs.Words.{from-shaped}
 use Rattle.bucket_settle.specs.Settle.{SoundBucket}
 use Rattle.model.specs.Model.{baseLimit}
 use Rattle.table.specs.Table.{Table, thr, index, nth, holds}
-use Rattle.table.specs.Layout.{buckets1At, buckets2At, baseCountAt, header, baseNumbers, pairsFrom, levelFrom, bucketPlace, tableFrom, lengthOf, unusedIn}
+use Rattle.table.specs.Layout.{buckets1At, buckets2At, baseCountAt, pairsFrom, levelFrom, bucketPlace, tableFrom, lengthOf, unusedIn}
 use Rattle.table.specs.Sound as D
 use Rattle.table.specs.Sound.{SoundTable, FlatSound}
 use Rattle.table.specs.Test.{allOf, before, ascends, bucketTest, levelTest, row1, row2, row0, tableTest, soundTest}
