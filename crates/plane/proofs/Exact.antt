@@ -184,10 +184,6 @@ ascending-of least (e ∷ es) a =
     let c = both (leb least (e .word)) _ a in
     (above-of (e .word) (suc (e .word)) es (omega arith) (c .1), ascending-of (suc (e .word)) es (c .1))
 
-entries-ascending : (least k at : ℕ) (p : List ℕ) → entriesWrong least k at p ≡ Nowhere → Ascending (readAll entryLength entryFrom k p)
-unfolding entriesWrong
-entries-ascending least k at p e = ascending-of least (readAll entryLength entryFrom k p) (scan-allowed entryRecords entryAllowed exceeding least k at p e)
-
 -- the end
 pub end-bytes : (q : List ℕ) → endFits q ≡ true → length q ≡ endLength → endRecord ≡ q
 end-bytes q e n =
@@ -209,9 +205,7 @@ module _ (F : Format) (p : List ℕ) (e : wrongAt F p ≡ Nowhere) (b : AllBytes
       let a = both (whole headerKind headerBody p) _ (h .header) in
       let there : headerBody < length p = whole-length headerKind headerBody p (a .0) in
       let f : getD p 1 0 ≡ F .number = eqb-true (getD p 1 0) (F .number) (both (eqb (getD p 1 0) (F .number)) _ (a .1) .0) in
-      let tail : getD p 1 0 ∷ buckets1 p ∷ buckets2 p ∷ baseCount p ∷ drop bucketsAt p ≡ drop 1 p =
-      rw (← drop-cons p 4 0 (omega arith), ← drop-cons p 3 0 (omega arith), ← drop-cons p 2 0 (omega arith), ← drop-cons p 1 0 (omega arith)) in
-      ap (λ (x : ℕ). headerKind ∷ x ∷ buckets1 p ∷ buckets2 p ∷ baseCount p ∷ drop bucketsAt p) (sym f) ∙ ap (λ (q : List ℕ). headerKind ∷ q) tail ∙ front headerKind headerBody p (a .0)
+      rw (← f, ← drop-cons p 4 0 (omega arith), ← drop-cons p 3 0 (omega arith), ← drop-cons p 2 0 (omega arith), ← drop-cons p 1 0 (omega arith)) (front headerKind headerBody p (a .0))
 
   two : planeFrom F p .level1 ++ planeFrom F p .level2 ≡ readAll s (bucketFrom F) (bucketCount p) (drop bucketsAt p)
   unfolding planeFrom
@@ -244,7 +238,7 @@ module _ (F : Format) (p : List ℕ) (e : wrongAt F p ≡ Nowhere) (b : AllBytes
 
   -- which fits
   pub read-fits : Fits F (planeFrom F p)
-  unfolding planeFrom
+  unfolding planeFrom entriesWrong
   read-fits =
       let a = both (whole headerKind headerBody p) _ (h .header) in
       let c = both (inRange (buckets1 p) (buckets2 p)) _ (both (eqb (getD p 1 0) (F .number)) _ (a .1) .1) in
@@ -253,5 +247,5 @@ module _ (F : Format) (p : List ℕ) (e : wrongAt F p ≡ Nowhere) (b : AllBytes
         few = rw length0 (leb-true (baseCount p) baseLimit (c .1));
         buckets = rw two (buckets-fit F (bucketCount p) bucketsAt (drop bucketsAt p) (h .buckets) (bytes-drop bucketsAt p b));
         entries = entries-fit 0 (baseCount p) (entriesIn F p) (drop (entriesIn F p) p) (h .entries) (bytes-drop (entriesIn F p) p b);
-        ascending = entries-ascending 0 (baseCount p) (entriesIn F p) (drop (entriesIn F p) p) (h .entries);
+        ascending = ascending-of 0 (planeFrom F p .base) (scan-allowed entryRecords entryAllowed exceeding 0 (baseCount p) (entriesIn F p) (drop (entriesIn F p) p) (h .entries));
       }

@@ -5,7 +5,7 @@ use Prim.Native.Nat.{ℕ, zero, suc, _+_, _-_, _*_, _≤_, _<_}
 use native.Mathlib.Nat.{add-zero, zero-mul, suc-mul}
 use native.Mathlib.Omega.{arith}
 use mathlib.Core.Path.{_≡_, refl, sym, ap, _∙_}
-use mathlib.Core.Logic.{inl, inr, _↔_}
+use mathlib.Core.Logic.{inl, inr, ⊎-elim, _↔_}
 use mathlib.Core.Bool.{Bool, true, false, true≢false, cond, _&&_}
 use mathlib.Core.List.{List, [], _∷_, _++_, map}
 use borrow.Author.Tests.{leb-true, leb-false, lt-leb, eqb-false, ne-eqb, eq-eqb}
@@ -13,7 +13,7 @@ use lib.Dec.{leb, eqb, leb·zero}
 use lib.ListN.{length, getD, drop, length-drop}
 use lib.Seq.{getD-drop, drop-drop}
 use Rattle.lists.specs.Lists.{countFrom}
-use Rattle.lists.proofs.Tests.{cases}
+use Rattle.lists.proofs.Tests.{by-test, cases}
 use Rattle.table.proofs.Causes.{and-fails}
 use Rattle.plane.specs.declared.Wrong.{Wrong}
 use Rattle.plane.specs.declared.Wrong.the-variants.{Nowhere, At}
@@ -70,39 +70,26 @@ at-one e = cc
 -- it is the first that is wrong
 module _ (p : List ℕ) (end at : ℕ) where
   pub found-exactly : (ds : List Expected) → (found p ds (more p end) ≡ At at) ↔ FirstWrong p ds end at
-  found-exactly [] = go (leb (length p) end) refl
-    where
-      go : (b : Bool) → leb (length p) end ≡ b → (cond b Nowhere (At end) ≡ At at) ↔ ((end < length p) × (at ≡ end))
-      go true e = (λ f. absurd (at-nowhere (sym f)), λ h. absurd (let l : length p ≤ end = leb-true (length p) end e in omega arith))
-      go false e = (λ f. (leb-false (length p) end e, sym (at-one f)), λ h. ap At (sym (h .1)))
-  found-exactly (d ∷ ds) = go (rightTest p d) refl (found-exactly ds)
-    where
-      go : (b : Bool) → rightTest p d ≡ b → (found p ds (more p end) ≡ At at) ↔ FirstWrong p ds end at
-          → (cond b (found p ds (more p end)) (At (d .at)) ≡ At at) ↔ FirstWrong p (d ∷ ds) end at
-      go true e i = (λ f. inr (right-record p d e, i .0 f), there)
-        where
-          there : FirstWrong p (d ∷ ds) end at → found p ds (more p end) ≡ At at
-          there (inl w) = absurd (right-record p d e (w .0))
-          there (inr r) = i .1 (r .1)
-      go false e i = (λ f. inl (wrong-record p d .0 e, sym (at-one f)), there)
-        where
-          there : FirstWrong p (d ∷ ds) end at → At (d .at) ≡ At at
-          there (inl w) = ap At (sym (w .1))
-          there (inr r) = absurd (r .0 (wrong-record p d .0 e))
+  found-exactly [] =
+      by-test (λ (x : Wrong). (x ≡ At at) ↔ FirstWrong p [] end at) (leb (length p) end)
+      (λ e. (λ f. absurd (at-nowhere (sym f)), λ h. absurd (omega (arith, leb-true (length p) end e))))
+      (λ e. (λ f. (leb-false (length p) end e, sym (at-one f)), λ h. ap At (sym (h .1))))
+  found-exactly (d ∷ ds) =
+      let i = found-exactly ds in
+      by-test (λ (x : Wrong). (x ≡ At at) ↔ FirstWrong p (d ∷ ds) end at) (rightTest p d)
+      (λ e. (λ f. inr (right-record p d e, i .0 f), ⊎-elim (λ w. absurd (right-record p d e (w .0))) (λ r. i .1 (r .1))))
+      (λ e. (λ f. inl (wrong-record p d .0 e, sym (at-one f)), ⊎-elim (λ w. ap At (sym (w .1))) (λ r. absurd (r .0 (wrong-record p d .0 e)))))
 
 -- nothing is found exactly if none is wrong
 pub found-nowhere : (p : List ℕ) (end : ℕ) (ds : List Expected) → (found p ds (more p end) ≡ Nowhere) ↔ NoneWrong p ds end
-found-nowhere p end [] = go (leb (length p) end) refl
-  where
-    go : (b : Bool) → leb (length p) end ≡ b → (cond b Nowhere (At end) ≡ Nowhere) ↔ (end < length p → ⊥)
-    go true e = (λ f l. let h : length p ≤ end = leb-true (length p) end e in omega arith, λ h. refl)
-    go false e = (λ f. absurd (at-nowhere f), λ h. absurd (h (leb-false (length p) end e)))
-found-nowhere p end (d ∷ ds) = go (rightTest p d) refl (found-nowhere p end ds)
-  where
-    go : (b : Bool) → rightTest p d ≡ b → (found p ds (more p end) ≡ Nowhere) ↔ NoneWrong p ds end
-        → (cond b (found p ds (more p end)) (At (d .at)) ≡ Nowhere) ↔ NoneWrong p (d ∷ ds) end
-    go true e i = (λ f. (right-record p d e, i .0 f), λ n. i .1 (n .1))
-    go false e i = (λ f. absurd (at-nowhere f), λ n. absurd (n .0 (wrong-record p d .0 e)))
+found-nowhere p end [] =
+    by-test (λ (x : Wrong). (x ≡ Nowhere) ↔ NoneWrong p [] end) (leb (length p) end)
+    (λ e. (λ f l. omega (arith, leb-true (length p) end e), λ h. refl))
+    (λ e. (λ f. absurd (at-nowhere f), λ h. absurd (h (leb-false (length p) end e))))
+found-nowhere p end (d ∷ ds) =
+    by-test (λ (x : Wrong). (x ≡ Nowhere) ↔ NoneWrong p (d ∷ ds) end) (rightTest p d)
+    (λ e. (λ f. (right-record p d e, found-nowhere p end ds .0 f), λ n. found-nowhere p end ds .1 (n .1)))
+    (λ e. (λ f. absurd (at-nowhere f), λ n. absurd (n .0 (wrong-record p d .0 e))))
 
 -- records of one kind, the first at the offset `first`
 module _ {A S : Type 0} (k : Kind A) (allowed : S → A → Bool) (next : S → A → S) (s : S) (first : ℕ) (p : List ℕ) where
@@ -123,11 +110,8 @@ module _ {A S : Type 0} (k : Kind A) (allowed : S → A → Bool) (next : S → 
     from-found i zero = refl
     from-found i (suc m) =
         let there : placeOf i + sizeOf k ≡ placeOf (suc i) = rw (suc-mul i (sizeOf k)) (omega arith) in
-        let e : orNext (wrongIn k allowed next (leftBy (suc i)) m (placeOf i + sizeOf k) (drop (sizeOf k) (drop (placeOf i) p))) o ≡ found p (map f (countFrom (suc i) m)) o =
-        rw (drop-drop (sizeOf k) (placeOf i) p, there) (from-found (suc i) m) in
-        let one : orNext (wrongIn k allowed next (leftBy i) (suc m) (placeOf i) (drop (placeOf i) p)) o ≡ cond (rightTest p (expectedAt i)) (found p (map f (countFrom (suc i) m)) o) (At (placeOf i)) =
-        cases (fits k allowed (leftBy i) (drop (placeOf i) p)) (λ t. rw t e) (λ t. rw t) in
-        one ∙ ap (λ (d : Expected). cond (rightTest p d) (found p (map f (countFrom (suc i) m)) o) (At (d .at))) (same i)
+        rw (← same i)
+        (cases (fits k allowed (leftBy i) (drop (placeOf i) p)) (λ t. rw (t, drop-drop (sizeOf k) (placeOf i) p, there) (from-found (suc i) m)) (λ t. rw t))
 
     pub scan-found : (m : ℕ) → orNext (wrongIn k allowed next s m first (drop first p)) o ≡ found p (map f (countFrom 0 m)) o
     scan-found m =
@@ -159,8 +143,7 @@ module _ (F : Format) (p : List ℕ) where
   end-found =
       let q : List ℕ = drop (endAt F m k) p in
       cases (endFits q)
-      (λ e. ap (λ (b : Bool). cond (endFits q) (cond b Nowhere (At (planeLength F m k))) (At (endAt F m k)))
-      (nothing-after (endAt F m k) p (whole-length endKind endBody q (both (whole endKind endBody q) _ e .0))))
+      (λ e. rw (nothing-after (endAt F m k) p (whole-length endKind endBody q (both (whole endKind endBody q) _ e .0))))
       (λ e. rw e)
 
   pub wrong-found : wrongAt F p ≡ found p (expected F p) (more p (planeLength F m k))
@@ -171,18 +154,12 @@ module _ (F : Format) (p : List ℕ) where
       let end : List Expected = expectedEnd F p ∷ [] in
       let o : Wrong = more p (planeLength F m k) in
       ap (λ (x : Wrong). cond (headerFits F p) x (At 0))
-      (ap (λ (x : Wrong). orNext (bucketsWrong F m bucketsAt (drop bucketsAt p)) (orNext (entriesWrong 0 k (entriesAt F m) (drop (entriesAt F m) p)) x)) end-found
-      ∙ ap (orNext (bucketsWrong F m bucketsAt (drop bucketsAt p))) (scan-found entryRecords entryAllowed exceeding 0 (entriesAt F m) p (expectedEntry F p) entry-same (found p end o) k)
-      ∙ scan-found (bucketRecords F) boundAllowed (λ s b. s) tt bucketsAt p (expectedBucket F p) (λ i. refl) (found p es (found p end o)) m
-      ∙ sym (found-append p bs (es ++ end) o ∙ ap (found p bs) (found-append p es end o)))
+      (rw (end-found, scan-found entryRecords entryAllowed exceeding 0 (entriesAt F m) p (expectedEntry F p) entry-same (found p end o) k, found-append p bs (es ++ end) o, found-append p es end o)
+      (scan-found (bucketRecords F) boundAllowed (λ s b. s) tt bucketsAt p (expectedBucket F p) (λ i. refl) (found p es (found p end o)) m))
 
   -- cause 10's offset, and none
   pub offset-exactly : (at : ℕ) → (wrongAt F p ≡ At at) ↔ WrongOffset F p at
-  offset-exactly at =
-      let e = found-exactly p (planeLength F m k) at (expected F p) in
-      (λ f. e .0 (sym wrong-found ∙ f), λ w. wrong-found ∙ e .1 w)
+  offset-exactly at = rw wrong-found (found-exactly p (planeLength F m k) at (expected F p))
 
   pub nowhere-exactly : (wrongAt F p ≡ Nowhere) ↔ RightPlane F p
-  nowhere-exactly =
-      let e = found-nowhere p (planeLength F m k) (expected F p) in
-      (λ f. e .0 (sym wrong-found ∙ f), λ w. wrong-found ∙ e .1 w)
+  nowhere-exactly = rw wrong-found (found-nowhere p (planeLength F m k) (expected F p))

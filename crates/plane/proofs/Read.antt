@@ -1,10 +1,10 @@
 -- Things read from bytes one after the other: how many, each by its place, and the loops that look for one.
 -- Assumes nothing.
 use mathlib.Core.Path.{_≡_, refl, sym, ap, _∙_}
-use mathlib.Core.List.{List, [], _∷_, _++_}
+use mathlib.Core.List.{List, [], _++_}
 use mathlib.Core.Option.{some}
 use Prim.Native.Nat.{ℕ, zero, suc, _+_, _-_, _*_, _/_, _≤_, _<_}
-use native.Mathlib.Nat.{suc-mul, zero-mul, zero-add, suc-add, add-comm, mod-lt, not-suc-le-zero, le-of-suc-le-suc}
+use native.Mathlib.Nat.{zero-mul, zero-add, suc-add, mod-lt, not-suc-le-zero, le-of-suc-le-suc}
 use native.Mathlib.Numerals.{sub-one}
 use native.Mathlib.Omega.{arith}
 use borrow.Author.Tests.{lt-ltb, le-ltb, eq-eqb, ne-eqb}
@@ -12,7 +12,7 @@ use lib.Dec.{lit<, lit≤}
 use lib.ListN.{length, getD, take, drop}
 use lib.Seq.{drop-drop, take-take, getD-take}
 use Rattle.lists.specs.Entries.{find}
-use Rattle.lists.proofs.Parts.{drop-take, drop-more}
+use Rattle.lists.proofs.Parts.{drop-take, drop-more, stretch}
 use Rattle.gf2.specs.Vectors.{product}
 use Rattle.hash.specs.Mix.{mixOf}
 use Rattle.identifier.specs.Place.{thresholds, thresholdAt, bucketAt}
@@ -30,9 +30,7 @@ module _ {A : Type 0} (size : ℕ) (read : List ℕ → A) where
   unfolding readAll
   getD-readAll zero i p d h = absurd (not-suc-le-zero h)
   getD-readAll (suc m) zero p d h = ap (λ (k : ℕ). read (drop k p)) {x = 0} {y = 0 * size} (omega arith)
-  getD-readAll (suc m) (suc i) p d h =
-      getD-readAll m i (drop size p) d (le-of-suc-le-suc h)
-      ∙ ap read (drop-drop (i * size) size p ∙ ap (λ (k : ℕ). drop k p) (sym (suc-mul i size ∙ add-comm (i * size) size)))
+  getD-readAll (suc m) (suc i) p d h = rw (drop-more i size p) (getD-readAll m i (drop size p) d (le-of-suc-le-suc h))
 
   -- more of them
   pub read-add : (a b : ℕ) (p : List ℕ) → readAll size read (a + b) p ≡ readAll size read a p ++ readAll size read b (drop (a * size) p)
@@ -56,12 +54,7 @@ bucket-part F at p =
 
 pub entry-part : (at : ℕ) (p : List ℕ) → entryFrom (take (at + entryLength - at) (drop at p)) ≡ entryFrom (drop at p)
 entry-part at p =
-    let ten : at + entryLength - at ≡ entryLength = omega arith in
-    rw ten (go (drop at p))
-  where
-    go : (q : List ℕ) → entryFrom (take entryLength q) ≡ entryFrom q
-    go [] = refl
-    go (x ∷ q) = rw (take-take wordBytes entryBody q (lit≤ tt), getD-take entryBody q wordBytes 0 (lit< tt))
+    rw (stretch at entryLength p, drop-take 1 entryBody (drop at p), take-take wordBytes entryBody (drop 1 (drop at p)) (lit≤ tt), getD-take entryLength (drop at p) entryBody 0 (lit< tt))
 
 -- solution word i of a bucket
 pub word-at : (F : Format) (i : ℕ) (p : List ℕ) → i < F .words → wordFrom (drop (2 + i * wordBytes) p) ≡ getD (bucketFrom F p .sols) i 0

@@ -152,16 +152,12 @@ module _ (F : Format) (P : Plane) (h : Fits F P) where
   unfolding planeBytes
   plane-length = rw (length-append, length-append, length-append, length-B, length-E) (omega arith)
 
-  -- the buckets of each level
-  all : (bs : List PlaneBucket) → Every (FitsBucket F) bs → Every (Back (bucketRecord F) (bucketLength F) (bucketFrom F)) bs
-  all bs f = every (bucket-back F) bs f
-
   right : Right F (planeBytes F P)
   unfolding planeBytes bucketsWrong entriesWrong
   right = record {
     header = rw (le-leb (1 + headerBody) (length (planeBytes F P)) (omega arith), eq-eqb (F .number) (F .number) refl, h .range, le-leb k baseLimit (h .few));
     buckets = rw (← length-append (P .level1) (P .level2))
-        (scan-right (bucketRecords F) boundAllowed (λ s b. s) tt (P .level1 ++ P .level2) (E ++ endRecord) bucketsAt (all (P .level1 ++ P .level2) (h .buckets)) (bounds-allowed F (P .level1 ++ P .level2) (h .buckets)));
+        (scan-right (bucketRecords F) boundAllowed (λ s b. s) tt (P .level1 ++ P .level2) (E ++ endRecord) bucketsAt (every (bucket-back F) (P .level1 ++ P .level2) (h .buckets)) (bounds-allowed F (P .level1 ++ P .level2) (h .buckets)));
     entries = rw at-entries
         (scan-right entryRecords entryAllowed exceeding 0 (P .base) endRecord (entriesAt F m) (every entry-back (P .base) (h .entries)) (ascending-allowed 0 (P .base) (h .ascending) (from-zero (P .base))));
     end = rw (at-end, equal-refl endBytes);
@@ -186,17 +182,13 @@ module _ (F : Format) (P : Plane) (h : Fits F P) where
       drop-append-add (headerRecord F (length (P .level1)) (length (P .level2)) k) (B ++ (E ++ endRecord)) n
       ∙ ap (drop n) split
       ∙ drop-at (bytesOf (bucketRecord F) (P .level1)) (bytesOf (bucketRecord F) (P .level2) ++ (E ++ endRecord)) n
-      (length-bytes (bucketRecord F) (bucketLength F) (P .level1) (every (λ b f. f .0) (P .level1) (all (P .level1) (two .0))))
+      (length-bytes (bucketRecord F) (bucketLength F) (P .level1) (every (λ b f. bucket-back F b f .0) (P .level1) (two .0)))
 
   -- the plane that was written is read
   pub written-read : planeFrom F (planeBytes F P) ≡ P
   unfolding planeBytes planeFrom
   written-read =
-      let level : ℕ → List ℕ → List PlaneBucket = readAll (bucketLength F) (bucketFrom F) in
-      let e1 : level (length (P .level1)) (B ++ (E ++ endRecord)) ≡ P .level1 =
-      ap (level (length (P .level1))) split ∙ read-back (bucketRecord F) (bucketLength F) (bucketFrom F) (P .level1) (bytesOf (bucketRecord F) (P .level2) ++ (E ++ endRecord)) (all (P .level1) (two .0)) in
-      let e2 : level (length (P .level2)) (drop (entriesAt F (length (P .level1))) (planeBytes F P)) ≡ P .level2 =
-      ap (level (length (P .level2))) at-second ∙ read-back (bucketRecord F) (bucketLength F) (bucketFrom F) (P .level2) (E ++ endRecord) (all (P .level2) (two .1)) in
-      let e3 : readAll entryLength entryFrom k (drop (entriesAt F m) (planeBytes F P)) ≡ P .base =
-      ap (readAll entryLength entryFrom k) at-entries ∙ read-back entryRecord entryLength entryFrom (P .base) endRecord (every entry-back (P .base) (h .entries)) in
-      λ i. record { level1 = e1 i; level2 = e2 i; base = e3 i }
+      let level : (bs : List PlaneBucket) (q : List ℕ) → Every (FitsBucket F) bs → readAll (bucketLength F) (bucketFrom F) (length bs) (bytesOf (bucketRecord F) bs ++ q) ≡ bs =
+      λ bs q f. read-back (bucketRecord F) (bucketLength F) (bucketFrom F) bs q (every (bucket-back F) bs f) in
+      rw (at-second, at-entries, split, level (P .level1) (bytesOf (bucketRecord F) (P .level2) ++ (E ++ endRecord)) (two .0), level (P .level2) (E ++ endRecord) (two .1))
+      (rw (read-back entryRecord entryLength entryFrom (P .base) endRecord (every entry-back (P .base) (h .entries))))

@@ -103,20 +103,17 @@ module _ (F : Format) where
 -- a base entry that is cut, one whose word w is too small, and one that fits
 pub entries-cut : (least left at : ℕ) (p : List ℕ) → 0 < left → whole entryKind entryBody p ≡ false → entriesWrong least left at p ≡ At at
 unfolding entriesWrong
-entries-cut least zero at p h e = absurd (omega arith)
-entries-cut least (suc k) at p h e = rw e
+entries-cut least left at p h e = scan-here entryRecords entryAllowed exceeding least left at p h (rw e)
 
 pub entries-low : (least left at w : ℕ) (p : List ℕ) → 0 < left → whole entryKind entryBody p ≡ true → w ≡ entryFrom p .word → w < least
     → entriesWrong least left at p ≡ At at
 unfolding entriesWrong
-entries-low least zero at w p h e i l = absurd (omega arith)
-entries-low least (suc k) at w p h e i l = rw (e, ← i, lt-leb least w l)
+entries-low least left at w p h e i l = scan-here entryRecords entryAllowed exceeding least left at p h (rw (e, ← i, lt-leb least w l))
 
 pub entries-step : (least left at w : ℕ) (p : List ℕ) → 0 < left → whole entryKind entryBody (drop at p) ≡ true → w ≡ entryFrom (drop at p) .word → least ≤ w
     → entriesWrong least left at (drop at p) ≡ entriesWrong (suc w) (left - 1) (at + entryLength) (drop (at + entryLength) p)
 unfolding entriesWrong
-entries-step least zero at w p h e i l = absurd (omega arith)
-entries-step least (suc k) at w p h e i l = rw (e, ← i, le-leb least w l, drop-drop entryLength at p, sub-one)
+entries-step least left at w p h e i l = rw i (scan-step entryRecords entryAllowed exceeding least left at p h (rw (e, ← i, le-leb least w l)))
 
 pub entries-room : (least k at : ℕ) (p : List ℕ) → entriesWrong least k at p ≡ Nowhere → k * entryLength ≤ length p
 unfolding entriesWrong
@@ -205,11 +202,10 @@ module _ (F : Format) (p : List ℕ) where
   pub parts : wrongAt F p ≡ Nowhere → Right
   unfolding wrongAt
   parts e =
-      let q : List ℕ = drop (endIn F p) p in
       let h = right (headerFits F p) (recordsWrong F (bucketCount p) (baseCount p) p) 0 e in
       let n1 = next (bucketsWrong F (bucketCount p) bucketsAt (drop bucketsAt p)) _ (h .1) in
       let n2 = next (entriesWrong 0 (baseCount p) (entriesIn F p) (drop (entriesIn F p) p)) _ (n1 .1) in
-      let f = end-parts (endIn F p) q (n2 .1) in
+      let f = end-parts (endIn F p) (drop (endIn F p) p) (n2 .1) in
       record {
         header = h .0;
         buckets = n1 .0;

@@ -45,14 +45,12 @@ add-t13 c = search needs
 returns-2 : tie.Need-returns-2
 returns-2 c =
     let a = c .before .before .before .before .before .before .args in
-    let e = sym (c .before .before .before .ascending2 .ensures) ∙ c .before .e .given .1 in
-    rw (short (suc (a .before)) (a .k) (a .first) (a .plane .now) (omega arith), e)
+    rw (short (suc (a .before)) (a .k) (a .first) (a .plane .now) (omega arith), sym (c .before .before .before .ascending2 .ensures) ∙ c .before .e .given .1)
 
 returns-3 : tie.Need-returns-3
 returns-3 c =
     let a = c .before .before .before .before .before .args in
-    let e = sym (c .before .before .ascending2 .ensures) ∙ c .enum-told .given .1 in
-    rw (short (suc (a .before)) (a .k) (a .first) (a .plane .now) (omega arith), e)
+    rw (short (suc (a .before)) (a .k) (a .first) (a .plane .now) (omega arith), sym (c .before .before .ascending2 .ensures) ∙ c .enum-told .given .1)
 
 pub entries-after-spec : {M : Type 1} → statement M
 entries-after-spec =

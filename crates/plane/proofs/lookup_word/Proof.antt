@@ -21,9 +21,7 @@ returns : tie.Need-returns
 returns c = rw (sym (c .before .before .before .wrong-at .ensures) ∙ c .before .wrong .given .1)
 
 returns-2 : tie.Need-returns-2
-returns-2 c =
-    let e = c .before in
-    rw (sym (e .before .before .wrong-at .ensures) ∙ e .enum-told .given .1, c .plan-in .ensures)
+returns-2 c = rw (sym (c .before .before .before .wrong-at .ensures) ∙ c .before .enum-told .given .1, c .plan-in .ensures)
 
 pub lookup-word-spec : {M : Type 1} → statement M
 lookup-word-spec =

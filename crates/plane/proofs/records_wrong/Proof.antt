@@ -64,14 +64,10 @@ end-wrong-requires c κs =
     )
 
 returns : tie.Need-returns
-returns c =
-    let e = sym (c .before .before .before .buckets-wrong .ensures) ∙ c .before .b .given .1 in
-    rw e
+returns c = rw (sym (c .before .before .before .buckets-wrong .ensures) ∙ c .before .b .given .1)
 
 returns-2 : tie.Need-returns-2
-returns-2 c =
-    let e = sym (c .before .before .before .entries-wrong .ensures) ∙ c .before .e .given .1 in
-    rw (right-buckets (c .before .before .before .before), e)
+returns-2 c = rw (right-buckets (c .before .before .before .before), sym (c .before .before .before .entries-wrong .ensures) ∙ c .before .e .given .1)
 
 returns-3 : tie.Need-returns-3
 returns-3 c = rw (right-buckets (c .before .before .before .before), right-entries (c .before)) (c .end-wrong .ensures)
