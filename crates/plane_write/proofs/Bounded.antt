@@ -16,6 +16,7 @@ use borrow.Author.Tests.{ltb-false}
 use Rattle.lists.specs.Entries.{Entry, update, remove, words}
 use Rattle.lists.proofs.Tests.{by-test}
 use Rattle.lists.proofs.Entries.{update-length}
+use Rattle.lists.proofs.Every.{every}
 use Rattle.lists.specs.Lists.{Every}
 use Rattle.gf2.specs.Vectors.{colStep, solStep}
 use Rattle.gf2.proofs.Inverse as Inverse
@@ -41,6 +42,11 @@ use Rattle.table.proofs.Numbers.{ShapedTable, back}
 use Rattle.table.proofs.History.{open-cases}
 use Rattle.plane_write.proofs.Shown.{Narrow, Sols}
 
+-- a thing again and again
+copies : {A : Type 0} (P : A → Type 0) (x : A) (k : ℕ) → P x → Every P (replicate k x)
+copies P x zero h = tt
+copies P x (suc k) h = (h, copies P x k h)
+
 module _ (n r : ℕ) where
   abbrev Below : ℕ → Type 0
   Below x = x < 2 ^ n
@@ -56,13 +62,9 @@ module _ (n r : ℕ) where
   stepped u d [] l h = tt
   stepped u d (s ∷ ss) l h = (flip-lt n (d % 2) u s l (h .0), stepped u (d / 2) ss l (h .1))
 
-  zeros : (k : ℕ) → Every Below (replicate k 0)
-  zeros zero = tt
-  zeros (suc k) = (pow-pos n, zeros k)
-
   empty : Bounded (B.emptyBucket n r)
   unfolding B.emptyBucket
-  empty = record { shape = empty-shaped n r; cols = Inverse.empty n .cols-lt; sols = zeros r }
+  empty = record { shape = empty-shaped n r; cols = Inverse.empty n .cols-lt; sols = copies Below 0 r (pow-pos n) }
 
   tried : (d : Bool) {a b : Bucket} → Bounded a → Bounded b → Bounded (B.tried d a b .bucket)
   tried true h k = h
@@ -121,10 +123,6 @@ module _ (n r : ℕ) where
   put [] i h k = tt
   put (x ∷ bs) zero h k = (k, h .1)
   put (x ∷ bs) (suc i) h k = (h .0, put bs i (h .1) k)
-
-  opened : (m : ℕ) → Every Bounded (replicate m (B.emptyBucket n r))
-  opened zero = tt
-  opened (suc m) = (empty, opened m)
 
   module _ (S : ℕ → ℕ) where
     arrived : (bs : List Bucket) (e : Entry) → Every Bounded bs → Every Bounded (C.arriveAt n r S bs e .buckets)
@@ -206,16 +204,13 @@ module _ (t : List ℕ) (h : BoundedNumbers t) where
       go (some q) = h
       go none = h
 
-  call-bounded : (c : Call Token) → Kept (call t c)
+  request-bounded : (q : Request) → Kept (request t q)
   unfolding call
-  call-bounded c = go (wordFor c)
+  request-bounded (ask c) = go (wordFor c)
     where
       go : (x : Read) → Kept (callRead t c x)
       go (Refused a) = h
       go (Word w) = by-test Kept (shaped t) (λ _. by-test Kept (sound t) (λ _. served-bounded w c) (λ _. h)) (λ _. h)
-
-  request-bounded : (q : Request) → Kept (request t q)
-  request-bounded (ask c) = call-bounded c
 
 all-bounded : (t : List ℕ) → BoundedNumbers t → (ps : List Put) → BoundedNumbers (after tables t ps)
 all-bounded t h [] = h
@@ -227,11 +222,10 @@ after-bounded t o =
     let k = open-cases (o .size .buckets1) (o .size .buckets2) (o .before) (ap (λ (x : Outcome). x .answer) (o .accepted)) in
     all-bounded t
     (subst BoundedNumbers (sym (k .1) ∙ ap (λ (x : Outcome). x .table) (o .accepted))
-    (numbers (C.openTable rows solutions (o .size .buckets1) (o .size .buckets2)) (record { level1 = opened rows solutions (o .size .buckets1); level2 = opened rows solutions (o .size .buckets2); fits = omega arith })))
+    (numbers (C.openTable rows solutions (o .size .buckets1) (o .size .buckets2)) (record { level1 = copies _ _ (o .size .buckets1) (empty rows solutions); level2 = copies _ _ (o .size .buckets2) (empty rows solutions); fits = omega arith })))
 
 pub level-sols : (bs : List Bucket) → Every (Bounded rows solutions) bs → Every Narrow bs
-level-sols [] h = tt
-level-sols (b ∷ bs) h = (h .0 .sols, level-sols bs (h .1))
+level-sols = every (λ b h. h .sols)
 
 pub after-sols : (t : List ℕ) → Opened t → (ps : List Put) → Sols (tableOf (after tables t ps))
 after-sols t o ps =

@@ -8,7 +8,10 @@ use native.Mathlib.Numerals.{add-one}
 use native.Mathlib.Omega.{arith}
 use lib.ListN.{length, getD, set, take, drop, length-append, length-drop}
 use lib.Seq.{getD-drop, take-suc, length-take-le}
+use Rattle.lists.specs.Entries.{Entry}
 use Rattle.lists.specs.Lists.{Every}
+use Rattle.lists.proofs.Every.{mem-every}
+use Rattle.lists.proofs.Parts.{stretch}
 use Rattle.codec.specs.Bytes.{toBytes}
 use Rattle.codec.specs.Parts.{written}
 use Rattle.codec.proofs.Part.{written-none, written-more, written-append, written-cons, written-three}
@@ -31,16 +34,10 @@ entry-put a w plan t l e =
 
 -- one more thing after xs
 module _ {A : Type 0} (f : A → List ℕ) (size : ℕ) where
-  bytes-one : (x : A) → bytesOf f (x ∷ []) ≡ f x
-  unfolding bytesOf
-  bytes-one x = append-nil (f x)
-
   pub put-next : (xs : List A) (x : A) (a : ℕ) (t : List ℕ) → Every (Sized f size) xs
       → written (a + length xs * size) (f x) (written a (bytesOf f xs) t) ≡ written a (bytesOf f (xs ++ (x ∷ []))) t
-  put-next xs x a t h =
-      ap (λ (n : ℕ). written (a + n) (f x) (written a (bytesOf f xs) t)) (sym (length-bytes f size xs h))
-      ∙ sym (written-append a (bytesOf f xs) (f x) t)
-      ∙ ap (λ (p : List ℕ). written a p t) (ap (λ (p : List ℕ). bytesOf f xs ++ p) (sym (bytes-one x)) ∙ sym (bytes-append f xs (x ∷ [])))
+  unfolding bytesOf
+  put-next xs x a t h = rw (bytes-append f xs (x ∷ []), append-nil (f x), ← length-bytes f size xs h) (sym (written-append a (bytesOf f xs) (f x) t))
 
   pub read-none : (step : ℕ) (read : List ℕ → A) (a : ℕ) (p t : List ℕ) → t ≡ written a (bytesOf f (readAll step read 0 p)) t
   unfolding bytesOf readAll
@@ -56,8 +53,7 @@ module _ {A : Type 0} (f : A → List ℕ) (size : ℕ) where
       ∙ ap (λ (l : List A). written a (bytesOf f l) t) (sym (read-add step read i 1 p))
 
 words-sized : (xs : List ℕ) → Every (Sized (toBytes wordBytes) wordBytes) xs
-words-sized [] = tt
-words-sized (x ∷ xs) = (length-toBytes wordBytes x, words-sized xs)
+words-sized xs = mem-every _ xs (λ x m. length-toBytes wordBytes x)
 
 -- the words before i are written
 pub words-next : (words : List ℕ) (i a : ℕ) (t : List ℕ) → i < length words
@@ -70,9 +66,7 @@ words-next words i a t h =
 
 -- a bucket in a part of just its numbers
 pub bucket-here : (n r k : ℕ) (xs : List ℕ) → bucketFrom n r (take (k + bucketWords n r - k) (drop k xs)) ≡ bucketFrom n r (drop k xs)
-bucket-here n r k xs =
-    let w : k + bucketWords n r - k ≡ bucketWords n r = omega arith in
-    rw w (from-part n r (drop k xs))
+bucket-here n r k xs = rw (stretch k (bucketWords n r) xs) (from-part n r (drop k xs))
 
 -- the length of the record of a bucket
 bucket-size : (n : ℕ) (F : Format) (xs : List ℕ) → bucketWords n (F .words) ≤ length xs → Sized (bucketRecord F) (bucketLength F) (seenFrom n (F .words) xs)
@@ -88,10 +82,8 @@ buckets-sized n F (suc i) xs h =
     let k : i * bucketWords n (F .words) + bucketWords n (F .words) ≤ length xs = rw (suc-mul i (bucketWords n (F .words))) at h in
     (bucket-size n F xs (omega arith), buckets-sized n F i (drop (bucketWords n (F .words)) xs) (rw length-drop (omega arith)))
 
-entries-sized : (i : ℕ) (xs : List ℕ) → Every (Sized entryRecord entryLength) (readAll 2 pairFrom i xs)
-unfolding readAll
-entries-sized zero xs = tt
-entries-sized (suc i) xs = (rw length-append (omega (arith, length-toBytes wordBytes (getD xs 0 0))), entries-sized i (drop 2 xs))
+entries-sized : (es : List Entry) → Every (Sized entryRecord entryLength) es
+entries-sized es = mem-every _ es (λ e m. rw length-append (omega (arith, length-toBytes wordBytes (e .word))))
 
 -- the next pair
 pub entries-next : (i a : ℕ) (p t : List ℕ)
@@ -100,7 +92,7 @@ pub entries-next : (i a : ℕ) (p t : List ℕ)
 entries-next i a p t =
     ap₂ (λ (w q : ℕ). written (a + i * entryLength) (entryRecord (record { word = w; plan = q })) (written a (bytesOf entryRecord (readAll 2 pairFrom i p)) t))
     (sym (getD-drop (i * 2) p 0 0 ∙ ap (λ (k : ℕ). getD p k 0) (add-zero (i * 2)))) (sym (getD-drop (i * 2) p 1 0))
-    ∙ read-next entryRecord entryLength 2 pairFrom i a p t (entries-sized i p)
+    ∙ read-next entryRecord entryLength 2 pairFrom i a p t (entries-sized (readAll 2 pairFrom i p))
 
 pub records-put : (n : ℕ) (F : Format) (m k : ℕ) (t out o1 o2 o3 : List ℕ) → bucketPlace n (F .words) m + k * 2 ≤ length t
     → o1 ≡ written bucketsAt (bytesOf (bucketRecord F) (readAll (bucketWords n (F .words)) (seenFrom n (F .words)) m (drop header t))) out
@@ -112,5 +104,5 @@ records-put n F m k t out o1 o2 o3 h e f g =
     g
     ∙ written-three bucketsAt (m * bucketLength F) (k * entryLength) (bytesOf (bucketRecord F) bs) (bytesOf entryRecord es) endRecord out o1 o2
     (length-bytes (bucketRecord F) (bucketLength F) bs (buckets-sized n F m (drop header t) (rw length-drop (omega arith))) ∙ ap (λ (i : ℕ). i * bucketLength F) (length-readAll (bucketWords n (F .words)) (seenFrom n (F .words)) m (drop header t)))
-    (length-bytes entryRecord entryLength es (entries-sized k (drop (bucketPlace n (F .words) m) t)) ∙ ap (λ (i : ℕ). i * entryLength) (length-readAll 2 pairFrom k (drop (bucketPlace n (F .words) m) t)))
+    (length-bytes entryRecord entryLength es (entries-sized es) ∙ ap (λ (i : ℕ). i * entryLength) (length-readAll 2 pairFrom k (drop (bucketPlace n (F .words) m) t)))
     e f

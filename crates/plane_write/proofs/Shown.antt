@@ -25,7 +25,7 @@ use Rattle.table.specs.Sound.{SoundTable}
 use Rattle.table.proofs.Numbers.{header-read}
 use Rattle.plane.specs.declared.Held.the-variants.{Plan, Passed}
 use Rattle.plane.specs.Record.{Format, wordBytes, PlaneBucket}
-use Rattle.plane.specs.Lookup.{bucketOf, holds, levelPlan, orElse, orStranger, secondPlan, planFrom}
+use Rattle.plane.specs.Lookup.{bucketOf, levelPlan, orElse, orStranger, secondPlan, planFrom}
 use Rattle.plane.specs.Fits.{Below, FitsBucket, FitsEntry, Fits}
 use Rattle.plane_write.specs.Write.{seenOf, planeOf, shownPlan}
 

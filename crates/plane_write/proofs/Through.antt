@@ -1,14 +1,14 @@
 -- The plane of a table as the writer goes through it: all buckets in one row, then the base pairs.
 -- Assumes nothing.
-use mathlib.Core.Path.{_≡_, refl, sym, ap, ap₂, _∙_}
-use mathlib.Core.List.{List, [], _++_, map}
+use mathlib.Core.Path.{_≡_, refl, sym, ap, _∙_}
+use mathlib.Core.List.{List, _++_, map}
 use Prim.Native.Nat.{ℕ, zero, suc, _+_, _*_, _≤_, _<_}
 use native.Mathlib.Nat.{zero-add}
 use native.Mathlib.Omega.{arith}
 use borrow.Author.Tests.{lt-ltb, le-ltb}
 use lib.ListN.{length, getD, drop, length-map}
 use lib.Seq.{drop-drop}
-use Rattle.lists.specs.Entries.{Entry}
+use Rattle.lists.specs.Lists.{Every}
 use Rattle.lists.proofs.Every.{every-at}
 use Rattle.answer.specs.declared.Answer.the-variants.{Accepted, ShortOutput}
 use Rattle.codec.specs.Parts.{written}
@@ -17,7 +17,7 @@ use Rattle.bucket.specs.Bucket.{largestBound}
 use Rattle.bucket_words.specs.Words.{bucketWords}
 use Rattle.table.specs.Layout.{buckets1At, buckets2At, baseCountAt, header, levelFrom, pairsFrom, bucketPlace, tableFrom}
 use Rattle.table.proofs.Numbers.{header-read}
-use Rattle.plane.specs.Record.{Format, readAll, PlaneBucket, headerRecord}
+use Rattle.plane.specs.Record.{Format, readAll, headerRecord}
 use Rattle.plane.specs.Plane.{planeBytes, bucketsAt}
 use Rattle.plane.specs.Fits.{FitsBucket, FitsEntry, Fits}
 use Rattle.plane_write.specs.Write.{seenOf, planeOf, inFront, putFront}
@@ -30,6 +30,11 @@ pairs-read : (k : ℕ) (xs : List ℕ) → pairsFrom k xs ≡ readAll 2 pairFrom
 unfolding readAll
 pairs-read zero xs = refl
 pairs-read (suc k) xs = rw (pairs-read k (drop 2 xs))
+
+-- what holds of all of m things holds of thing i
+each : {A : Type 0} (P : A → Type 0) (size : ℕ) (read : List ℕ → A) (m : ℕ) (xs : List ℕ) → Every P (readAll size read m xs) → (i : ℕ) → i < m → P (read (drop (i * size) xs))
+each P size read m xs h i l =
+    rw (getD-readAll size read m i xs (read xs) l) at (every-at P (read xs) (readAll size read m xs) h i (rw (length-readAll size read m xs) l))
 
 module _ (n : ℕ) (F : Format) where
   abbrev r : ℕ
@@ -54,9 +59,7 @@ module _ (n : ℕ) (F : Format) where
     unfolding tableFrom
     levels-read =
         let zero-place : bucketPlace n r 0 ≡ header = omega arith in
-        ap₂ (λ (x y : List PlaneBucket). x ++ y) (level-read b1 (drop (bucketPlace n r 0) xs) ∙ ap (λ (i : ℕ). readAll (bucketWords n r) (seenFrom n r) b1 (drop i xs)) zero-place)
-        (level-read b2 (drop (bucketPlace n r b1) xs) ∙ ap (readAll (bucketWords n r) (seenFrom n r) b2) (sym (drop-drop (b1 * bucketWords n r) header xs)))
-        ∙ sym (read-add (bucketWords n r) (seenFrom n r) b1 b2 (drop header xs))
+        rw (zero-place, level-read b1 (drop header xs), level-read b2 (drop (bucketPlace n r b1) xs), read-add (bucketWords n r) (seenFrom n r) b1 b2 (drop header xs), drop-drop (b1 * bucketWords n r) header xs)
 
     base-read : tableFrom n r xs .base ≡ readAll 2 pairFrom k (drop (bucketPlace n r (b1 + b2)) xs)
     unfolding tableFrom
@@ -70,18 +73,10 @@ module _ (n : ℕ) (F : Format) where
     module _ (h : Fits F (planeOf (tableFrom n r xs))) where
       -- each bound is a byte
       pub bounds-low : (i : ℕ) → i < b1 + b2 → seenFrom n r (drop (i * bucketWords n r) (drop header xs)) .bound ≤ largestBound
-      bounds-low i l =
-          let d : PlaneBucket = record { bound = 0; sols = [] } in
-          let bs : List PlaneBucket = readAll (bucketWords n r) (seenFrom n r) (b1 + b2) (drop header xs) in
-          let e : FitsBucket F (getD bs i d) = every-at (FitsBucket F) d bs (rw levels-read at (h .buckets)) i (rw (length-readAll (bucketWords n r) (seenFrom n r) (b1 + b2) (drop header xs)) l) in
-          rw (getD-readAll (bucketWords n r) (seenFrom n r) (b1 + b2) i (drop header xs) d l) at (e .low)
+      bounds-low i l = each (FitsBucket F) (bucketWords n r) (seenFrom n r) (b1 + b2) (drop header xs) (rw levels-read at (h .buckets)) i l .low
 
       pub plans-low : (i : ℕ) → i < k → pairFrom (drop (i * 2) (drop (bucketPlace n r (b1 + b2)) xs)) .plan < 256
-      plans-low i l =
-          let d : Entry = record { word = 0; plan = 0 } in
-          let es : List Entry = readAll 2 pairFrom k (drop (bucketPlace n r (b1 + b2)) xs) in
-          let e : FitsEntry (getD es i d) = every-at FitsEntry d es (rw base-read at (h .entries)) i (rw (length-readAll 2 pairFrom k (drop (bucketPlace n r (b1 + b2)) xs)) l) in
-          rw (getD-readAll 2 pairFrom k i (drop (bucketPlace n r (b1 + b2)) xs) d l) at (e .plan)
+      plans-low i l = each FitsEntry 2 pairFrom k (drop (bucketPlace n r (b1 + b2)) xs) (rw base-read at (h .entries)) i l .plan
 
 -- the header, then the records, in front of an output with room for them
 pub front-put : (n : ℕ) (F : Format) (xs out o : List ℕ) → length (planeBytes F (planeOf (tableFrom n (F .words) xs))) ≤ length out

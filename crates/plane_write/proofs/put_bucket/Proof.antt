@@ -4,9 +4,8 @@ use mathlib.Core.Path.{ap, _∙_}
 use native.Mathlib.Omega.{arith}
 use borrow.Author.Needs.{needs}
 use lib.ListN.{length, length-set, length-take, length-drop}
-use Rattle.codec.proofs.Part.{length-written}
+use Rattle.codec.proofs.Part.{length-written, written-two}
 use Rattle.bucket_words.specs.Words.{bucketFrom}
-use Rattle.codec.proofs.Part.{written-two}
 use Rattle.plane_write.proofs.put_bucket.Statement.{statement}
 use Rattle.plane_write.proofs.put_bucket.Tie as tie
 

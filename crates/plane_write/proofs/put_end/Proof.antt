@@ -3,9 +3,8 @@
 use mathlib.Core.Path.{ap, _∙_}
 use borrow.Author.Needs.{needs}
 use lib.ListN.{length, length-set}
-use Rattle.codec.proofs.Part.{length-written}
+use Rattle.codec.proofs.Part.{length-written, written-cons}
 use Rattle.plane.specs.Record.{endKind, endBytes}
-use Rattle.codec.proofs.Part.{written-cons}
 use Rattle.plane_write.proofs.put_end.Statement.{statement}
 use Rattle.plane_write.proofs.put_end.Tie as tie
 
