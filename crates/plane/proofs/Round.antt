@@ -171,18 +171,16 @@ module _ (F : Format) (P : Plane) (h : Fits F P) where
   two = every-split (FitsBucket F) (P .level1) (P .level2) (h .buckets)
 
   split : B ++ (E ++ endRecord) ≡ bytesOf (bucketRecord F) (P .level1) ++ (bytesOf (bucketRecord F) (P .level2) ++ (E ++ endRecord))
-  split =
-      ap (λ (b : List ℕ). b ++ (E ++ endRecord)) (bytes-append (bucketRecord F) (P .level1) (P .level2))
-      ∙ append-assoc (bytesOf (bucketRecord F) (P .level1)) (bytesOf (bucketRecord F) (P .level2)) (E ++ endRecord)
+  split = rw (bytes-append (bucketRecord F) (P .level1) (P .level2), append-assoc)
 
   at-second : drop (entriesAt F (length (P .level1))) (planeBytes F P) ≡ bytesOf (bucketRecord F) (P .level2) ++ (E ++ endRecord)
   unfolding planeBytes
   at-second =
       let n : ℕ = length (P .level1) * bucketLength F in
       drop-append-add (headerRecord F (length (P .level1)) (length (P .level2)) k) (B ++ (E ++ endRecord)) n
-      ∙ ap (drop n) split
-      ∙ drop-at (bytesOf (bucketRecord F) (P .level1)) (bytesOf (bucketRecord F) (P .level2) ++ (E ++ endRecord)) n
-      (length-bytes (bucketRecord F) (bucketLength F) (P .level1) (every (λ b f. bucket-back F b f .0) (P .level1) (two .0)))
+      ∙ rw split
+      (drop-at (bytesOf (bucketRecord F) (P .level1)) (bytesOf (bucketRecord F) (P .level2) ++ (E ++ endRecord)) n
+      (length-bytes (bucketRecord F) (bucketLength F) (P .level1) (every (λ b f. bucket-back F b f .0) (P .level1) (two .0))))
 
   -- the plane that was written is read
   pub written-read : planeFrom F (planeBytes F P) ≡ P

@@ -46,11 +46,10 @@ returns : tie.Need-returns Inv-loop μ-loop
 returns c =
     let b = c .before .before .before .before .before .before in
     let a = b .before .before .args in
-    let p = a .p .now in
-    let same = entry-part (b .loop .at) p in
+    let same = entry-part (b .loop .at) (a .p .now) in
     let word = c .before .before .before .entry-word .ensures ∙ ap (λ (e : Entry). e .word) same in
     let plan = c .wide .ensures ∙ ap (λ (e : Entry). e .plan) same in
-    plan ∙ sym (ap orStranger (b .loop .inv .1 ∙ find-here (a .v) (b .loop .left) (c .before .before .before .entry-word .result) (drop (b .loop .at) p) (omega arith) word (c .before .before .if1 .taken)))
+    plan ∙ sym (ap orStranger (b .loop .inv .1 ∙ find-here (a .v) (b .loop .left) (c .before .before .before .entry-word .result) (drop (b .loop .at) (a .p .now)) (omega arith) word (c .before .before .if1 .taken)))
 
 sub-left : tie.Need-sub-left Inv-loop μ-loop
 sub-left c = search needs
