@@ -1,6 +1,6 @@
 -- What the writer's steps ask for: bytes written one after the other.
 -- Assumes nothing.
-use mathlib.Core.Path.{_≡_, sym, ap, ap₂, _∙_}
+use mathlib.Core.Path.{_≡_, sym, ap, _∙_}
 use mathlib.Core.List.{List, [], _∷_, _++_, append-nil}
 use Prim.Native.Nat.{ℕ, zero, suc, _+_, _-_, _*_, _≤_, _<_}
 use native.Mathlib.Nat.{suc-mul, add-zero}
@@ -48,9 +48,7 @@ module _ {A : Type 0} (f : A → List ℕ) (size : ℕ) where
       → written (a + i * size) (f (read (drop (i * step) p))) (written a (bytesOf f (readAll step read i p)) t) ≡ written a (bytesOf f (readAll step read (i + 1) p)) t
   unfolding readAll
   read-next step read i a p t h =
-      ap (λ (k : ℕ). written (a + k * size) (f (read (drop (i * step) p))) (written a (bytesOf f (readAll step read i p)) t)) (sym (length-readAll step read i p))
-      ∙ put-next (readAll step read i p) (read (drop (i * step) p)) a t h
-      ∙ ap (λ (l : List A). written a (bytesOf f l) t) (sym (read-add step read i 1 p))
+      rw (read-add step read i 1 p) (rw (length-readAll step read i p) at (put-next (readAll step read i p) (read (drop (i * step) p)) a t h))
 
 words-sized : (xs : List ℕ) → Every (Sized (toBytes wordBytes) wordBytes) xs
 words-sized xs = mem-every _ xs (λ x m. length-toBytes wordBytes x)
@@ -60,9 +58,8 @@ pub words-next : (words : List ℕ) (i a : ℕ) (t : List ℕ) → i < length wo
     → written (a + i * wordBytes) (toBytes wordBytes (getD words i 0)) (written a (bytesOf (toBytes wordBytes) (take i words)) t)
     ≡ written a (bytesOf (toBytes wordBytes) (take (i + 1) words)) t
 words-next words i a t h =
-    ap (λ (k : ℕ). written (a + k * wordBytes) (toBytes wordBytes (getD words i 0)) (written a (bytesOf (toBytes wordBytes) (take i words)) t)) (sym (length-take-le i words (omega arith)))
-    ∙ put-next (toBytes wordBytes) wordBytes (take i words) (getD words i 0) a t (words-sized (take i words))
-    ∙ ap (λ (l : List ℕ). written a (bytesOf (toBytes wordBytes) l) t) (sym (rw add-one (take-suc words i 0 h)))
+    rw (add-one, take-suc words i 0 h)
+    (rw (length-take-le i words (omega arith)) at (put-next (toBytes wordBytes) wordBytes (take i words) (getD words i 0) a t (words-sized (take i words))))
 
 -- a bucket in a part of just its numbers
 pub bucket-here : (n r k : ℕ) (xs : List ℕ) → bucketFrom n r (take (k + bucketWords n r - k) (drop k xs)) ≡ bucketFrom n r (drop k xs)
@@ -90,9 +87,7 @@ pub entries-next : (i a : ℕ) (p t : List ℕ)
     → written (a + i * entryLength) (entryRecord (record { word = getD p (i * 2) 0; plan = getD p (i * 2 + 1) 0 })) (written a (bytesOf entryRecord (readAll 2 pairFrom i p)) t)
     ≡ written a (bytesOf entryRecord (readAll 2 pairFrom (i + 1) p)) t
 entries-next i a p t =
-    ap₂ (λ (w q : ℕ). written (a + i * entryLength) (entryRecord (record { word = w; plan = q })) (written a (bytesOf entryRecord (readAll 2 pairFrom i p)) t))
-    (sym (getD-drop (i * 2) p 0 0 ∙ ap (λ (k : ℕ). getD p k 0) (add-zero (i * 2)))) (sym (getD-drop (i * 2) p 1 0))
-    ∙ read-next entryRecord entryLength 2 pairFrom i a p t (entries-sized (readAll 2 pairFrom i p))
+    rw (getD-drop (i * 2) p 0 0, getD-drop (i * 2) p 1 0, add-zero) at (read-next entryRecord entryLength 2 pairFrom i a p t (entries-sized (readAll 2 pairFrom i p)))
 
 pub records-put : (n : ℕ) (F : Format) (m k : ℕ) (t out o1 o2 o3 : List ℕ) → bucketPlace n (F .words) m + k * 2 ≤ length t
     → o1 ≡ written bucketsAt (bytesOf (bucketRecord F) (readAll (bucketWords n (F .words)) (seenFrom n (F .words)) m (drop header t))) out

@@ -1,8 +1,7 @@
 -- `plane_write::put_words` meets its contract. The words before i are written.
 -- Assumes nothing.
 use mathlib.Core.Path.{_≡_, sym, ap, _∙_}
-use mathlib.Core.List.{List}
-use Prim.Native.Nat.{ℕ, _-_, _≤_}
+use Prim.Native.Nat.{_-_, _≤_}
 use native.Mathlib.Omega.{arith}
 use borrow.Author.Needs.{needs}
 use lib.ListN.{length, take}
@@ -59,8 +58,7 @@ same-length c = ap length (c .before .loop .inv .1) ∙ length-written _ _ _
 returns : tie.Need-returns Inv-loop μ-loop
 returns c =
     let b = c .before in
-    let a = b .before .before .before .args in
-    b .loop .inv .1 ∙ ap (λ (l : List ℕ). written (a .at) (bytesOf (toBytes wordBytes) l) (a .out .now)) (take-all (b .loop .i) (a .words .now) (omega arith))
+    rw (take-all (b .loop .i) (b .before .before .before .args .words .now) (omega arith)) at (b .loop .inv .1)
 
 pub put-words-spec : {M : Type 1} → statement M
 put-words-spec =
