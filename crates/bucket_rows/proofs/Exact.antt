@@ -1,8 +1,8 @@
 -- `soundRows` is exact both ways, at every width: the rows of a matrix that fits, or none does.
 -- Assumes nothing.
 use mathlib.Core.Path.{_≡_, refl, sym, ap, ap₂, _∙_, subst}
-use mathlib.Core.Logic.{inl, inr}
-use mathlib.Core.Bool.{Bool, true, false}
+use mathlib.Core.Logic.{inl, inr, ⊎-elim}
+use mathlib.Core.Bool.{Bool, true, false, true≢false}
 use mathlib.Core.List.{List}
 use Prim.Native.Nat.{ℕ, _^_, _≤_, _<_}
 use native.Mathlib.Decide.{ℕ-discrete, decLt}
@@ -17,7 +17,7 @@ use Rattle.gf2.proofs.Inverse.{unique, empty, length-units, getD-units}
 use Rattle.bucket_rows.specs.declared.Rows.{Rows}
 use Rattle.bucket_rows.specs.Exact.{FreeRows, Rowed, FoundFree}
 use Rattle.bucket_rows.specs.Elimination.{placed, answer, eliminated, freeCols, onlyIf, soundRows}
-use Rattle.bucket_rows.proofs.Found.{Found, not-both, decides}
+use Rattle.bucket_rows.proofs.Found.{Found, decides}
 use Rattle.bucket_rows.proofs.Free.{FreeBits, cols→bits, bits→cols}
 
 -- ---- the bits of the columns, and the rows
@@ -57,33 +57,25 @@ decides-free n mark cs hl hc = go (freeCols 0 mark cs) refl (decides n cs hl hc)
     go : (b : Bool) → freeCols 0 mark cs ≡ b → Found n cs (eliminated n cs) → FoundFree n mark cs (onlyIf b (eliminated n cs) cs)
     go true e (inl t) = inl (t .0, record { inverse = t .1; free = bits→rows n mark cs (eliminated n cs .rows) (t .1) (cols→bits n mark cs hl e) })
     go true e (inr t) = inr (t .0, λ K r. t .1 K (r .inverse))
-    go false e f = inr (refl, λ K r. not-both (sym (bits→cols n mark cs hl (rows→bits n mark cs K (r .inverse) (r .free))) ∙ e))
+    go false e f = inr (refl, λ K r. true≢false (sym (bits→cols n mark cs hl (rows→bits n mark cs K (r .inverse) (r .free))) ∙ e))
 
 -- a matrix that fits is the answer
 pub found-is : (n mark : ℕ) (cs K : List ℕ) → Rowed n mark cs K → soundRows n mark cs ≡ record { ok = true; rows = K }
-found-is n mark cs K w = go (decides-free n mark cs (w .inverse .cols) (w .inverse .cols-lt))
-  where
-    made : Bool → List ℕ → Rows
-    made o l = record { ok = o; rows = l }
-
-    go : FoundFree n mark cs (soundRows n mark cs) → soundRows n mark cs ≡ record { ok = true; rows = K }
-    go (inl t) = ap₂ made (t .0) (unique n (soundRows n mark cs .rows) K cs (t .1 .inverse) (w .inverse))
-    go (inr t) = absurd (t .1 K w)
+found-is n mark cs K w =
+    ⊎-elim (λ t. λ i. record { ok = t .0 i; rows = unique n (soundRows n mark cs .rows) K cs (t .1 .inverse) (w .inverse) i })
+    (λ t. absurd (t .1 K w)) (decides-free n mark cs (w .inverse .cols) (w .inverse .cols-lt))
 
 -- where none fits, the columns stand in the place of the rows
 pub none-is : (n mark : ℕ) (cs : List ℕ) → length cs ≡ n → ((i : ℕ) → getD cs i 0 < 2 ^ n) → ((K : List ℕ) → Rowed n mark cs K → ⊥)
     → soundRows n mark cs ≡ record { ok = false; rows = cs }
 unfolding soundRows eliminated
-none-is n mark cs hl hc f = go (decides-free n mark cs hl hc)
+none-is n mark cs hl hc f =
+    ⊎-elim (λ t. absurd (f (soundRows n mark cs .rows) (t .1))) (λ t. settled (freeCols 0 mark cs) (placed n cs n) _ (t .0)) (decides-free n mark cs hl hc)
   where
     settled : (b c : Bool) (ks : List ℕ) → onlyIf b (answer c ks cs) cs .ok ≡ false → onlyIf b (answer c ks cs) cs ≡ record { ok = false; rows = cs }
-    settled true true ks e = absurd (not-both e)
+    settled true true ks e = absurd (true≢false e)
     settled true false ks e = refl
     settled false c ks e = refl
-
-    go : FoundFree n mark cs (soundRows n mark cs) → soundRows n mark cs ≡ record { ok = false; rows = cs }
-    go (inl t) = absurd (f (soundRows n mark cs .rows) (t .1))
-    go (inr t) = settled (freeCols 0 mark cs) (placed n cs n) _ (t .0)
 
 -- ---- the code's ways to the answer
 

@@ -61,9 +61,6 @@ chosen-all m (r ∷ rs) e = go (m % 2) e (chosen-all (m / 2) rs)
     go zero e ih = absurd (omega (arith, chosen-le (m / 2) rs))
     go (suc d) e ih = ap (λ (l : List ℕ). r ∷ l) (ih (omega arith))
 
-pub not-both : true ≡ false → ⊥
-not-both e = let z : _≡_ {A = ℕ} 0 1 = cc in omega arith
-
 -- ---- what holds after j columns
 
 -- column k stands in a row
@@ -85,9 +82,6 @@ record Good (n : ℕ) (cs : List ℕ) (j : ℕ) (s : Work) : Type 0 where
   perm : List·Permᴰ (chosen (s .mark) rows) (take j cs)
 
 module _ (n : ℕ) (cs : List ℕ) (hl : length cs ≡ n) (hc : (i : ℕ) → getD cs i 0 < 2 ^ n) where
-  in-cols : (j : ℕ) → j < n → j < length cs
-  in-cols j h = subst (λ (l : ℕ). j < l) (sym hl) h
-
   start : Good n cs 0 (after n cs 0)
   unfolding after
   start = record {
@@ -139,21 +133,15 @@ module _ (n : ℕ) (cs : List ℕ) (hl : length cs ≡ n) (hc : (i : ℕ) → ge
         subst (λ (d : List ℕ). Inverse n (set (g .rows) p m) d) duals-is
         (replace-row n (g .rows) (s .duals) p m (g .inverse) hp (hc j) (ap (bit p) (sym x-is) ∙ x-bit))
 
-    in-prods : (k : ℕ) → k < n → k < length (s .prods)
-    in-prods k h = subst (λ (l : ℕ). k < l) (sym (g .prods-length)) h
-
     todo-after : (k : ℕ) → suc j ≤ k → k < n → getD (clearFrom j p w (s .prods)) k 0 ≡ product (solStep u w (s .duals)) (getD cs k 0)
     todo-after k h l =
         let c : ℕ = getD cs k 0 in
-        clearFrom-at j p w (s .prods) k (omega arith) (in-prods k l)
+        clearFrom-at j p w (s .prods) k (omega arith) (omega (arith, g .prods-length))
         ∙ flip-on (bit p (getD (s .prods) k 0)) w (getD (s .prods) k 0)
         ∙ ap (λ (y : ℕ). bitXor y (on (bit p y) w)) (g .todo k (omega arith) l)
         ∙ ap₂ (λ (d y : ℕ). bitXor (product (s .duals) c) (on d y)) (product-bit (s .duals) c p) (sym w-is)
         ∙ sym (product-colStep u v (s .duals) c)
         ∙ ap (λ (d : List ℕ). product d c) duals-is
-
-    in-rows : p < length (g .rows)
-    in-rows = subst (λ (l : ℕ). p < l) (sym (g .inverse .rows)) hp
 
     other : (a : ℕ) → bit a (s .mark) ≡ 1 → a ≡ p → ⊥
     other a h e = let z : bit p (s .mark) ≡ 1 = subst (λ (a : ℕ). bit a (s .mark) ≡ 1) e h in omega (arith, free)
@@ -165,8 +153,8 @@ module _ (n : ℕ) (cs : List ℕ) (hl : length cs ≡ n) (hc : (i : ℕ) → ge
     here = record {
       row = p;
       row-lt = hp;
-      prod = clearFrom-at j p w (s .prods) j (le-refl j) (in-prods j hj) ∙ ap (λ (d : ℕ). flipIf d w x) x-bit ∙ xor-cancel x (2 ^ p);
-      at = getD-set-same (g .rows) p m 0 in-rows;
+      prod = clearFrom-at j p w (s .prods) j (le-refl j) (omega (arith, g .prods-length)) ∙ ap (λ (d : ℕ). flipIf d w x) x-bit ∙ xor-cancel x (2 ^ p);
+      at = getD-set-same (g .rows) p m 0 (omega (arith, g .inverse .rows));
       taken = bit-or p (s .mark) (2 ^ p) ∙ omega (arith, bit-pow-same p, bit-lt p (s .mark));
     }
 
@@ -184,8 +172,8 @@ module _ (n : ℕ) (cs : List ℕ) (hl : length cs ≡ n) (hc : (i : ℕ) → ge
 
     perm-after : List·Permᴰ (chosen (bitOr (s .mark) (2 ^ p)) (set (g .rows) p m)) (take (suc j) cs)
     perm-after =
-        subst (λ (l : List ℕ). List·Permᴰ (chosen (bitOr (s .mark) (2 ^ p)) (set (g .rows) p m)) l) (sym (take-suc cs j 0 (in-cols j hj)))
-        (List·Permᴰ·trans (chosen-add (g .rows) p (s .mark) m in-rows free)
+        subst (λ (l : List ℕ). List·Permᴰ (chosen (bitOr (s .mark) (2 ^ p)) (set (g .rows) p m)) l) (sym (take-suc cs j 0 (omega (arith, hl))))
+        (List·Permᴰ·trans (chosen-add (g .rows) p (s .mark) m (omega (arith, g .inverse .rows)) free)
         (List·Permᴰ·trans (List·Permᴰ·cons refl (g .perm)) (List·Permᴰ·append-comm (m ∷ []) (take j cs))))
 
     step : Good n cs (suc j) (stepAt j p s)
@@ -228,7 +216,7 @@ module _ (n : ℕ) (cs : List ℕ) (hl : length cs ≡ n) (hc : (i : ℕ) → ge
       apart : T (indep (c ∷ before))
       apart =
           subst T (sym (indep-permᴰ (List·Permᴰ·append-comm (c ∷ []) before)))
-          (subst (λ (l : List ℕ). T (indep l)) (take-suc cs j 0 (in-cols j hj)) (indep-subᴰ (take-sub (suc j) cs) (columns-indep n K cs inv)))
+          (subst (λ (l : List ℕ). T (indep l)) (take-suc cs j 0 (omega (arith, hl))) (indep-subᴰ (take-sub (suc j) cs) (columns-indep n K cs inv)))
 
   finish : (s : Work) → Good n cs n s → Inverse n (ordered n (s .duals) (s .prods)) cs
   finish s g = subst (λ (l : List ℕ). Inverse n l cs) same (k .1)
@@ -282,11 +270,8 @@ module _ (n : ℕ) (cs : List ℕ) (hl : length cs ≡ n) (hc : (i : ℕ) → ge
   -- THE MEANING of `eliminated`: the rows are found exactly where there are any
   pub decides : Found n cs (eliminated n cs)
   unfolding eliminated
-  decides = go (placed n cs n) (run n (le-refl n))
+  decides = go (run n (le-refl n))
     where
-      go : (b : Bool) → ((b ≡ true) × Good n cs n (after n cs n)) ⊎ ((b ≡ false) × ((K : List ℕ) → Inverse n K cs → ⊥))
-          → Found n cs (answer b (ordered n (after n cs n .duals) (after n cs n .prods)) cs)
-      go true (inl t) = inl (refl, finish (after n cs n) (t .1))
-      go true (inr t) = let z : true ≡ false = t .0 in absurd (not-both z)
-      go false (inl t) = absurd (not-both (sym (t .0)))
-      go false (inr t) = inr (refl, t .1)
+      go : Run n → Found n cs (answer (placed n cs n) (ordered n (after n cs n .duals) (after n cs n .prods)) cs)
+      go (inl t) = rw (t .0) (inl (refl, finish (after n cs n) (t .1)))
+      go (inr t) = rw (t .0) (inr (refl, t .1))

@@ -1,7 +1,7 @@
 -- The test of the columns, bit by bit: outside the mark each column has its own bit alone.
 -- Assumes nothing.
-use mathlib.Core.Path.{_≡_, refl, sym, ap, ap₂, _∙_, subst}
-use mathlib.Core.Bool.{Bool, true, false, _&&_}
+use mathlib.Core.Path.{_≡_, refl, sym, ap, _∙_, subst}
+use mathlib.Core.Bool.{true, false}
 use mathlib.Core.List.{List, [], _∷_}
 use Prim.Native.Nat.{ℕ, zero, suc, _+_, _-_, _^_, _≤_, _<_}
 use native.Mathlib.Nat.{not-suc-le-zero, le-of-suc-le-suc, zero-lt-suc}
@@ -12,7 +12,7 @@ use borrow.Author.Tests.{eq-eqb, ne-eqb, eqb-true}
 use lib.Dec.{eqb}
 use lib.ListN.{length, getD, drop, drop-of-length-le}
 use lib.Seq.{drop-cons}
-use Rattle.lists.proofs.Tests.{true→T, T→true, and-l, and-r}
+use Rattle.lists.proofs.Tests.{and-one, and-two, and-both}
 use Rattle.gf2.specs.Vectors.{bit, outside}
 use Rattle.gf2.proofs.Bit.{bit-lt, bit-ext}
 use Rattle.gf2.proofs.Lowest.{bit-outside}
@@ -36,24 +36,21 @@ bit→outside x y m f = bit-ext (outside x m) (outside y m) (λ a. bit-outside a
     go a (yes z) = ap (λ (b : ℕ). b - bit a m) (f a z)
     go a (no ne) = omega (arith, bit-lt a m, bit-lt a x, bit-lt a y)
 
-both : (a b : Bool) → (a && b) ≡ true → (a ≡ true) × (b ≡ true)
-both a b e = (T→true a (and-l a b (true→T e)), T→true b (and-r a b (true→T e)))
-
 free-at : (i mark : ℕ) (cs : List ℕ) (a : ℕ) → a < length cs → freeCols i mark cs ≡ true → outside (getD cs a 0) mark ≡ outside (2 ^ (i + a)) mark
 free-at i mark [] a h e = absurd (not-suc-le-zero h)
 free-at i mark (c ∷ cs) zero h e =
     let z : i + 0 ≡ i = omega arith in
-    rw z (eqb-true _ _ (both (eqb (outside c mark) (outside (2 ^ i) mark)) (freeCols (suc i) mark cs) e .0))
+    rw z (eqb-true _ _ (and-one _ (freeCols (suc i) mark cs) e))
 free-at i mark (c ∷ cs) (suc a) h e =
     let z : i + suc a ≡ suc i + a = omega arith in
-    rw z (free-at (suc i) mark cs a (le-of-suc-le-suc h) (both (eqb (outside c mark) (outside (2 ^ i) mark)) (freeCols (suc i) mark cs) e .1))
+    rw z (free-at (suc i) mark cs a (le-of-suc-le-suc h) (and-two (eqb (outside c mark) (outside (2 ^ i) mark)) _ e))
 
 free-all : (i mark : ℕ) (cs : List ℕ) → ((a : ℕ) → a < length cs → outside (getD cs a 0) mark ≡ outside (2 ^ (i + a)) mark) → freeCols i mark cs ≡ true
 free-all i mark [] f = refl
 free-all i mark (c ∷ cs) f =
     let z : i + 0 ≡ i = omega arith in
     let e : outside c mark ≡ outside (2 ^ i) mark = rw z at (f 0 (zero-lt-suc (length cs))) in
-    ap₂ (λ (a b : Bool). a && b) (eq-eqb (outside c mark) (outside (2 ^ i) mark) e)
+    and-both (eq-eqb (outside c mark) (outside (2 ^ i) mark) e)
     (free-all (suc i) mark cs (λ a h. let y : suc i + a ≡ i + suc a = omega arith in rw y (f (suc a) (omega arith))))
 
 module _ (n mark : ℕ) (cs : List ℕ) (hl : length cs ≡ n) where

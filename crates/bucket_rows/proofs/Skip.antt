@@ -55,9 +55,6 @@ module _ (n occ j p : ℕ) (s : Work) (hl : length (s .prods) ≡ n) (fb : FreeB
   inside : (bit j occ ≡ 0 → ⊥) → bit p occ ≡ 0 → ⊥
   inside f z = omega (arith, x-bit, fb p z j hj, bit-pow-other p j (apart f z))
 
-  in-prods : (k : ℕ) → k < n → k < length (s .prods)
-  in-prods k h = subst (λ (l : ℕ). k < l) (sym hl) h
-
   -- column j of a free row: only its own product changes
   skip : bit j occ ≡ 0 → clearFrom j p w (s .prods) ≡ set (s .prods) j (2 ^ p)
   skip z =
@@ -67,13 +64,13 @@ module _ (n occ j p : ℕ) (s : Work) (hl : length (s .prods) ≡ n) (fb : FreeB
       at : (k : ℕ) → k < n → Dec (k ≡ j) → Dec (k < j) → getD (clearFrom j p w (s .prods)) k 0 ≡ getD (set (s .prods) j (2 ^ p)) k 0
       at k h (yes e) d =
           subst (λ (k : ℕ). getD (clearFrom j p w (s .prods)) k 0 ≡ getD (set (s .prods) j (2 ^ p)) k 0) (sym e)
-          (clearFrom-at j p w (s .prods) j (le-refl j) (in-prods j hj) ∙ ap (λ (d : ℕ). flipIf d w x) x-bit ∙ xor-cancel x (2 ^ p)
-          ∙ sym (getD-set-same (s .prods) j (2 ^ p) 0 (in-prods j hj)))
+          (clearFrom-at j p w (s .prods) j (le-refl j) (omega (arith, hl)) ∙ ap (λ (d : ℕ). flipIf d w x) x-bit ∙ xor-cancel x (2 ^ p)
+          ∙ sym (getD-set-same (s .prods) j (2 ^ p) 0 (omega (arith, hl))))
       at k h (no ne) (yes l) = clearFrom-before j p w (s .prods) k l ∙ sym (getD-set-other (s .prods) j k (2 ^ p) 0 ne)
       at k h (no ne) (no l) =
           let b : bit p (getD (s .prods) k 0) ≡ 0 =
           ap (λ (y : ℕ). bit y (getD (s .prods) k 0)) (own z) ∙ fb j z k h ∙ bit-pow-other j k (λ e. ne (sym e)) in
-          clearFrom-at j p w (s .prods) k (omega arith) (in-prods k h) ∙ ap (λ (d : ℕ). flipIf d w (getD (s .prods) k 0)) b
+          clearFrom-at j p w (s .prods) k (omega arith) (omega (arith, hl)) ∙ ap (λ (d : ℕ). flipIf d w (getD (s .prods) k 0)) b
           ∙ sym (getD-set-other (s .prods) j k (2 ^ p) 0 ne)
 
   -- so the pass that the code makes is the one that the definition asks
@@ -95,11 +92,11 @@ module _ (n occ j p : ℕ) (s : Work) (hl : length (s .prods) ≡ n) (fb : FreeB
       go : Dec (bit j occ ≡ 0) → Dec (k ≡ j) → Dec (k < j) → bit a (getD (clearFrom j p w (s .prods)) k 0) ≡ bit a (2 ^ k)
       go (yes o) (yes e) d =
           ap (λ (l : List ℕ). bit a (getD l k 0)) (skip o) ∙ ap (λ (k : ℕ). bit a (getD (set (s .prods) j (2 ^ p)) k 0)) e
-          ∙ ap (bit a) (getD-set-same (s .prods) j (2 ^ p) 0 (in-prods j hj)) ∙ ap (λ (y : ℕ). bit a (2 ^ y)) (own o ∙ sym e)
+          ∙ ap (bit a) (getD-set-same (s .prods) j (2 ^ p) 0 (omega (arith, hl))) ∙ ap (λ (y : ℕ). bit a (2 ^ y)) (own o ∙ sym e)
       go (yes o) (no ne) d = ap (λ (l : List ℕ). bit a (getD l k 0)) (skip o) ∙ ap (bit a) (getD-set-other (s .prods) j k (2 ^ p) 0 ne) ∙ fb a z k h
       go (no f) e (yes l) = ap (bit a) (clearFrom-before j p w (s .prods) k l) ∙ fb a z k h
       go (no f) e (no l) =
-          ap (bit a) (clearFrom-at j p w (s .prods) k (omega arith) (in-prods k h) ∙ flip-on (bit p (getD (s .prods) k 0)) w (getD (s .prods) k 0))
+          ap (bit a) (clearFrom-at j p w (s .prods) k (omega arith) (omega (arith, hl)) ∙ flip-on (bit p (getD (s .prods) k 0)) w (getD (s .prods) k 0))
           ∙ bit-xor a (getD (s .prods) k 0) (on (bit p (getD (s .prods) k 0)) w)
           ∙ ap (differ (bit a (getD (s .prods) k 0))) (on-none a (bit p (getD (s .prods) k 0)) w (w-none f a z))
           ∙ differ-zero (bit a (getD (s .prods) k 0)) ∙ fb a z k h
