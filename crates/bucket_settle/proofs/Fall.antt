@@ -1,19 +1,19 @@
 -- An add to one bucket: where the bound comes to stand, what the bucket then holds, and what leaves. At every width.
 -- Assumes nothing.
-use Prim.Native.Nat.{ℕ, zero, suc, _+_, _^_, _<_, zero-le}
+use Prim.Native.Nat.{ℕ, zero, suc, _^_, _<_, zero-le}
 use native.Mathlib.Omega.{arith}
-use mathlib.Core.Path.{_≡_, refl, sym, ap, ap₂, _∙_, subst, subst⁻¹, subst₂}
+use mathlib.Core.Path.{_≡_, refl, sym, ap, _∙_, subst, subst⁻¹, subst₂}
 use mathlib.Core.Bool.{Bool, true, false, not, _&&_}
-use mathlib.Core.Option.{Option, none, some}
+use mathlib.Core.Option.{none, some}
 use mathlib.Core.List.{List, [], _∷_, _++_, map, map-map, List·Permᴰ, List·Permᴰ·trans, Permᴰ·refl, Permᴰ·symm, Permᴰ·append-right, Permᴰ·append-left, List·Memᴰ, List·Memᴰ·head, Memᴰ·of-map, Memᴰ·map, Memᴰ·cast}
 use lib.Arith.{lt-of-le-ne}
 use lib.Dec.{eqb, ltb}
 use borrow.Author.Tests.{eqb-true, eqb-false, eq-eqb, ne-eqb, ltb-true, ltb-false, lt-ltb, le-ltb}
 use Rattle.lists.specs.Lists.{keep, countFrom}
 use Rattle.lists.specs.Entries.{Entry, words, find, remove, Ascending}
-use Rattle.lists.proofs.Tests.{cases, by-test, cond-true, cond-false}
+use Rattle.lists.proofs.Tests.{cases, by-test, cond-true, cond-false, T→true, and-both, and-false}
 use Rattle.lists.proofs.Keep.{keep-perm, keep-keep, keep-map, keep-in, keep-out, keep-ext, keep-part, shuffle, count-le, count-lt, count-in}
-use Rattle.lists.proofs.Entries.{find-mem, find-none, none≢some, mem-above}
+use Rattle.lists.proofs.Entries.{find-mem, mem-above}
 use Rattle.lists.proofs.Sorts.{ascending-distinct, distinct-ext}
 use Rattle.gf2.specs.Select.{elem, sums}
 use Rattle.gf2.specs.Bound.{Due, under}
@@ -21,8 +21,8 @@ use Rattle.gf2.proofs.Bound.{fall}
 use Rattle.bucket.specs.declared.Bucket.{Bucket}
 use Rattle.bucket.specs.declared.Tried.{Tried}
 use Rattle.bucket.specs.Bucket.{lookup, live, add, withdraw}
-use Rattle.bucket_settle.specs.Settle.{contents, planOf, withdrawAll, atBound, lowered, Settlement, ahead, orElse, leaving, settle}
-use Rattle.bucket_settle.proofs.Hold.{Holds, holds-perm, holds-find, row-of, holds-none, holds-add, holds-withdraw}
+use Rattle.bucket_settle.specs.Settle.{contents, withdrawAll, atBound, lowered, Settlement, ahead, orElse, leaving, settle}
+use Rattle.bucket_settle.proofs.Hold.{Holds, live-elem, mem-elem, holds-perm, holds-find, row-of, holds-none, holds-add, holds-withdraw}
 
 -- ---- entries made of numbers in order
 
@@ -44,40 +44,30 @@ module _ (f : ℕ → ℕ) (p : ℕ → Bool) where
 
 -- ---- thresholds and bounds
 
-pub below-not : (x u : ℕ) → (ltb x (suc u) && not (eqb x u)) ≡ ltb x u
-below-not x u =
+-- x is below u, is u, or is above it
+ways : (P : Bool → Bool → Bool → Type 0) (x u : ℕ) → P true true false → P false true true → P false false false → P (ltb x u) (ltb x (suc u)) (eqb x u)
+ways P x u below is above =
     cases (ltb x u)
-    (λ t. let h = ltb-true x u t in ap₂ (λ (a b : Bool). a && not b) (lt-ltb x (suc u) (omega arith)) (ne-eqb x u (λ q. omega (arith, q))) ∙ sym t)
+    (λ t. let h = ltb-true x u t in rw (t, lt-ltb x (suc u) (omega arith), ne-eqb x u (λ q. omega (arith, q))) below)
     (λ f. let h = ltb-false x u f in
     cases (eqb x u)
-    (λ q. let e = eqb-true x u q in ap₂ (λ (a b : Bool). a && not b) (lt-ltb x (suc u) (omega arith)) q ∙ sym f)
-    (λ q. ap (λ (a : Bool). a && not (eqb x u)) (le-ltb x (suc u) (lt-of-le-ne h (λ e. eqb-false x u q (sym e)))) ∙ sym f))
+    (λ q. let e = eqb-true x u q in rw (f, q, lt-ltb x (suc u) (omega arith)) is)
+    (λ q. rw (f, q, le-ltb x (suc u) (lt-of-le-ne h (λ e. eqb-false x u q (sym e)))) above))
+
+pub below-not : (x u : ℕ) → (ltb x (suc u) && not (eqb x u)) ≡ ltb x u
+below-not x u = ways (λ a b c. (b && not c) ≡ a) x u refl refl refl
 
 pub between : (x u : ℕ) → (not (ltb x u) && ltb x (suc u)) ≡ (ltb x (suc u) && eqb x u)
-between x u =
-    cases (ltb x u)
-    (λ t. let h = ltb-true x u t in
-    ap (λ (a : Bool). not a && ltb x (suc u)) t ∙ sym (ap₂ (λ (a b : Bool). a && b) (lt-ltb x (suc u) (omega arith)) (ne-eqb x u (λ q. omega (arith, q)))))
-    (λ f. let h = ltb-false x u f in
-    ap (λ (a : Bool). not a && ltb x (suc u)) f
-    ∙ cases (eqb x u)
-    (λ q. let e = eqb-true x u q in lt-ltb x (suc u) (omega arith) ∙ sym (ap₂ (λ (a b : Bool). a && b) (lt-ltb x (suc u) (omega arith)) q))
-    (λ q. let g = le-ltb x (suc u) (lt-of-le-ne h (λ e. eqb-false x u q (sym e))) in g ∙ sym (ap (λ (a : Bool). a && eqb x u) g)))
+between x u = ways (λ a b c. (not a && b) ≡ (b && c)) x u refl refl refl
 
 pub above-both : (x u : ℕ) → (not (ltb x u) && not (ltb x (suc u))) ≡ not (ltb x (suc u))
-above-both x u =
-    cases (ltb x u)
-    (λ t. let h = ltb-true x u t in ap (λ (a : Bool). not a && not (ltb x (suc u))) t ∙ sym (ap not (lt-ltb x (suc u) (omega arith))))
-    (λ f. ap (λ (a : Bool). not a && not (ltb x (suc u))) f)
+above-both x u = ways (λ a b c. (not a && not b) ≡ not b) x u refl refl refl
 
 -- ---- the rows, listed
 
 module _ {n r : ℕ} {b : Bucket} {rows : List Entry} (h : Holds n r b rows) where
   pub word-lt : (x : Entry) → List·Memᴰ x rows → x .word < 2 ^ n
   word-lt x m = let r = row-of h x m in subst (λ (k : ℕ). k < 2 ^ n) (r .3) (h .sound .inverse .rows-lt (r .0))
-
-  plan-some : (k p : ℕ) → planOf n k b ≡ some p → live n k b ≡ true
-  plan-some k p e = cases (live n k b) (λ t. t) (λ f. absurd (none≢some (sym (cond-false (some (lookup b k)) none f) ∙ e)))
 
   pub rows-of : List·Permᴰ (contents n b) rows
   unfolding contents
@@ -92,14 +82,7 @@ module _ {n r : ℕ} {b : Bucket} {rows : List Entry} (h : Holds n r b rows) whe
       let l = word-lt x i in
       let e : x ≡ record { word = x .word; plan = lookup b (x .word) } = sym (λ j. record { word = x .word; plan = h .plans x i j }) in
       Memᴰ·cast e (Memᴰ·map (λ k. record { word = k; plan = lookup b k })
-      (keep-in (λ k. live n k b) (countFrom 0 (2 ^ n)) (count-in 0 (2 ^ n) (x .word) zero-le (omega arith)) (live-in x i l))))
-    where
-      live-in : (x : Entry) → List·Memᴰ x rows → x .word < 2 ^ n → live n (x .word) b ≡ true
-      live-in x i l = go (find (x .word) rows) refl
-        where
-          go : (o : Option ℕ) → find (x .word) rows ≡ o → live n (x .word) b ≡ true
-          go none f = absurd (find-none (x .word) rows f x i refl)
-          go (some p) f = plan-some (x .word) p (holds-find h (x .word) l ∙ f)
+      (keep-in (λ k. live n k b) (countFrom 0 (2 ^ n)) (count-in 0 (2 ^ n) (x .word) zero-le (omega arith)) (live-elem h (x .word) l ∙ T→true _ (mem-elem x rows i)))))
 
 pub rows-ascending : (n : ℕ) (b : Bucket) → Ascending (contents n b)
 unfolding contents
@@ -180,13 +163,6 @@ module _ (n r : ℕ) (thr : ℕ → ℕ) where
           (subst⁻¹ (List·Permᴰ (e ∷ over thr t fs)) (cond-true (e ∷ over thr t fs) (over thr t fs) (ap not f)) (Permᴰ·refl (e ∷ over thr t fs)));
     }
 
-    and-false : (a b : Bool) → b ≡ false → (a && b) ≡ false
-    and-false true b q = q
-    and-false false b q = refl
-
-    and-true : (a b : Bool) → a ≡ true → b ≡ true → (a && b) ≡ true
-    and-true a b p q = ap₂ (λ (x y : Bool). x && y) p q
-
     pub settle-law : (t : ℕ) (b : Bucket) → b .bound ≡ t → Holds n r b (held thr t fs) → Settles e fs t (settle n thr e t b)
     settle-law zero b q h = goes-on zero b q h (le-ltb (thr (e .word)) 0 zero-le) refl
     settle-law (suc u) b q h =
@@ -205,7 +181,7 @@ module _ (n r : ℕ) (thr : ℕ → ℕ) where
             (record {
               holds = subst⁻¹ (λ (t : ℕ). Holds n r (a .0) (held thr t (e ∷ fs))) (a .3 ∙ q)
                   (subst⁻¹ (Holds n r (a .0)) (cond-true (e ∷ held thr (suc u) fs) (held thr (suc u) fs) l) (a .2));
-              falls = a .3 ∙ q ∙ sym (cond-false (fall u (seen thr e) (map (seen thr) fs)) (suc u) (and-false (ltb (thr (e .word)) (suc u)) _ (same-has ∙ f)));
+              falls = a .3 ∙ q ∙ sym (cond-false (fall u (seen thr e) (map (seen thr) fs)) (suc u) (ap (λ (a : Bool). ltb (thr (e .word)) (suc u) && a) (same-has ∙ f) ∙ and-false (ltb (thr (e .word)) (suc u))));
               leaves = subst⁻¹ (λ (t : ℕ). List·Permᴰ (over thr (suc u) fs) (over thr t (e ∷ fs))) (a .3 ∙ q)
                   (subst⁻¹ (List·Permᴰ (over thr (suc u) fs)) (cond-false (e ∷ over thr (suc u) fs) (over thr (suc u) fs) (ap not l)) (Permᴰ·refl (over thr (suc u) fs)));
             })
@@ -224,7 +200,7 @@ module _ (n r : ℕ) (thr : ℕ → ℕ) where
             subst⁻¹ (λ (o : Tried). Settles e fs (suc u) (orElse o (ahead (leaving n thr u b) (settle n thr e u (lowered n thr u b))))) (holds-none h e small t)
             (record {
               holds = r .holds;
-              falls = r .falls ∙ sym (cond-true (fall u (seen thr e) (map (seen thr) fs)) (suc u) (and-true (ltb (thr (e .word)) (suc u)) _ l (same-has ∙ t)));
+              falls = r .falls ∙ sym (cond-true (fall u (seen thr e) (map (seen thr) fs)) (suc u) (and-both l (same-has ∙ t)));
               leaves = List·Permᴰ·trans (shuffle (leaving n thr u b) o (over thr (suc u) fs))
                   (List·Permᴰ·trans (Permᴰ·append-left o
                   (List·Permᴰ·trans (Permᴰ·append-right (over thr (suc u) fs) out-at) (Permᴰ·symm (over-split thr u fs))))

@@ -4,9 +4,9 @@ use Prim.Native.Nat.{ℕ, _^_, _<_}
 use native.Mathlib.Omega.{arith}
 use mathlib.Core.Path.{_≡_, refl, sym, ap, ap₂, _∙_, subst, subst⁻¹, subst₂}
 use mathlib.Core.Bool.{Bool, true, false, _||_, true≢false, Bool-set}
-use mathlib.Core.Logic.{_⊎_, ⊎-elim, ∥∥₁-elim}
+use mathlib.Core.Logic.{⊎-elim, ∥∥₁-elim}
 use mathlib.Core.Option.{Option, none, some}
-use mathlib.Core.List.{List, [], _∷_, Perm, Perm·symm, Perm·trans, Perm·cons, Perm·cons-inv, List·Permᴰ, List·Permᴰ·nil, List·Permᴰ·cons, List·Permᴰ·swap, List·Permᴰ·trans, Permᴰ·symm, Permᴰ·map, List·Memᴰ, List·Memᴰ·head, List·Memᴰ·tail, List·Memᴰ·not-nil, List·Memᴰ·cases-cons}
+use mathlib.Core.List.{List, [], _∷_, Perm, Perm·symm, Perm·trans, Perm·cons, Perm·cons-inv, List·Permᴰ, List·Permᴰ·nil, List·Permᴰ·cons, List·Permᴰ·swap, List·Permᴰ·trans, Permᴰ·symm, Permᴰ·map, List·Memᴰ, List·Memᴰ·tail, List·Memᴰ·not-nil, List·Memᴰ·cases-cons}
 use lib.Bits.{bitXor, xor-self}
 use lib.Count.{trailingZeros}
 use lib.Dec.{T, eqb, eqb→eq}
@@ -14,7 +14,7 @@ use lib.ListN.{length, getD, set, length-replicate}
 use borrow.Author.Tests.{eq-eqb}
 use Rattle.lists.specs.Entries.{Entry, words, find, update, remove, Distinct}
 use Rattle.lists.proofs.Tests.{cases, cond-true, cond-false, T→true, true→T, false→T, or-l, or-r, or-cases}
-use Rattle.lists.proofs.Entries.{find-mem, find-none, remove-perm, update-perm}
+use Rattle.lists.proofs.Entries.{find-mem, find-none, none-find, none≢some, remove-perm, update-perm}
 use Rattle.lists.proofs.Sorts.{distinct-perm, mem-perm}
 use Rattle.gf2.specs.Vectors.{bit, product, solStep, units}
 use Rattle.gf2.specs.Select.{elem, sums, chosen}
@@ -52,18 +52,13 @@ mem-elem x (y ∷ ys) m =
     ⊎-elim (λ (e : x ≡ y). or-l (eqb (x .word) (y .word)) _ (true→T (eq-eqb (x .word) (y .word) (ap (λ (z : Entry). z .word) e))))
     (λ n. or-r (eqb (x .word) (y .word)) _ (mem-elem x ys n)) (List·Memᴰ·cases-cons m)
 
-elem-mem : (k : ℕ) (rows : List Entry) → T (elem k (words rows)) → (x : Entry) × List·Memᴰ x rows × (k ≡ x .word)
-elem-mem k [] t = absurd t
-elem-mem k (y ∷ ys) t =
-    ⊎-elim {C = (x : Entry) × List·Memᴰ x (y ∷ ys) × (k ≡ x .word)} (λ a. (y, List·Memᴰ·head refl, eqb→eq k (y .word) a))
-    (λ b. let r = elem-mem k ys b in (r .0, List·Memᴰ·tail (r .1), r .2)) (or-cases (eqb k (y .word)) (elem k (words ys)) t)
-
 find-elem : (k p : ℕ) (rows : List Entry) → find k rows ≡ some p → T (elem k (words rows))
 find-elem k p rows f = mem-elem (record { word = k; plan = p }) rows (find-mem k p rows f)
 
 find-out : (k : ℕ) (rows : List Entry) → find k rows ≡ none → elem k (words rows) ≡ false
-find-out k rows f =
-    cases (elem k (words rows)) (λ t. let r = elem-mem k rows (true→T t) in absurd (find-none k rows f (r .0) (r .1) (r .2))) (λ e. e)
+find-out k [] f = refl
+find-out k (y ∷ ys) f =
+    cases (eqb k (y .word)) (λ t. absurd (none≢some (sym f ∙ cond-true _ _ t))) (λ q. rw q (find-out k ys (sym (cond-false _ _ q) ∙ f)))
 
 -- a member is a selection
 pub elem-sums : (k : ℕ) (xs : List ℕ) → T (elem k xs) → T (elem k (sums xs))
@@ -72,6 +67,11 @@ elem-sums k (x ∷ xs) t =
     subst⁻¹ T (sums-cons k x xs)
     (⊎-elim (λ a. or-r (elem k (sums xs)) _ (subst⁻¹ (λ (y : ℕ). T (elem y (sums xs))) (ap (bitXor x) (eqb→eq k x a) ∙ xor-self x) (zero-in xs)))
     (λ b. or-l (elem k (sums xs)) _ (elem-sums k xs b)) (or-cases (eqb k x) (elem k xs) t))
+
+-- a word that is no sum of the entries' words has no entry
+pub fresh : (k : ℕ) (rows : List Entry) → elem k (sums (words rows)) ≡ false → find k rows ≡ none
+fresh k rows f =
+    none-find k rows (λ x m e. true≢false (sym (T→true _ (elem-sums k (words rows) (subst⁻¹ (λ (w : ℕ). T (elem w (words rows))) e (mem-elem x rows m)))) ∙ f))
 
 -- ---- the relation
 
@@ -112,7 +112,7 @@ holds-perm h s = record {
 }
 
 module _ {n r : ℕ} {b : Bucket} {rows : List Entry} (h : Holds n r b rows) where
-  live-elem : (k : ℕ) → k < 2 ^ n → live n k b ≡ elem k (words rows)
+  pub live-elem : (k : ℕ) → k < 2 ^ n → live n k b ≡ elem k (words rows)
   live-elem k l = live-test n (h .matrix) b (h .sound) k l ∙ elem-perm k (h .lives)
 
   pub holds-find : (k : ℕ) → k < 2 ^ n → planOf n k b ≡ find k rows
@@ -163,13 +163,6 @@ module _ {n r : ℕ} {b : Bucket} {rows : List Entry} (h : Holds n r b rows) whe
           (add-others n (h .matrix) b i k (e .plan) (h .sound) (g .row-lt) l (g .was-free) (g .has-bit) fits (r .0) (r .1) ne)
           ∙ h .plans x m
 
-      fresh : find k rows ≡ none
-      fresh = go (find k rows) refl
-        where
-          go : (o : Option ℕ) → find k rows ≡ o → o ≡ none
-          go none z = refl
-          go (some p) z = absurd (true≢false (sym (T→true _ (elem-sums k (words rows) (find-elem k p rows z))) ∙ f))
-
       held : Holds n r (addAt i k (e .plan) b) (e ∷ rows)
       held = record {
         matrix = set (h .matrix) i k;
@@ -179,7 +172,7 @@ module _ {n r : ℕ} {b : Bucket} {rows : List Entry} (h : Holds n r b rows) whe
             (λ (z : x ≡ e). subst⁻¹ (λ (y : Entry). lookup (addAt i k (e .plan) b) (y .word) ≡ y .plan) z (add-plan n (h .matrix) b i k (e .plan) (h .sound) (g .row-lt) l (g .was-free) (g .has-bit) fits))
             (others x) (List·Memᴰ·cases-cons m);
         wide = length-solStep _ _ (b .sols) ∙ h .wide;
-        distinct = (fresh, h .distinct);
+        distinct = (fresh k rows f, h .distinct);
       }
 
   module _ (k p : ℕ) (l : k < 2 ^ n) (f : find k rows ≡ some p) where

@@ -3,15 +3,15 @@
 use Prim.Native.Nat.{ℕ, zero, suc, _+_, _^_, _≤_, _<_}
 use native.Mathlib.Omega.{arith}
 use mathlib.Core.Path.{_≡_, refl, sym, ap, _∙_, subst, subst⁻¹}
-use mathlib.Core.Bool.{Bool, true, false, not, _&&_}
+use mathlib.Core.Bool.{false, not, _&&_}
 use mathlib.Core.List.{List, [], _∷_, _++_, map, Perm, Perm·refl, List·Permᴰ, Permᴰ·symm, Memᴰ·of-map}
-use lib.Dec.{T, eqb, ltb}
+use lib.Dec.{T, T-not, eqb, ltb}
 use lib.ListN.{length, set, length-append, length-map}
 use Rattle.lists.specs.Lists.{keep}
 use Rattle.lists.specs.Entries.{Entry, words, Distinct, Ascending}
-use Rattle.lists.proofs.Tests.{cases, by-test, and-l, and-r, T→true, true→T, false→T}
+use Rattle.lists.proofs.Tests.{cases, by-test, and-l, and-r, T→true, nT→false, true→T, false→T}
 use Rattle.lists.proofs.Keep.{keep-perm, keep-part, perm-length}
-use Rattle.lists.proofs.Entries.{none-find, sub-ascending}
+use Rattle.lists.proofs.Entries.{sub-ascending}
 use Rattle.lists.proofs.Sorts.{sort-order, sort-same, ascending-distinct}
 use Rattle.gf2.specs.Select.{elem, sums, indep, chosen}
 use Rattle.gf2.specs.Bound.{Free, boundOf}
@@ -28,7 +28,7 @@ use Rattle.bucket_rows.specs.Elimination.{soundRows}
 use Rattle.bucket_rows.proofs.Exact.{found-is}
 use Rattle.bucket_settle.specs.Settle.{SoundBucket, listed, contents, leaving, lowered, Settlement, ahead, settle}
 use Rattle.bucket_settle.specs.Steps.{leavingOf}
-use Rattle.bucket_settle.proofs.Hold.{Holds, holds-perm, mem-elem, elem-sums}
+use Rattle.bucket_settle.proofs.Hold.{Holds, holds-perm, fresh}
 use Rattle.bucket_settle.proofs.Leave.{keep-within, chosen-length}
 use Rattle.bucket_settle.proofs.Fall.{rows-of, rows-ascending, holds-lowered, held, over, seen, under-held, settle-law}
 
@@ -41,20 +41,10 @@ words-listed b (k ∷ ks) = ap (λ (l : List ℕ). k ∷ l) (words-listed b ks)
 -- independent vectors are distinct
 indep-distinct : (b : Bucket) (ks : List ℕ) → T (indep ks) → Distinct (listed b ks)
 indep-distinct b [] t = tt
-indep-distinct b (k ∷ ks) t = (
-  none-find k (listed b ks) (λ y m e.
-      no-both (elem k (sums ks))
-      (elem-sums k ks (subst⁻¹ (λ (w : ℕ). T (elem w ks)) e (subst (λ (l : List ℕ). T (elem (y .word) l)) (words-listed b ks) (mem-elem y (listed b ks) m))))
-      (and-r (indep ks) (not (elem k (sums ks))) u)),
-  indep-distinct b ks (and-l (indep ks) (not (elem k (sums ks))) u),
-)
-  where
-    u : T (indep ks && not (elem k (sums ks)))
-    u = subst T (indep-cons k ks) t
-
-    no-both : (b : Bool) → T b → T (not b) → ⊥
-    no-both true p q = q
-    no-both false p q = p
+indep-distinct b (k ∷ ks) t =
+    let u : T (indep ks && not (elem k (sums ks))) = subst T (indep-cons k ks) t in
+    let out : elem k (sums ks) ≡ false = nT→false (elem k (sums ks)) (T-not (elem k (sums ks)) (and-r (indep ks) _ u)) in
+    (fresh k (listed b ks) (rw (words-listed b ks) out), indep-distinct b ks (and-l (indep ks) _ u))
 
 module _ {n r : ℕ} {b : Bucket} where
   pub sound-listed : (h : SoundBucket n r b) → Holds n r b (listed b (chosen (b .mark) (h .matrix)))
