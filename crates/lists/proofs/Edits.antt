@@ -10,7 +10,7 @@ use lib.Dec.{eqb}
 use borrow.Author.Tests.{eqb-true, eqb-false, eq-eqb, ne-eqb}
 use Rattle.lists.specs.Lists.{keep}
 use Rattle.lists.specs.Entries.{Entry, find, insert, update, remove, sort, insertAll, Ascending, Distinct}
-use Rattle.lists.proofs.Tests.{cases, by-test, cond-true, cond-false}
+use Rattle.lists.proofs.Tests.{cases, by-test}
 use Rattle.lists.proofs.Entries.{find-none, none-find, insert-perm, insert-ascending, remove-perm, update-perm}
 use Rattle.lists.proofs.Sorts.{distinct-perm, fresh-sort, sort-perm, sort-ascending, sort-same, sort-order, sort-changed, sort-removed, sort-found, ascending-distinct}
 
@@ -20,12 +20,6 @@ module _ (P : ℕ → Bool) where
   abbrev kept : List Entry → List Entry
   kept es = keep (λ e. P (e .word)) es
 
-  kept-yes : (x : Entry) (xs : List Entry) → P (x .word) ≡ true → kept (x ∷ xs) ≡ x ∷ kept xs
-  kept-yes x xs t = cond-true (x ∷ kept xs) (kept xs) t
-
-  kept-no : (x : Entry) (xs : List Entry) → P (x .word) ≡ false → kept (x ∷ xs) ≡ kept xs
-  kept-no x xs f = cond-false (x ∷ kept xs) (kept xs) f
-
   -- the test says the same of x, which has the word w
   same : (w : ℕ) (x : Entry) {b : Bool} → eqb w (x .word) ≡ true → P w ≡ b → P (x .word) ≡ b
   same w x t h = sym (ap P (eqb-true w (x .word) t)) ∙ h
@@ -33,47 +27,32 @@ module _ (P : ℕ → Bool) where
   pub find-keep : (w : ℕ) (es : List Entry) → P w ≡ true → find w (kept es) ≡ find w es
   find-keep w [] h = refl
   find-keep w (x ∷ xs) h =
-      cases (eqb w (x .word))
-      (λ t. ap (find w) (kept-yes x xs (same w x t h)) ∙ cond-true (some (x .plan)) (find w (kept xs)) t ∙ sym (cond-true (some (x .plan)) (find w xs) t))
-      (λ f. by-test (λ (l : List Entry). find w l ≡ find w xs) (P (x .word))
-      (λ p. cond-false (some (x .plan)) (find w (kept xs)) f ∙ find-keep w xs h) (λ p. find-keep w xs h)
-      ∙ sym (cond-false (some (x .plan)) (find w xs) f))
+      cases (eqb w (x .word)) (λ t. rw (same w x t h, t))
+      (λ f. rw f (by-test (λ (l : List Entry). find w l ≡ find w xs) (P (x .word)) (λ p. rw f (find-keep w xs h)) (λ p. find-keep w xs h)))
 
   pub remove-in : (w : ℕ) (es : List Entry) → P w ≡ true → kept (remove w es) ≡ remove w (kept es)
   remove-in w [] h = refl
   remove-in w (x ∷ xs) h =
-      cases (eqb w (x .word))
-      (λ t. ap kept (cond-true xs (x ∷ remove w xs) t)
-      ∙ sym (ap (remove w) (kept-yes x xs (same w x t h)) ∙ cond-true (kept xs) (x ∷ remove w (kept xs)) t))
-      (λ f. ap kept (cond-false xs (x ∷ remove w xs) f)
-      ∙ cases (P (x .word))
-      (λ p. kept-yes x (remove w xs) p ∙ ap {B = List Entry} (λ l. x ∷ l) (remove-in w xs h) ∙ sym (ap (remove w) (kept-yes x xs p) ∙ cond-false (kept xs) (x ∷ remove w (kept xs)) f))
-      (λ p. kept-no x (remove w xs) p ∙ remove-in w xs h ∙ sym (ap (remove w) (kept-no x xs p))))
+      cases (eqb w (x .word)) (λ t. rw (same w x t h, t))
+      (λ f. rw f (cases (P (x .word)) (λ p. rw (p, f) (ap {B = List Entry} (λ l. x ∷ l) (remove-in w xs h))) (λ p. rw p (remove-in w xs h))))
 
   pub remove-out : (w : ℕ) (es : List Entry) → P w ≡ false → kept (remove w es) ≡ kept es
   remove-out w [] h = refl
   remove-out w (x ∷ xs) h =
-      cases (eqb w (x .word))
-      (λ t. ap kept (cond-true xs (x ∷ remove w xs) t) ∙ sym (kept-no x xs (same w x t h)))
-      (λ f. ap kept (cond-false xs (x ∷ remove w xs) f) ∙ ap (λ (l : List Entry). cond (P (x .word)) (x ∷ l) l) (remove-out w xs h))
+      cases (eqb w (x .word)) (λ t. rw (t, same w x t h))
+      (λ f. rw f (ap (λ (l : List Entry). cond (P (x .word)) (x ∷ l) l) (remove-out w xs h)))
 
   pub update-in : (d : Entry) (es : List Entry) → P (d .word) ≡ true → kept (update d es) ≡ update d (kept es)
   update-in d [] h = refl
   update-in d (x ∷ xs) h =
-      cases (eqb (d .word) (x .word))
-      (λ t. ap kept (cond-true (d ∷ xs) (x ∷ update d xs) t) ∙ kept-yes d xs h
-      ∙ sym (ap (update d) (kept-yes x xs (same (d .word) x t h)) ∙ cond-true (d ∷ kept xs) (x ∷ update d (kept xs)) t))
-      (λ f. ap kept (cond-false (d ∷ xs) (x ∷ update d xs) f)
-      ∙ cases (P (x .word))
-      (λ p. kept-yes x (update d xs) p ∙ ap {B = List Entry} (λ l. x ∷ l) (update-in d xs h) ∙ sym (ap (update d) (kept-yes x xs p) ∙ cond-false (d ∷ kept xs) (x ∷ update d (kept xs)) f))
-      (λ p. kept-no x (update d xs) p ∙ update-in d xs h ∙ sym (ap (update d) (kept-no x xs p))))
+      cases (eqb (d .word) (x .word)) (λ t. rw (same (d .word) x t h, t, h))
+      (λ f. rw f (cases (P (x .word)) (λ p. rw (p, f) (ap {B = List Entry} (λ l. x ∷ l) (update-in d xs h))) (λ p. rw p (update-in d xs h))))
 
   pub update-out : (d : Entry) (es : List Entry) → P (d .word) ≡ false → kept (update d es) ≡ kept es
   update-out d [] h = refl
   update-out d (x ∷ xs) h =
-      cases (eqb (d .word) (x .word))
-      (λ t. ap kept (cond-true (d ∷ xs) (x ∷ update d xs) t) ∙ kept-no d xs h ∙ sym (kept-no x xs (same (d .word) x t h)))
-      (λ f. ap kept (cond-false (d ∷ xs) (x ∷ update d xs) f) ∙ ap (λ (l : List Entry). cond (P (x .word)) (x ∷ l) l) (update-out d xs h))
+      cases (eqb (d .word) (x .word)) (λ t. rw (t, h, same (d .word) x t h))
+      (λ f. rw f (ap (λ (l : List Entry). cond (P (x .word)) (x ∷ l) l) (update-out d xs h)))
 
 -- ---- words renamed one to one
 

@@ -3,7 +3,7 @@
 use Prim.Native.Nat.{ℕ, suc, _<_}
 use native.Mathlib.Nat.{lt-trans}
 use native.Mathlib.Omega.{arith}
-use mathlib.Core.Path.{_≡_, refl, sym, ap, ap₂, _∙_, subst⁻¹, subst₂}
+use mathlib.Core.Path.{_≡_, refl, sym, ap, ap₂, _∙_, subst⁻¹}
 use mathlib.Core.Bool.{true, false, cond}
 use mathlib.Core.Logic.{_⊎_, inl, inr, ⊎-elim}
 use mathlib.Core.Option.{Option, none, some}
@@ -13,9 +13,7 @@ use lib.ListN.{length}
 use borrow.Author.Tests.{eqb-true, eqb-false, eq-eqb, ne-eqb, ltb-true, ltb-false}
 use Rattle.lists.specs.Entries.{Entry, find, insert, update, remove, Above, Ascending}
 use Rattle.lists.proofs.Tests.{by-test, cases, cond-true, cond-false}
-
-some-inj : {a b : ℕ} → _≡_ {A = Option ℕ} (some a) (some b) → a ≡ b
-some-inj e = cc
+use Rattle.lists.proofs.Keep.{perm-length}
 
 pub none≢some : {a : ℕ} → _≡_ {A = Option ℕ} none (some a) → ⊥
 none≢some e = let z : _≡_ {A = ℕ} 0 1 = cc in omega arith
@@ -31,21 +29,27 @@ find-past w x xs n = cond-false (some (x .plan)) (find w xs) (ne-eqb w (x .word)
 find-cons : (w : ℕ) (x : Entry) (xs ys : List Entry) → find w xs ≡ find w ys → find w (x ∷ xs) ≡ find w (x ∷ ys)
 find-cons w x xs ys e = ap (cond (eqb w (x .word)) (some (x .plan))) e
 
+find-skip : (k : ℕ) (x : Entry) (xs : List Entry) {o : Option ℕ} → eqb k (x .word) ≡ false → find k (x ∷ xs) ≡ o → find k xs ≡ o
+find-skip k x xs f e = sym (cond-false (some (x .plan)) (find k xs) f) ∙ e
+
+-- the first entry is the one that is found
+find-first : (w p : ℕ) (x : Entry) (xs : List Entry) → eqb w (x .word) ≡ true → find w (x ∷ xs) ≡ some p → record { word = w; plan = p } ≡ x
+find-first w p x xs t e =
+    let s : some p ≡ some (x .plan) = sym e ∙ cond-true (some (x .plan)) (find w xs) t in
+    let q : p ≡ x .plan = cc in
+    λ i. record { word = eqb-true w (x .word) t i; plan = q i }
+
 pub find-mem : (w p : ℕ) (xs : List Entry) → find w xs ≡ some p → List·Memᴰ (record { word = w; plan = p }) xs
 find-mem w p [] e = absurd (none≢some e)
 find-mem w p (x ∷ xs) e =
-    cases (eqb w (x .word))
-    (λ t. let q : p ≡ x .plan = some-inj (sym e ∙ find-here w x xs (eqb-true w (x .word) t)) in
-    List·Memᴰ·head (λ i. record { word = eqb-true w (x .word) t i; plan = q i }))
-    (λ f. List·Memᴰ·tail (find-mem w p xs (sym (find-past w x xs (eqb-false w (x .word) f)) ∙ e)))
+    cases (eqb w (x .word)) (λ t. List·Memᴰ·head (find-first w p x xs t e)) (λ f. List·Memᴰ·tail (find-mem w p xs (find-skip w x xs f e)))
 
 pub find-none : (w : ℕ) (xs : List Entry) → find w xs ≡ none → (x : Entry) → List·Memᴰ x xs → w ≡ x .word → ⊥
 find-none w [] e y m q = List·Memᴰ·not-nil m
 find-none w (x ∷ xs) e y m q =
-    cases (eqb w (x .word))
-    (λ t. none≢some (sym e ∙ find-here w x xs (eqb-true w (x .word) t)))
+    cases (eqb w (x .word)) (λ t. none≢some (sym e ∙ cond-true (some (x .plan)) (find w xs) t))
     (λ f. ⊎-elim (λ (p : y ≡ x). eqb-false w (x .word) f (q ∙ ap (λ (z : Entry). z .word) p))
-    (λ n. find-none w xs (sym (find-past w x xs (eqb-false w (x .word) f)) ∙ e) y n q) (List·Memᴰ·cases-cons m))
+    (λ n. find-none w xs (find-skip w x xs f e) y n q) (List·Memᴰ·cases-cons m))
 
 pub none-find : (w : ℕ) (xs : List Entry) → ((x : Entry) → List·Memᴰ x xs → w ≡ x .word → ⊥) → find w xs ≡ none
 none-find w [] h = refl
@@ -76,13 +80,18 @@ mem-find (y ∷ ys) a x m =
 
 -- ---- two ascending lists with the same members are equal
 
+rest : (x y : Entry) (xs ys : List Entry) → Above (x .word) xs → x ≡ y → ((e : Entry) → List·Memᴰ e (x ∷ xs) → List·Memᴰ e (y ∷ ys)) → (e : Entry) → List·Memᴰ e xs → List·Memᴰ e ys
+rest x y xs ys a q f e m =
+    ⊎-elim (λ (p : e ≡ y). absurd (let l = above-mem (x .word) xs a e m in omega (arith, ap (λ (z : Entry). z .word) p, ap (λ (z : Entry). z .word) q)))
+    (λ n. n) (List·Memᴰ·cases-cons (f e (List·Memᴰ·tail m)))
+
 pub ascending-ext : (xs ys : List Entry) → Ascending xs → Ascending ys
     → ((e : Entry) → List·Memᴰ e xs → List·Memᴰ e ys) → ((e : Entry) → List·Memᴰ e ys → List·Memᴰ e xs) → xs ≡ ys
 ascending-ext [] [] a b f g = refl
 ascending-ext [] (y ∷ ys) a b f g = absurd (List·Memᴰ·not-nil (g y (List·Memᴰ·head refl)))
 ascending-ext (x ∷ xs) [] a b f g = absurd (List·Memᴰ·not-nil (f x (List·Memᴰ·head refl)))
 ascending-ext (x ∷ xs) (y ∷ ys) a b f g =
-    ap₂ {C = List Entry} _∷_ same (ascending-ext xs ys (a .1) (b .1) (λ e m. down e m) (λ e m. up e m))
+    ap₂ {C = List Entry} _∷_ same (ascending-ext xs ys (a .1) (b .1) (rest x y xs ys (a .0) same f) (rest y x ys xs (b .0) (sym same) g))
   where
     same : x ≡ y
     same =
@@ -91,16 +100,6 @@ ascending-ext (x ∷ xs) (y ∷ ys) a b f g =
         (λ n. absurd (let p = above-mem (y .word) ys (b .0) x m in let q = above-mem (x .word) xs (a .0) y n in omega arith))
         (List·Memᴰ·cases-cons (g y (List·Memᴰ·head refl))))
         (List·Memᴰ·cases-cons (f x (List·Memᴰ·head refl)))
-
-    down : (e : Entry) → List·Memᴰ e xs → List·Memᴰ e ys
-    down e m =
-        ⊎-elim (λ (q : e ≡ y). absurd (let p = above-mem (x .word) xs (a .0) e m in omega (arith, ap (λ (z : Entry). z .word) q, ap (λ (z : Entry). z .word) same)))
-        (λ n. n) (List·Memᴰ·cases-cons (f e (List·Memᴰ·tail m)))
-
-    up : (e : Entry) → List·Memᴰ e ys → List·Memᴰ e xs
-    up e m =
-        ⊎-elim (λ (q : e ≡ x). absurd (let p = above-mem (y .word) ys (b .0) e m in omega (arith, ap (λ (z : Entry). z .word) q, ap (λ (z : Entry). z .word) same)))
-        (λ n. n) (List·Memᴰ·cases-cons (g e (List·Memᴰ·tail m)))
 
 -- the same, by what is found
 pub find-ext : (xs ys : List Entry) → Ascending xs → Ascending ys → ((w : ℕ) → find w xs ≡ find w ys) → xs ≡ ys
@@ -124,20 +123,12 @@ insert-sub e (x ∷ xs) =
     (λ h. Sublistᴰ·cons-cons refl (insert-sub e xs))
 
 pub insert-length : (e : Entry) (xs : List Entry) → length (insert e xs) ≡ suc (length xs)
-insert-length e [] = refl
-insert-length e (x ∷ xs) =
-    by-test (λ (l : List Entry). length l ≡ suc (suc (length xs))) (ltb (e .word) (x .word)) (λ h. refl) (λ h. ap suc (insert-length e xs))
+insert-length e xs = perm-length (insert-perm e xs)
 
 pub insert-new : (e : Entry) (xs : List Entry) → List·Memᴰ e (insert e xs)
 insert-new e [] = List·Memᴰ·head refl
 insert-new e (x ∷ xs) =
     by-test (λ (l : List Entry). List·Memᴰ e l) (ltb (e .word) (x .word)) (λ h. List·Memᴰ·head refl) (λ h. List·Memᴰ·tail (insert-new e xs))
-
-pub insert-old : (e : Entry) (xs : List Entry) (x : Entry) → List·Memᴰ x xs → List·Memᴰ x (insert e xs)
-insert-old e [] x m = List·Memᴰ·tail m
-insert-old e (y ∷ ys) x m =
-    by-test (λ (l : List Entry). List·Memᴰ x l) (ltb (e .word) (y .word)) (λ h. List·Memᴰ·tail m)
-    (λ h. ⊎-elim (λ p. List·Memᴰ·head p) (λ n. List·Memᴰ·tail (insert-old e ys x n)) (List·Memᴰ·cases-cons m))
 
 pub insert-cases : (e : Entry) (xs : List Entry) (x : Entry) → List·Memᴰ x (insert e xs) → (x ≡ e) ⊎ List·Memᴰ x xs
 insert-cases e [] x = λ m. List·Memᴰ·cases-cons m
@@ -177,12 +168,6 @@ remove-sub w [] = Sublistᴰ·slnil
 remove-sub w (x ∷ xs) =
     by-test (λ (l : List Entry). Sublistᴰ l (x ∷ xs)) (eqb w (x .word)) (λ h. Sublistᴰ·cons (Sublistᴰ·refl xs))
     (λ h. Sublistᴰ·cons-cons refl (remove-sub w xs))
-
-pub remove-length : (w p : ℕ) (xs : List Entry) → find w xs ≡ some p → suc (length (remove w xs)) ≡ length xs
-remove-length w p [] e = absurd (none≢some e)
-remove-length w p (x ∷ xs) e =
-    by-test (λ (l : List Entry). suc (length l) ≡ suc (length xs)) (eqb w (x .word)) (λ h. refl)
-    (λ h. ap suc (remove-length w p xs (sym (find-past w x xs (eqb-false w (x .word) h)) ∙ e)))
 
 -- a part of an ascending list is one
 pub sub-above : (w : ℕ) {xs ys : List Entry} → Sublistᴰ xs ys → Above w ys → Above w xs
@@ -255,27 +240,19 @@ update-other e (x ∷ xs) v n =
 
 -- ---- entries: what is removed, and what is updated
 
-find-skip : (k : ℕ) (x : Entry) (xs : List Entry) {o : Option ℕ} → eqb k (x .word) ≡ false → find k (x ∷ xs) ≡ o → find k xs ≡ o
-find-skip k x xs f e = sym (cond-false (some (x .plan)) (find k xs) f) ∙ e
-
 pub remove-perm : (k p : ℕ) (xs : List Entry) → find k xs ≡ some p → List·Permᴰ xs (record { word = k; plan = p } ∷ remove k xs)
 remove-perm k p [] e = absurd (none≢some e)
 remove-perm k p (x ∷ xs) e =
     by-test (λ (l : List Entry). List·Permᴰ (x ∷ xs) (record { word = k; plan = p } ∷ l)) (eqb k (x .word))
-    (λ t. List·Permᴰ·cons (same t) (Permᴰ·refl xs))
+    (λ t. List·Permᴰ·cons (sym (find-first k p x xs t e)) (Permᴰ·refl xs))
     (λ f. List·Permᴰ·trans (List·Permᴰ·cons refl (remove-perm k p xs (find-skip k x xs f e))) (List·Permᴰ·swap refl refl))
-  where
-    same : eqb k (x .word) ≡ true → x ≡ record { word = k; plan = p }
-    same t =
-        let w : x .word ≡ k = sym (eqb-true k (x .word) t) in
-        let s : some (x .plan) ≡ some p = sym (cond-true (some (x .plan)) (find k xs) t) ∙ e in
-        let q : x .plan ≡ p = cc in
-        λ i. record { word = w i; plan = q i }
+
+pub remove-length : (w p : ℕ) (xs : List Entry) → find w xs ≡ some p → suc (length (remove w xs)) ≡ length xs
+remove-length w p xs e = sym (perm-length (remove-perm w p xs e))
 
 pub update-perm : (e : Entry) (p : ℕ) (xs : List Entry) → find (e .word) xs ≡ some p → List·Permᴰ (update e xs) (e ∷ remove (e .word) xs)
 update-perm e p [] f = absurd (none≢some f)
 update-perm e p (x ∷ xs) f =
     cases (eqb (e .word) (x .word))
-    (λ t. subst₂ (λ (a b : List Entry). List·Permᴰ a (e ∷ b)) (sym (cond-true (e ∷ xs) (x ∷ update e xs) t)) (sym (cond-true xs (x ∷ remove (e .word) xs) t)) (Permᴰ·refl (e ∷ xs)))
-    (λ n. subst₂ (λ (a b : List Entry). List·Permᴰ a (e ∷ b)) (sym (cond-false (e ∷ xs) (x ∷ update e xs) n)) (sym (cond-false xs (x ∷ remove (e .word) xs) n))
-    (List·Permᴰ·trans (List·Permᴰ·cons refl (update-perm e p xs (find-skip (e .word) x xs n f))) (List·Permᴰ·swap refl refl)))
+    (λ t. rw t (Permᴰ·refl (e ∷ xs)))
+    (λ n. rw n (List·Permᴰ·trans (List·Permᴰ·cons refl (update-perm e p xs (find-skip (e .word) x xs n f))) (List·Permᴰ·swap refl refl)))

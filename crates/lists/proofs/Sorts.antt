@@ -1,19 +1,19 @@
 -- The live words of a table, read from its rows and base entries in whatever order: sorting forgets the order.
 -- Assumes nothing.
-use Prim.Native.Nat.{ℕ, suc}
+use Prim.Native.Nat.{ℕ}
 use native.Mathlib.Omega.{arith}
 use mathlib.Core.Path.{_≡_, refl, sym, ap, _∙_, subst, subst⁻¹}
 use mathlib.Core.Logic.{⊎-elim}
 use mathlib.Core.Bool.{Bool}
 use mathlib.Core.Option.{none, some}
-use mathlib.Core.List.{List, [], _∷_, List·Memᴰ, List·Memᴰ·head, List·Memᴰ·tail, List·Memᴰ·cases-cons, Memᴰ·cast, List·Permᴰ, List·Permᴰ·nil, List·Permᴰ·cons, List·Permᴰ·swap, List·Permᴰ·trans, Permᴰ·symm}
+use mathlib.Core.List.{List, [], _∷_, List·Memᴰ, List·Memᴰ·head, List·Memᴰ·tail, List·Memᴰ·cases-cons, List·Permᴰ, List·Permᴰ·nil, List·Permᴰ·cons, List·Permᴰ·swap, List·Permᴰ·trans, Permᴰ·symm}
 use lib.ListN.{length}
 use Rattle.lists.specs.Entries.{sort, Distinct, Entry, find, insert, update, remove, Ascending}
-use Rattle.lists.proofs.Entries.{above-mem, insert-perm, insert-length, insert-ascending, insert-cases, insert-new, insert-old, insert-other, insert-found, find-ext, ascending-ext, find-none, none-find, remove-ascending, remove-found, remove-other, update-ascending, update-found, update-other}
+use Rattle.lists.proofs.Entries.{above-mem, insert-perm, insert-ascending, insert-other, insert-found, find-ext, ascending-ext, find-none, none-find, remove-ascending, remove-found, remove-other, update-ascending, update-found, update-other}
 use native.Mathlib.Decide.{ℕ-discrete}
 use Rattle.lists.specs.Lists.{keep}
 use Rattle.lists.proofs.Tests.{by-test}
-use Rattle.lists.proofs.Keep.{keep-out}
+use Rattle.lists.proofs.Keep.{keep-out, perm-length}
 
 -- by whether two words are equal
 by-word {ℓ} : {P : Type ℓ} (v w : ℕ) → (v ≡ w → P) → ((v ≡ w → ⊥) → P) → P
@@ -43,26 +43,6 @@ pub sort-perm : (es : List Entry) → List·Permᴰ (sort es) es
 sort-perm [] = List·Permᴰ·nil
 sort-perm (e ∷ es) = List·Permᴰ·trans (insert-perm e (sort es)) (List·Permᴰ·cons refl (sort-perm es))
 
-pub sort-mem : (es : List Entry) (x : Entry) → List·Memᴰ x (sort es) → List·Memᴰ x es
-sort-mem [] x m = m
-sort-mem (e ∷ es) x m = ⊎-elim (λ p. List·Memᴰ·head p) (λ n. List·Memᴰ·tail (sort-mem es x n)) (insert-cases e (sort es) x m)
-
-pub mem-sort : (es : List Entry) (x : Entry) → List·Memᴰ x es → List·Memᴰ x (sort es)
-mem-sort [] x m = m
-mem-sort (e ∷ es) x m =
-    ⊎-elim (λ p. Memᴰ·cast p (insert-new e (sort es))) (λ n. insert-old e (sort es) x (mem-sort es x n)) (List·Memᴰ·cases-cons m)
-
-pub fresh-sort : (w : ℕ) (es : List Entry) → find w es ≡ none → find w (sort es) ≡ none
-fresh-sort w es f = none-find w (sort es) (λ x m. find-none w es f x (sort-mem es x m))
-
-pub sort-ascending : (es : List Entry) → Distinct es → Ascending (sort es)
-sort-ascending [] d = tt
-sort-ascending (e ∷ es) d = insert-ascending e (sort es) (sort-ascending es (d .1)) (fresh-sort (e .word) es (d .0))
-
-pub sort-length : (es : List Entry) → length (sort es) ≡ length es
-sort-length [] = refl
-sort-length (e ∷ es) = insert-length e (sort es) ∙ ap suc (sort-length es)
-
 pub mem-perm : {ds es : List Entry} → List·Permᴰ ds es → (x : Entry) → List·Memᴰ x es → List·Memᴰ x ds
 mem-perm List·Permᴰ·nil x m = m
 mem-perm (List·Permᴰ·cons q s) x m =
@@ -72,6 +52,22 @@ mem-perm (List·Permᴰ·swap p q) x m =
     (λ n. ⊎-elim (λ e. List·Memᴰ·head (e ∙ sym p)) (λ k. List·Memᴰ·tail (List·Memᴰ·tail k)) (List·Memᴰ·cases-cons n))
     (List·Memᴰ·cases-cons m)
 mem-perm (List·Permᴰ·trans s t) x m = mem-perm s x (mem-perm t x m)
+
+pub sort-mem : (es : List Entry) (x : Entry) → List·Memᴰ x (sort es) → List·Memᴰ x es
+sort-mem es = mem-perm (Permᴰ·symm (sort-perm es))
+
+pub mem-sort : (es : List Entry) (x : Entry) → List·Memᴰ x es → List·Memᴰ x (sort es)
+mem-sort es = mem-perm (sort-perm es)
+
+pub fresh-sort : (w : ℕ) (es : List Entry) → find w es ≡ none → find w (sort es) ≡ none
+fresh-sort w es f = none-find w (sort es) (λ x m. find-none w es f x (sort-mem es x m))
+
+pub sort-ascending : (es : List Entry) → Distinct es → Ascending (sort es)
+sort-ascending [] d = tt
+sort-ascending (e ∷ es) d = insert-ascending e (sort es) (sort-ascending es (d .1)) (fresh-sort (e .word) es (d .0))
+
+pub sort-length : (es : List Entry) → length (sort es) ≡ length es
+sort-length es = perm-length (sort-perm es)
 
 pub find-perm : {ds es : List Entry} → List·Permᴰ ds es → (w : ℕ) → find w ds ≡ none → find w es ≡ none
 find-perm {ds} {es} s w f = none-find w es (λ x m. find-none w ds f x (mem-perm s x m))
