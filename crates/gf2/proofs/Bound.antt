@@ -9,7 +9,6 @@ use mathlib.Core.Logic.{⊎-elim}
 use mathlib.Core.List.{List, [], _∷_, Sublistᴰ, Sublistᴰ·refl, List·Permᴰ, Permᴰ·symm, Permᴰ·map, map}
 use lib.Dec.{ltb}
 use borrow.Author.Tests.{lt-ltb, le-ltb, ltb-true}
-use Rattle.lists.specs.Lists.{keep}
 use Rattle.lists.proofs.Tests.{by-test, cases, cond-true, cond-false, T→true, true→T}
 use Rattle.lists.proofs.Keep.{keep-none, keep-sub, keep-perm, map-sub}
 use Rattle.gf2.specs.Select.{elem, sums, indep}
@@ -18,9 +17,6 @@ use Rattle.gf2.proofs.Select.{indep-cons, indep-subᴰ, indep-permᴰ}
 
 indep-part : {xs ys : List ℕ} → Sublistᴰ xs ys → indep ys ≡ true → indep xs ≡ true
 indep-part {xs} s e = T→true (indep xs) (indep-subᴰ s (true→T e))
-
-indep-order : {xs ys : List ℕ} → List·Permᴰ ys xs → indep xs ≡ true → indep ys ≡ true
-indep-order s e = indep-permᴰ s ∙ e
 
 -- ---- what is selected under a bound
 
@@ -40,7 +36,7 @@ free-down ds {k} {t} h =
     (λ d l. lt-ltb (d .threshold) t (le-trans (ltb-true (d .threshold) k l) h)) (Sublistᴰ·refl ds)))
 
 pub free-perm : (t : ℕ) {ds es : List Due} → List·Permᴰ ds es → Free t es → Free t ds
-free-perm t s = indep-order (Permᴰ·map (λ d. d .vector) (keep-perm (λ d. ltb (d .threshold) t) s))
+free-perm t s e = indep-permᴰ (Permᴰ·map (λ d. d .vector) (keep-perm (λ d. ltb (d .threshold) t) s)) ∙ e
 
 -- ---- the laws of the bound
 
@@ -95,20 +91,10 @@ abbrev pub fall : ℕ → Due → List Due → ℕ
 fall zero d ds = zero
 fall (suc t) d ds = cond (ltb (d .threshold) (suc t) && elem (d .vector) (sums (under (suc t) ds))) (fall t d ds) (suc t)
 
-under-taken : (t : ℕ) (d : Due) (ds : List Due) → ltb (d .threshold) t ≡ true → under t (d ∷ ds) ≡ d .vector ∷ under t ds
-under-taken t d ds h = ap (map (λ (x : Due). x .vector)) (cond-true (d ∷ keep (λ x. ltb (x .threshold) t) ds) (keep (λ x. ltb (x .threshold) t) ds) h)
-
-under-left : (t : ℕ) (d : Due) (ds : List Due) → ltb (d .threshold) t ≡ false → under t (d ∷ ds) ≡ under t ds
-under-left t d ds h = ap (map (λ (x : Due). x .vector)) (cond-false (d ∷ keep (λ x. ltb (x .threshold) t) ds) (keep (λ x. ltb (x .threshold) t) ds) h)
-
 -- where the others are independent: one more is not, exactly when it is under the bound and depends on them
 pub free-cons : (t : ℕ) (d : Due) (ds : List Due) → Free t ds
     → indep (under t (d ∷ ds)) ≡ not (ltb (d .threshold) t && elem (d .vector) (sums (under t ds)))
-free-cons t d ds h =
-    cases (ltb (d .threshold) t)
-    (λ l. ap indep (under-taken t d ds l) ∙ indep-more (d .vector) (under t ds) h
-    ∙ sym (ap (λ (b : Bool). not (b && elem (d .vector) (sums (under t ds)))) l))
-    (λ g. ap indep (under-left t d ds g) ∙ h ∙ sym (ap (λ (b : Bool). not (b && elem (d .vector) (sums (under t ds)))) g))
+free-cons t d ds h = cases (ltb (d .threshold) t) (λ l. rw l (indep-more (d .vector) (under t ds) h)) (λ g. rw g h)
 
 cond-flip : (b : Bool) {c : Bool} (x : ℕ) {y z : ℕ} → c ≡ not b → y ≡ z → cond b y x ≡ cond c x z
 cond-flip true x {z = z} e q = q ∙ sym (cond-false x z e)

@@ -3,7 +3,7 @@
 use mathlib.Core.Path.{_≡_, refl, sym, ap, ap₂, _∙_, subst, subst₂}
 use mathlib.Core.Logic.{⊎-elim}
 use mathlib.Core.List.{List, [], _∷_, List·Permᴰ, Permᴰ·refl, List·Permᴰ·cons, List·Permᴰ·swap, List·Permᴰ·trans}
-use Prim.Native.Nat.{ℕ, zero, suc, _/_, _%_, _^_, _<_}
+use Prim.Native.Nat.{ℕ, zero, suc, _/_, _%_, _^_, _≤_, _<_, zero-le}
 use native.Mathlib.Nat.{zero-lt-suc, not-suc-le-zero, le-of-suc-le-suc}
 use native.Mathlib.Omega.{arith}
 use lib.Bits.{bitOr, or-zero-r}
@@ -15,6 +15,20 @@ use Rattle.gf2.specs.Select.{elem, putIf, chosen}
 use Rattle.gf2.proofs.Bit.{low2, bit-low, bit-suc, half-pow, even-pow, bit-pow-same}
 use Rattle.lists.proofs.Tests.{or-l, or-r, or-cases}
 use Rattle.gf2.proofs.Lowest.{or-low, or-half, bit-outside, or-outside}
+
+-- ---- how many
+
+pub chosen-none : (rs : List ℕ) → chosen 0 rs ≡ []
+chosen-none [] = refl
+chosen-none (r ∷ rs) = chosen-none rs
+
+pub chosen-length : (m : ℕ) (rs : List ℕ) → length (chosen m rs) ≤ length rs
+chosen-length m [] = zero-le
+chosen-length m (r ∷ rs) = go (m % 2) (chosen-length (m / 2) rs)
+  where
+    go : (d : ℕ) → length (chosen (m / 2) rs) ≤ length rs → length (putIf d r (chosen (m / 2) rs)) ≤ suc (length rs)
+    go zero h = omega arith
+    go (suc d) h = omega arith
 
 -- ---- the live vectors of an occupied row more, and of one less
 

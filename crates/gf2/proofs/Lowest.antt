@@ -69,14 +69,11 @@ tz-low (suc n) x j h = go (x % 2) refl (trailingZeros n (x / 2)) (λ j. tz-low n
     go (suc d) e t ih j h = absurd (not-suc-le-zero h)
 
 pub tz-lt : (n x : ℕ) → x < 2 ^ n → (x ≡ 0 → ⊥) → trailingZeros n x < n
-tz-lt n x h ne = lt-of-le-ne (trailing-le n x) (λ e. ne (bit-ext x 0 (λ i. go e i ∙ sym (bit-zero i))))
+tz-lt n x h ne = lt-of-le-ne (trailing-le n x) (λ e. ne (bit-ext x 0 (λ i. go e i (decLt i n) ∙ sym (bit-zero i))))
   where
-    go : trailingZeros n x ≡ n → (i : ℕ) → bit i x ≡ 0
-    go e i = pick (decLt i n)
-      where
-        pick : Dec (i < n) → bit i x ≡ 0
-        pick (yes l) = tz-low n x i (subst (λ (t : ℕ). i < t) (sym e) l)
-        pick (no f) = bit-high n i x h (omega arith)
+    go : trailingZeros n x ≡ n → (i : ℕ) → Dec (i < n) → bit i x ≡ 0
+    go e i (yes l) = tz-low n x i (subst (λ (t : ℕ). i < t) (sym e) l)
+    go e i (no f) = bit-high n i x h (omega arith)
 
 pub tz-pow : (n i : ℕ) → i < n → trailingZeros n (2 ^ i) ≡ i
 unfolding trailingZeros
