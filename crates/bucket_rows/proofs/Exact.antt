@@ -1,18 +1,18 @@
 -- `soundRows` is exact both ways, at every width: the rows of a matrix that fits, or none does.
 -- Assumes nothing.
-use mathlib.Core.Path.{_≡_, refl, sym, ap, ap₂, _∙_, subst}
+use mathlib.Core.Path.{_≡_, refl, sym, ap, _∙_, subst}
 use mathlib.Core.Logic.{inl, inr, ⊎-elim}
 use mathlib.Core.Bool.{Bool, true, false, true≢false}
 use mathlib.Core.List.{List}
-use Prim.Native.Nat.{ℕ, _^_, _≤_, _<_}
-use native.Mathlib.Decide.{ℕ-discrete, decLt}
+use Prim.Native.Nat.{ℕ, _^_, _<_}
+use native.Mathlib.Decide.{decLt}
 use native.Mathlib.Omega.{arith}
 use lib.Pow.{pow-lt}
-use lib.ListN.{length, getD, List·getD-eq-default}
+use lib.ListN.{length, getD}
 use lib.Seq.{ext-getD}
-use Rattle.gf2.specs.Vectors.{bit, dot, product, combine, units, Inverse}
-use Rattle.gf2.proofs.Bit.{bit-zero, bit-high, bit-ext, bit-pow-other, dot-pow, dot-zero-r}
-use Rattle.gf2.proofs.Linear.{product-bit, combine-pow}
+use Rattle.gf2.specs.Vectors.{bit, product, combine, units, Inverse}
+use Rattle.gf2.proofs.Bit.{bit-zero, bit-high, bit-ext, bit-pow-swap, dot-pow}
+use Rattle.gf2.proofs.Linear.{product-bit, product-lt, combine-pow}
 use Rattle.gf2.proofs.Inverse.{unique, empty, length-units, getD-units}
 use Rattle.bucket_rows.specs.declared.Rows.{Rows}
 use Rattle.bucket_rows.specs.Exact.{FreeRows, Rowed, FoundFree}
@@ -21,10 +21,6 @@ use Rattle.bucket_rows.proofs.Found.{Found, decides}
 use Rattle.bucket_rows.proofs.Free.{FreeBits, cols→bits, bits→cols}
 
 -- ---- the bits of the columns, and the rows
-
-swap : (j a : ℕ) → Dec (j ≡ a) → bit j (2 ^ a) ≡ bit a (2 ^ j)
-swap j a (yes e) = ap₂ (λ (x y : ℕ). bit x (2 ^ y)) e (sym e)
-swap j a (no ne) = bit-pow-other j a ne ∙ sym (bit-pow-other a j (λ e. ne (sym e)))
 
 module _ (n mark : ℕ) (cs K : List ℕ) (inv : Inverse n K cs) where
   -- row j is the unit: the columns show it
@@ -36,16 +32,15 @@ module _ (n mark : ℕ) (cs K : List ℕ) (inv : Inverse n K cs) where
       sym (combine-pow K j) ∙ ap (combine K) (sym (bit-ext (product cs (2 ^ j)) (2 ^ j) (λ a. go a (decLt a n)))) ∙ inv .back (2 ^ j) (pow-lt hj)
     where
       go : (a : ℕ) → Dec (a < n) → bit a (product cs (2 ^ j)) ≡ bit a (2 ^ j)
-      go a (yes h) = sym (seen j a) ∙ f j z a h ∙ swap j a (ℕ-discrete j a)
+      go a (yes h) = sym (seen j a) ∙ f j z a h ∙ bit-pow-swap j a
       go a (no l) =
-          product-bit cs (2 ^ j) a ∙ ap (dot (2 ^ j)) (List·getD-eq-default cs 0 (subst (λ (l : ℕ). l ≤ a) (sym (inv .cols)) (omega arith))) ∙ dot-zero-r (2 ^ j)
-          ∙ sym (bit-high n a (2 ^ j) (pow-lt hj) (omega arith))
+          bit-high (length cs) a (product cs (2 ^ j)) (product-lt cs (2 ^ j)) (omega (arith, inv .cols)) ∙ sym (bit-high n a (2 ^ j) (pow-lt hj) (omega arith))
 
   rows→bits : FreeRows n mark K → FreeBits n mark cs
   rows→bits free j z k h = go (decLt j n)
     where
       go : Dec (j < n) → bit j (getD cs k 0) ≡ bit j (2 ^ k)
-      go (yes l) = seen j k ∙ ap (bit k) (ap (product cs) (sym (free j l z)) ∙ inv .unit j l) ∙ sym (swap j k (ℕ-discrete j k))
+      go (yes l) = seen j k ∙ ap (bit k) (ap (product cs) (sym (free j l z)) ∙ inv .unit j l) ∙ bit-pow-swap k j
       go (no f) = bit-high n j (getD cs k 0) (inv .cols-lt k) (omega arith) ∙ sym (bit-high n j (2 ^ k) (pow-lt h) (omega arith))
 
 -- ---- THE MEANING of `soundRows`

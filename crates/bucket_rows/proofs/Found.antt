@@ -24,7 +24,7 @@ use Rattle.gf2.proofs.Bit.{bit-lt, bit-pow-same, xor-cancel}
 use Rattle.gf2.proofs.Linear.{flip-on, product-xor, product-bit, product-lt, product-colStep}
 use Rattle.gf2.proofs.Inverse.{replace-row, product-units, empty}
 use Rattle.gf2.proofs.Lowest.{bit-or, bit-outside, outside-lt, tz-pow}
-use Rattle.gf2.proofs.Chosen.{chosen-add}
+use Rattle.gf2.proofs.Chosen.{chosen-none, chosen-length, chosen-add}
 use Rattle.gf2.proofs.Solutions.{colStep-product}
 use Rattle.gf2.proofs.Select.{indep-cons, indep-subᴰ, indep-permᴰ, sums-permᴰ}
 use Rattle.gf2.proofs.Depend.{depends-test}
@@ -39,18 +39,6 @@ Found n cs r = ((r .ok ≡ true) × Inverse n (r .rows) cs) ⊎ ((r .ok ≡ fals
 
 -- ---- chosen rows
 
-chosen-none : (rs : List ℕ) → chosen 0 rs ≡ []
-chosen-none [] = refl
-chosen-none (r ∷ rs) = chosen-none rs
-
-chosen-le : (m : ℕ) (rs : List ℕ) → length (chosen m rs) ≤ length rs
-chosen-le m [] = le-refl 0
-chosen-le m (r ∷ rs) = go (m % 2) (chosen-le (m / 2) rs)
-  where
-    go : (d : ℕ) → length (chosen (m / 2) rs) ≤ length rs → length (putIf d r (chosen (m / 2) rs)) ≤ suc (length rs)
-    go zero h = omega arith
-    go (suc d) h = omega arith
-
 -- a choice as long as the list is the list
 chosen-all : (m : ℕ) (rs : List ℕ) → length (chosen m rs) ≡ length rs → chosen m rs ≡ rs
 chosen-all m [] e = refl
@@ -58,7 +46,7 @@ chosen-all m (r ∷ rs) e = go (m % 2) e (chosen-all (m / 2) rs)
   where
     go : (d : ℕ) → length (putIf d r (chosen (m / 2) rs)) ≡ suc (length rs) → (length (chosen (m / 2) rs) ≡ length rs → chosen (m / 2) rs ≡ rs)
         → putIf d r (chosen (m / 2) rs) ≡ r ∷ rs
-    go zero e ih = absurd (omega (arith, chosen-le (m / 2) rs))
+    go zero e ih = absurd (omega (arith, chosen-length (m / 2) rs))
     go (suc d) e ih = ap (λ (l : List ℕ). r ∷ l) (ih (omega arith))
 
 -- ---- what holds after j columns
