@@ -19,7 +19,7 @@ use Rattle.lists.proofs.Sorts.{distinct-perm, mem-perm}
 use Rattle.gf2.specs.Vectors.{bit, product, solStep, units}
 use Rattle.gf2.specs.Select.{elem, sums, chosen}
 use Rattle.gf2.proofs.Select.{sums-cons, zero-in, sums-perm}
-use Rattle.gf2.proofs.Chosen.{Row, elem→row}
+use Rattle.gf2.proofs.Chosen.{Row, chosen-none, elem→row}
 use Rattle.gf2.proofs.Lowest.{tz-pow}
 use Rattle.gf2.proofs.Loops.{length-solStep}
 use Rattle.gf2.proofs.Solutions.{plan-set, plan-kept}
@@ -88,18 +88,11 @@ unfolding emptyBucket
 holds-empty n r = record {
   matrix = units n;
   sound = empty-sound n r;
-  lives = none-marked (units n);
+  lives = subst⁻¹ (λ (l : List ℕ). Perm l []) (chosen-none (units n)) ∣ List·Permᴰ·nil ∣₁;
   plans = λ e m. absurd (List·Memᴰ·not-nil m);
   wide = length-replicate r 0;
   distinct = tt;
 }
-  where
-    nil : (rs : List ℕ) → chosen 0 rs ≡ []
-    nil [] = refl
-    nil (r ∷ rs) = nil rs
-
-    none-marked : (rs : List ℕ) → Perm (chosen 0 rs) []
-    none-marked rs = subst⁻¹ (λ (l : List ℕ). Perm l []) (nil rs) ∣ List·Permᴰ·nil ∣₁
 
 pub holds-perm : {n r : ℕ} {b : Bucket} {rows qs : List Entry} → Holds n r b rows → List·Permᴰ rows qs → Holds n r b qs
 holds-perm h s = record {

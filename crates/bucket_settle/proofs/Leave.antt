@@ -1,6 +1,6 @@
 -- The words that leave when the bound falls: found row by row, inserted in order, withdrawn one by one.
 -- Assumes nothing.
-use Prim.Native.Nat.{ℕ, zero, suc, _+_, _-_, _/_, _%_, _^_, _≤_, _<_, zero-le}
+use Prim.Native.Nat.{ℕ, zero, suc, _+_, _-_, _/_, _%_, _^_, _≤_, _<_}
 use native.Mathlib.Nat.{div-one, pow-suc, div-div-eq-div-mul}
 use native.Mathlib.Numerals.{add-one}
 use native.Mathlib.Omega.{arith}
@@ -17,6 +17,7 @@ use Rattle.lists.proofs.Parts.{first-next, first-past}
 use Rattle.lists.proofs.Keep.{length-sub}
 use Rattle.lists.proofs.Sorts.{sort-length}
 use Rattle.gf2.specs.Select.{putIf, chosen}
+use Rattle.gf2.proofs.Chosen.{chosen-length}
 use Rattle.bucket.specs.declared.Bucket.{Bucket}
 use Rattle.bucket.specs.Bucket.{lookup, withdraw}
 use Rattle.bucket_settle.specs.declared.Outgoing.{Outgoing}
@@ -30,14 +31,6 @@ use Rattle.bucket_settle.proofs.Arrays.{count-of, insert-law}
 pub keep-within : {A : Type 0} (p : A → Bool) (xs : List A) → Sublistᴰ (keep p xs) xs
 keep-within p [] = Sublistᴰ·slnil
 keep-within p (x ∷ xs) = by-test (λ l. Sublistᴰ l (x ∷ xs)) (p x) (λ t. Sublistᴰ·cons-cons refl (keep-within p xs)) (λ f. Sublistᴰ·cons (keep-within p xs))
-
-pub chosen-length : (mark : ℕ) (rs : List ℕ) → length (chosen mark rs) ≤ length rs
-chosen-length mark [] = zero-le
-chosen-length mark (r ∷ rs) = go (mark % 2) (chosen-length (mark / 2) rs)
-  where
-    go : (d : ℕ) → length (chosen (mark / 2) rs) ≤ length rs → length (putIf d r (chosen (mark / 2) rs)) ≤ suc (length rs)
-    go zero h = omega arith
-    go (suc d) h = omega arith
 
 -- ---- row by row
 

@@ -16,6 +16,7 @@ use Rattle.lists.proofs.Sorts.{sort-order, sort-same, ascending-distinct}
 use Rattle.gf2.specs.Select.{elem, sums, indep, chosen}
 use Rattle.gf2.specs.Bound.{Free, boundOf}
 use Rattle.gf2.proofs.Select.{indep-cons, indep-perm}
+use Rattle.gf2.proofs.Chosen.{chosen-length}
 use Rattle.gf2.proofs.Depend.{occupied-indep}
 use Rattle.gf2.proofs.Bound.{fall-bound}
 use Rattle.gf2.proofs.Loops.{length-solStep}
@@ -29,7 +30,7 @@ use Rattle.bucket_rows.proofs.Exact.{found-is}
 use Rattle.bucket_settle.specs.Settle.{SoundBucket, listed, contents, leaving, lowered, Settlement, ahead, settle}
 use Rattle.bucket_settle.specs.Steps.{leavingOf}
 use Rattle.bucket_settle.proofs.Hold.{Holds, holds-perm, fresh}
-use Rattle.bucket_settle.proofs.Leave.{keep-within, chosen-length}
+use Rattle.bucket_settle.proofs.Leave.{keep-within}
 use Rattle.bucket_settle.proofs.Fall.{rows-of, rows-ascending, holds-lowered, held, over, seen, under-held, settle-law}
 
 -- ---- a sound bucket holds its rows
