@@ -58,9 +58,6 @@ module _ (n : ℕ) (K : List ℕ) (b : Bucket) (i k : ℕ) (s : Sound n K b) (hi
   abbrev row-of : ℕ
   row-of = trailingZeros n (getD (b .cols) i 0)
 
-  lt-K : (a : ℕ) → a < n → a < length K
-  lt-K a h = subst (λ (l : ℕ). a < l) (sym (s .inverse .rows)) h
-
   row-lt : row-of < n
   row-lt =
       tz-lt n (getD (b .cols) i 0) (s .inverse .cols-lt i)
@@ -74,10 +71,7 @@ module _ (n : ℕ) (K : List ℕ) (b : Bucket) (i k : ℕ) (s : Sound n K b) (hi
   middle = set K i (2 ^ row-of)
 
   middle-i : getD middle i 0 ≡ 2 ^ row-of
-  middle-i = getD-set-same K i (2 ^ row-of) 0 (lt-K i hi)
-
-  length-middle : length middle ≡ length K
-  length-middle = length-set K i (2 ^ row-of)
+  middle-i = getD-set-same K i (2 ^ row-of) 0 (omega (arith, s .inverse .rows))
 
   pub withdraw-sound : Sound n (exchange i row-of middle) (withdrawAt n i k b)
   unfolding withdrawAt
@@ -92,7 +86,7 @@ module _ (n : ℕ) (K : List ℕ) (b : Bucket) (i k : ℕ) (s : Sound n K b) (hi
       at-row a ha e (yes q) =
           subst (λ (a : ℕ). getD (exchange i row-of middle) a 0 ≡ 2 ^ a) (sym q)
           (getD-set-same (set middle i (getD middle row-of 0)) row-of (getD middle i 0) 0
-          (subst (λ (l : ℕ). row-of < l) (sym (length-set middle i (getD middle row-of 0) ∙ length-middle)) (lt-K row-of row-lt))
+          (omega (arith, length-set middle i (getD middle row-of 0), length-set K i (2 ^ row-of), s .inverse .rows, row-lt))
           ∙ middle-i)
       at-row a ha e (no ne) =
           let m0 : bit a (b .mark) ≡ 0 = (let f : bit a (b .mark) - bit a (2 ^ row-of) ≡ 0 = sym (bit-outside a (b .mark) (2 ^ row-of)) ∙ e in omega (arith, bit-pow-other a row-of ne)) in
@@ -121,7 +115,7 @@ module _ (n : ℕ) (K : List ℕ) (b : Bucket) (i k : ℕ) (s : Sound n K b) (hi
           (sym (ap (λ (j : ℕ). exchange i j middle) (sym e) ∙ exchange-same i middle))
           (subst (λ (j : ℕ). Perm (chosen (b .mark) K) (k ∷ chosen (outside (b .mark) (2 ^ j)) (set K i (2 ^ row-of)))) e
           (subst (λ (x : ℕ). Perm (chosen (b .mark) K) (x ∷ chosen (outside (b .mark) (2 ^ i)) (set K i (2 ^ row-of)))) hk
-          ∣ chosen-drop K i (b .mark) (2 ^ row-of) (lt-K i hi) hm ∣₁))
+          ∣ chosen-drop K i (b .mark) (2 ^ row-of) (omega (arith, s .inverse .rows)) hm ∣₁))
       pick (no ne) =
           let kj : ℕ = getD K row-of 0 in
           let c0 : List ℕ = chosen (outside (b .mark) (2 ^ i)) (set K i 0) in
@@ -131,13 +125,13 @@ module _ (n : ℕ) (K : List ℕ) (b : Bucket) (i k : ℕ) (s : Sound n K b) (hi
           let left : Perm (chosen (b .mark) (set K i kj)) (kj ∷ chosen (outside (b .mark) (2 ^ row-of)) (exchange i row-of middle)) =
           subst₂ (λ (x : ℕ) (l : List ℕ). Perm (chosen (b .mark) (set K i kj)) (x ∷ chosen (outside (b .mark) (2 ^ row-of)) l))
           (getD-set-other K i row-of kj 0 (λ e. ne (sym e))) (sym whole)
-          ∣ chosen-drop (set K i kj) row-of (b .mark) (2 ^ row-of) (subst (λ (l : ℕ). row-of < l) (sym (length-set K i kj)) (lt-K row-of row-lt)) (row-occupied ne) ∣₁ in
+          ∣ chosen-drop (set K i kj) row-of (b .mark) (2 ^ row-of) (omega (arith, length-set K i kj, s .inverse .rows, row-lt)) (row-occupied ne) ∣₁ in
           let right : Perm (chosen (b .mark) (set K i kj)) (kj ∷ c0) =
           subst₂ (λ (x : ℕ) (l : List ℕ). Perm (chosen (b .mark) (set K i kj)) (x ∷ chosen (outside (b .mark) (2 ^ i)) l))
-          (getD-set-same K i kj 0 (lt-K i hi)) (set-set K i kj 0)
-          ∣ chosen-drop (set K i kj) i (b .mark) 0 (subst (λ (l : ℕ). i < l) (sym (length-set K i kj)) (lt-K i hi)) hm ∣₁ in
+          (getD-set-same K i kj 0 (omega (arith, s .inverse .rows))) (set-set K i kj 0)
+          ∣ chosen-drop (set K i kj) i (b .mark) 0 (omega (arith, length-set K i kj, s .inverse .rows)) hm ∣₁ in
           let own : Perm (chosen (b .mark) K) (k ∷ c0) =
-          subst (λ (x : ℕ). Perm (chosen (b .mark) K) (x ∷ c0)) hk ∣ chosen-drop K i (b .mark) 0 (lt-K i hi) hm ∣₁ in
+          subst (λ (x : ℕ). Perm (chosen (b .mark) K) (x ∷ c0)) hk ∣ chosen-drop K i (b .mark) 0 (omega (arith, s .inverse .rows)) hm ∣₁ in
           Perm·trans own (Perm·cons k (Perm·cons-inv {a = kj} (Perm·trans (Perm·symm right) left)))
 
 -- ---- live
