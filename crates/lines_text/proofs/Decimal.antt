@@ -1,7 +1,6 @@
 -- Decimal numbers: a field read from index i on, and a number printed digit by digit from the last on.
 -- Assumes nothing.
 use mathlib.Core.Path.{_≡_, refl, sym, _∙_}
-use mathlib.Core.Bool.{Bool, true, false, cond}
 use mathlib.Core.List.{List, [], _∷_}
 use Prim.Native.Nat.{ℕ, zero, suc, _+_, _-_, _*_, _/_, _%_, _^_, _≤_, _<_}
 use native.Mathlib.Nat.{pow-suc}
@@ -12,6 +11,7 @@ use lib.ListN.{length, getD, take, drop, set, length-set, length-drop, drop-of-l
 use lib.Seq.{take-all, drop-cons}
 use borrow.Author.Tests.{le-leb, lt-leb, lt-ltb, le-ltb, eq-eqb, ne-eqb, leb-true}
 use Rattle.lists.proofs.Parts.{drop-set}
+use Rattle.lists.proofs.Tests.{cases}
 use Rattle.lines_text.specs.declared.Number.the-variants.{Of, Wrong}
 use Rattle.lines_text.specs.Decimal.{digitOf, isDigit, grown, readOn, numberTo, digitsThen, mostDigits}
 use Rattle.lines_text.specs.Parsed.{AtMost}
@@ -68,27 +68,16 @@ module _ (limit : ℕ) where
   read-most : (n : ℕ) (s : List ℕ) → n ≤ limit → AtMost limit (readOn limit n s)
   unfolding readOn
   read-most n [] l = l
-  read-most n (b ∷ s) l = by-tests (isDigit b) (leb (grown n b) limit) refl (read-most (grown n b) s)
-    where
-      by-tests : (t u : Bool) → leb (grown n b) limit ≡ u → (grown n b ≤ limit → AtMost limit (readOn limit (grown n b) s))
-          → AtMost limit (cond t (cond u (readOn limit (grown n b) s) Wrong) Wrong)
-      by-tests true true e ih = ih (leb-true (grown n b) limit e)
-      by-tests true false e ih = tt
-      by-tests false u e ih = tt
+  read-most n (b ∷ s) l =
+      cases (isDigit b)
+      (λ d. cases (leb (grown n b) limit) (λ e. rw (d, e) (read-most (grown n b) s (leb-true (grown n b) limit e))) (λ e. rw (d, e) tt))
+      (λ d. rw d tt)
 
   pub number-most : (s : List ℕ) → AtMost limit (numberTo limit s)
   unfolding numberTo
   number-most [] = tt
-  number-most (b ∷ []) = by-test (eqb b 48)
-    where
-      by-test : (t : Bool) → AtMost limit (cond t (Of 0) (readOn limit 0 (b ∷ [])))
-      by-test true = omega arith
-      by-test false = read-most 0 (b ∷ []) (omega arith)
-  number-most (b ∷ c ∷ s) = by-test (eqb b 48)
-    where
-      by-test : (t : Bool) → AtMost limit (cond t Wrong (readOn limit 0 (b ∷ c ∷ s)))
-      by-test true = tt
-      by-test false = read-most 0 (b ∷ c ∷ s) (omega arith)
+  number-most (b ∷ []) = cases (eqb b 48) (λ e. rw e (omega arith)) (λ e. rw e (read-most 0 (b ∷ []) (omega arith)))
+  number-most (b ∷ c ∷ s) = cases (eqb b 48) (λ e. rw e tt) (λ e. rw e (read-most 0 (b ∷ c ∷ s) (omega arith)))
 
 -- ---- a number printed
 

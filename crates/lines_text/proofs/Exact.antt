@@ -1,8 +1,8 @@
 -- A field is read as the number n exactly if n is not above the limit and the field is the decimal of n; for every limit that has no
 -- more digits than are printed. Then the fields of document 01: B1 and B2, PLAN.
 -- Assumes nothing.
-use mathlib.Core.Path.{_≡_, refl, sym, ap, _∙_, subst}
-use mathlib.Core.Bool.{Bool, true, false, cond, _&&_, true≢false}
+use mathlib.Core.Path.{_≡_, refl, sym, _∙_, subst}
+use mathlib.Core.Bool.{Bool, true, false, cond, _&&_}
 use mathlib.Core.List.{List, [], _∷_}
 use Prim.Native.Nat.{ℕ, zero, suc, _+_, _-_, _*_, _/_, _%_, _^_, _≤_, _<_}
 use native.Mathlib.Nat.{pow-suc}
@@ -10,7 +10,6 @@ use native.Mathlib.Omega.{arith}
 use lib.Dec.{eqb, leb, ltb}
 use borrow.Author.Tests.{le-leb, ne-eqb, eqb-true, eqb-false, leb-true, ltb-true, ltb-false}
 use Rattle.lists.proofs.Tests.{cases}
-use Rattle.lines_text.specs.declared.Number.{Number}
 use Rattle.lines_text.specs.declared.Number.the-variants.{Of, Wrong}
 use Rattle.lines_text.specs.Decimal.{digitOf, grown, readOn, onlyZero, numberTo, digitsThen, mostDigits, decimal}
 use Rattle.lines_text.specs.Line.{mostBuckets, mostPlan}
@@ -22,17 +21,8 @@ abbrev pub Exactly : ℕ → Type 0
 Exactly limit =
     (n : ℕ) (s : List ℕ) → (numberTo limit s ≡ Of n → (n ≤ limit) × (s ≡ decimal n)) × ((n ≤ limit) × (s ≡ decimal n) → numberTo limit s ≡ Of n)
 
-said : Number → ℕ
-said (Of n) = n
-said Wrong = 0
-
-isOf : Number → Bool
-isOf (Of n) = true
-isOf Wrong = false
-
 wrong-of : (n : ℕ) → Wrong ≡ Of n → ⊥
-unfolding isOf
-wrong-of n e = true≢false (sym (ap isOf e))
+wrong-of n e = let z : _≡_ {A = ℕ} 0 1 = cc in omega arith
 
 -- one digit less to print
 tenth : (k n : ℕ) → n < 10 ^ suc k → n / 10 < 10 ^ k
@@ -103,8 +93,8 @@ module _ (limit : ℕ) where
   -- the digits of m, which is not 0, and then s: those of the number that is read
   digits-printed : (k m n : ℕ) (s : List ℕ) → limit < 10 ^ suc (suc k) → 0 < m → readOn limit m s ≡ Of n
       → digitsThen (suc (suc k)) m s ≡ digitsThen (suc (suc k)) n []
-  unfolding readOn said
-  digits-printed k m n [] h p e = let q : m ≡ n = ap said e in rw q
+  unfolding readOn
+  digits-printed k m n [] h p e = let q : m ≡ n = cc in rw q
   digits-printed k m n (b ∷ s) h p e =
       let (t, r) = readOn-taken m b n s e in
       let u : grown m b / 10 ≡ m = omega arith in
@@ -113,13 +103,13 @@ module _ (limit : ℕ) where
       digits-enough k m (b ∷ s) l ∙ sym (rw (u, v) at (digits-more (suc k) (grown m b) s (omega arith))) ∙ digits-printed k (grown m b) n s h (omega arith) r
 
   number-printed : (n : ℕ) (s : List ℕ) → limit < 10 ^ mostDigits → numberTo limit s ≡ Of n → s ≡ decimal n
-  unfolding numberTo said
+  unfolding numberTo
   number-printed n [] h e = absurd (wrong-of n e)
   number-printed n (b ∷ s) h e = by-test (eqb b 0x30) refl s e
     where
       by-test : (t : Bool) → eqb b 0x30 ≡ t → (s : List ℕ) → cond t (onlyZero s) (readOn limit 0 (b ∷ s)) ≡ Of n → b ∷ s ≡ decimal n
       by-test true z [] e =
-          let q : 0 ≡ n = ap said e in
+          let q : 0 ≡ n = cc in
           rw (← q, eqb-true b 0x30 z) (sym (digits-last (mostDigits - 1) 0 [] (omega arith)))
       by-test true z (c ∷ s) e = absurd (wrong-of n e)
       by-test false z s e =

@@ -1,17 +1,17 @@
 -- The first place of a byte, looked for from index i on; the parts between such bytes, and the fields of a line.
 -- Assumes nothing.
 use mathlib.Core.Path.{_≡_, refl, ap, _∙_}
-use mathlib.Core.Bool.{Bool, true, false, cond}
 use mathlib.Core.List.{List, [], _∷_}
 use Prim.Native.Nat.{ℕ, suc, _+_, _-_, _≤_, _<_}
 use native.Mathlib.Nat.{zero-add, le-of-suc-le-suc, not-suc-le-zero}
 use native.Mathlib.Numerals.{add-one}
 use native.Mathlib.Omega.{arith}
-use lib.Dec.{eqb}
+use lib.Dec.{eqb, leb}
 use lib.ListN.{length, getD, take, drop, drop-of-length-le, length-drop}
 use lib.Seq.{drop-cons, drop-drop}
-use borrow.Author.Tests.{eq-eqb, ne-eqb}
-use Rattle.lines_text.specs.Line.{space, placeOf, before, parted, bad, ofTwo, ofThree, ofFields, commandOf}
+use borrow.Author.Tests.{eq-eqb, ne-eqb, leb-true, leb-false}
+use Rattle.lists.proofs.Tests.{cases}
+use Rattle.lines_text.specs.Line.{space, placeOf, parted, bad, ofTwo, ofThree, ofFields, commandOf}
 use Rattle.lines_text.specs.Parsed.{between}
 
 -- ---- the first place
@@ -32,38 +32,24 @@ module _ (b i : ℕ) (s : List ℕ) where
 -- ---- the parts
 
 module _ (b : ℕ) where
-  pub parted-some : (s : List ℕ) → parted b s ≡ [] → ⊥
-  unfolding parted
-  parted-some [] e = let z : _≡_ {A = ℕ} 0 1 = cc in omega arith
-  parted-some (x ∷ s) e = by-test (eqb x b) (parted b s) e
-    where
-      by-test : (t : Bool) (ps : List (List ℕ)) → cond t ([] ∷ ps) (before x ps) ≡ [] → ⊥
-      by-test true ps e = let z : _≡_ {A = ℕ} 0 1 = cc in omega arith
-      by-test false [] e = let z : _≡_ {A = ℕ} 0 1 = cc in omega arith
-      by-test false (p ∷ ps) e = let z : _≡_ {A = ℕ} 0 1 = cc in omega arith
-
   -- no b
   pub parted-one : (s : List ℕ) → length s ≤ placeOf b s → parted b s ≡ s ∷ []
   unfolding parted placeOf
   parted-one [] h = refl
-  parted-one (x ∷ s) h = by-test (eqb x b) h (parted-one s)
-    where
-      by-test : (t : Bool) → suc (length s) ≤ cond t 0 (suc (placeOf b s)) → (length s ≤ placeOf b s → parted b s ≡ s ∷ [])
-          → cond t ([] ∷ parted b s) (before x (parted b s)) ≡ (x ∷ s) ∷ []
-      by-test true h ih = absurd (not-suc-le-zero h)
-      by-test false h ih = rw (ih (le-of-suc-le-suc h))
+  parted-one (x ∷ s) h =
+      cases (eqb x b) (λ e. absurd (not-suc-le-zero (rw e at h))) (λ e. rw (e, parted-one s (le-of-suc-le-suc (rw e at h))))
 
   -- the first b parts what is before it from the parts after it
   pub parted-more : (s : List ℕ) → placeOf b s < length s → parted b s ≡ take (placeOf b s) s ∷ parted b (drop (suc (placeOf b s)) s)
   unfolding parted placeOf
   parted-more [] h = absurd (not-suc-le-zero h)
-  parted-more (x ∷ s) h = by-test (eqb x b) h (parted-more s)
-    where
-      by-test : (t : Bool) → cond t 0 (suc (placeOf b s)) < suc (length s)
-          → (placeOf b s < length s → parted b s ≡ take (placeOf b s) s ∷ parted b (drop (suc (placeOf b s)) s))
-          → cond t ([] ∷ parted b s) (before x (parted b s)) ≡ take (cond t 0 (suc (placeOf b s))) (x ∷ s) ∷ parted b (drop (suc (cond t 0 (suc (placeOf b s)))) (x ∷ s))
-      by-test true h ih = refl
-      by-test false h ih = rw (ih (le-of-suc-le-suc h))
+  parted-more (x ∷ s) h = cases (eqb x b) (λ e. rw e) (λ e. rw (e, parted-more s (le-of-suc-le-suc (rw e at h))))
+
+  pub parted-some : (s : List ℕ) → parted b s ≡ [] → ⊥
+  parted-some s e =
+      cases (leb (length s) (placeOf b s))
+      (λ t. let r = parted-one s (leb-true _ _ t) in let z : _≡_ {A = ℕ} 0 1 = cc in omega arith)
+      (λ t. let r = parted-more s (leb-false _ _ t) in let z : _≡_ {A = ℕ} 0 1 = cc in omega arith)
 
   -- with the place counted from the start of s
   pub parted-at : (s : List ℕ) (a : ℕ) → a ≡ placeOf b s → a < length s → parted b s ≡ take a s ∷ parted b (drop (a + 1) s)

@@ -1,13 +1,13 @@
 -- Answers printed: what is written one after the other, and how long it is.
 -- Assumes nothing.
 use mathlib.Core.Path.{_≡_, sym, _∙_}
-use mathlib.Core.Bool.{Bool, true, false, cond}
 use mathlib.Core.List.{List, [], _∷_, _++_}
 use Prim.Native.Nat.{ℕ, zero, suc, _+_, _/_, _%_, _≤_}
 use native.Mathlib.Omega.{arith}
 use lib.Dec.{ltb}
 use lib.ListN.{length, length-append}
 use borrow.Author.Tests.{eq-eqb, ne-eqb}
+use Rattle.lists.proofs.Tests.{cases}
 use Rattle.codec.specs.Parts.{written}
 use Rattle.codec.proofs.Part.{written-append}
 use Rattle.answer.specs.declared.Answer.{Answer}
@@ -22,12 +22,8 @@ use Rattle.lines_text.specs.Printed.{okStart, noStart, printed, mostPrin
 digits-most : (k n : ℕ) (s : List ℕ) → length (digitsThen k n s) ≤ k + length s
 unfolding digitsThen
 digits-most zero n s = omega arith
-digits-most (suc k) n s = by-test (ltb n 10) (digits-most k (n / 10) (digitOf (n % 10) ∷ s))
-  where
-    by-test : (t : Bool) → length (digitsThen k (n / 10) (digitOf (n % 10) ∷ s)) ≤ k + suc (length s)
-        → length (cond t (digitOf n ∷ s) (digitsThen k (n / 10) (digitOf (n % 10) ∷ s))) ≤ suc k + length s
-    by-test true h = omega arith
-    by-test false h = omega arith
+digits-most (suc k) n s =
+    cases (ltb n 10) (λ e. rw e (omega arith)) (λ e. rw e (omega (arith, digits-most k (n / 10) (digitOf (n % 10) ∷ s))))
 
 pub decimal-most : (n : ℕ) → length (decimal n) ≤ mostDigits
 decimal-most n = digits-most mostDigits n []
@@ -35,12 +31,10 @@ decimal-most n = digits-most mostDigits n []
 -- the longest line that is printed
 pub printed-most : (a : Answer) → length (printed a) ≤ mostPrinted
 unfolding printed
-printed-most a = by-test (accepted a)
-  where
-    by-test : (t : Bool)
-        → length (cond t (okStart ++ (decimal (valueOf a) ++ (lf ∷ []))) (noStart ++ (decimal (numberOf a) ++ (lf ∷ [])))) ≤ mostPrinted
-    by-test true = rw (length-append (decimal (valueOf a)) (lf ∷ [])) (omega (arith, decimal-most (valueOf a)))
-    by-test false = rw (length-append (decimal (numberOf a)) (lf ∷ [])) (omega (arith, decimal-most (numberOf a)))
+printed-most a =
+    cases (accepted a)
+    (λ e. rw (e, length-append (decimal (valueOf a)) (lf ∷ [])) (omega (arith, decimal-most (valueOf a))))
+    (λ e. rw (e, length-append (decimal (numberOf a)) (lf ∷ [])) (omega (arith, decimal-most (numberOf a))))
 
 -- ---- an answer
 
