@@ -14,7 +14,6 @@ use Rattle.codec.specs.Bytes.{eqList}
 use Rattle.answer.specs.declared.Answer.the-variants.{Accepted, WrongBuckets}
 use Rattle.model.specs.Model.{State, Call, add, change}
 use Rattle.model.specs.Request as R
-use Rattle.model.specs.Request.{Token}
 use Rattle.model.specs.Machine.{accepted}
 use Rattle.table.specs.Table.{openTable}
 use Rattle.table.specs.Layout.{inRange, lengthOf, numbersOf}
@@ -30,7 +29,7 @@ use Rattle.lines_text.specs.Parsed.{AtMost}
 use Rattle.lines_text.specs.Printed.{printed}
 use Rattle.lines_text.proofs.Decimal.{number-most}
 use Rattle.lines_run.specs.Buffer.{AllReady}
-use Rattle.lines_run.specs.Run.{counted, lineLimit, Turn, obey, refuse, turn, outputFrom, outputOf, tables, output, states}
+use Rattle.lines_run.specs.Run.{counted, lineLimit, Turn, obey, turn, outputFrom, outputOf, tables, output, states}
 
 -- ---- the plan of a command is a byte
 
@@ -44,7 +43,7 @@ open-fits (Of b1) (Of b2) = tt
 open-fits (Of b1) Wrong = tt
 open-fits Wrong y = tt
 
-plan-fits : (c : ℕ → Call Token) → ((p : ℕ) → p ≤ mostPlan → PlanFits (c p)) → (x : Number) → AtMost mostPlan x → CommandFits (planned c x)
+plan-fits : (c : ℕ → Call R.Token) → ((p : ℕ) → p ≤ mostPlan → PlanFits (c p)) → (x : Number) → AtMost mostPlan x → CommandFits (planned c x)
 plan-fits c f (Of p) h = f p h
 plan-fits c f Wrong h = tt
 
@@ -93,18 +92,7 @@ BothStand (some t) (some s) = FlatStands t s
 abbrev pub SameTurn : Turn (List ℕ) → Turn State → Type 0
 SameTurn x y = (x .output ≡ y .output) × BothStand (x .state) (y .state)
 
-module _ (m : Option (List ℕ)) (k : Option State) (h : BothStand m k) where
-  open-same : (b1 b2 : ℕ) → SameTurn (obey tables m (opening b1 b2)) (obey states k (opening b1 b2))
-  open-same b1 b2 =
-      cases (inRange b1 b2)
-      (λ r. rw (open-is b1 b2 .0 r, r)
-      (refl, opening-stands (numbersOf (openTable rows solutions b1 b2)) (record { size = record { buckets1 = b1; buckets2 = b2 }; before = zeros b1 b2; accepted = open-is b1 b2 .0 r })))
-      (λ r. rw (open-is b1 b2 .1 r, r) (refl, h))
-
-  refuse-same : SameTurn (refuse tables m) (refuse states k)
-  refuse-same = (refl, h)
-
-ask-same : (m : Option (List ℕ)) (k : Option State) → BothStand m k → (c : Call Token) → PlanFits c → SameTurn (obey tables m (ask c)) (obey states k (ask c))
+ask-same : (m : Option (List ℕ)) (k : Option State) → BothStand m k → (c : Call R.Token) → PlanFits c → SameTurn (obey tables m (ask c)) (obey states k (ask c))
 ask-same none none h c f = (refl, tt)
 ask-same none (some s) h c f = absurd h
 ask-same (some t) none h c f = absurd h
@@ -113,15 +101,19 @@ ask-same (some t) (some s) h c f =
     (ap printed (refines .says t s p h), refines .goes t s p h)
 
 pub obey-same : (m : Option (List ℕ)) (k : Option State) → BothStand m k → (c : Command) → CommandFits c → SameTurn (obey tables m c) (obey states k c)
-obey-same m k h (opening b1 b2) f = open-same m k h b1 b2
+obey-same m k h (opening b1 b2) f =
+    cases (inRange b1 b2)
+    (λ r. rw (open-is b1 b2 .0 r, r)
+    (refl, opening-stands (numbersOf (openTable rows solutions b1 b2)) (record { size = record { buckets1 = b1; buckets2 = b2 }; before = zeros b1 b2; accepted = open-is b1 b2 .0 r })))
+    (λ r. rw (open-is b1 b2 .1 r, r) (refl, h))
 obey-same m k h (ask c) f = ask-same m k h c f
-obey-same m k h bad f = refuse-same m k h
+obey-same m k h bad f = (refl, h)
 
 turn-same : (m : Option (List ℕ)) (k : Option State) → BothStand m k → (s : List ℕ) → SameTurn (turn tables m s) (turn states k s)
 turn-same m k h s =
     cases (leb (suc (length s)) lineLimit)
     (λ e. rw e (obey-same m k h (commandOf s) (command-fits s)))
-    (λ e. rw e (refuse-same m k h))
+    (λ e. rw e (refl, h))
 
 from-same : (m : Option (List ℕ)) (k : Option State) → BothStand m k → (ps : List (List ℕ)) → outputFrom tables m ps ≡ outputFrom states k ps
 from-same m k h [] = refl

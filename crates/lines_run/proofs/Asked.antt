@@ -22,24 +22,19 @@ admits-all : (t : List ℕ) → Ready t → (x : Read) → x ≡ admitted t x
 admits-all t h (Refused a) = refl
 admits-all t h (Word w) = sym (admits t w (h .shape) (stands-sound t (flatState t) (sound-stands t (h .shape) (h .sound)) .1))
 
-subject-of : (v : Verb) (i : List ℕ) (p : ℕ) → i ≡ subject (callOf v i p)
-subject-of Add i p = refl
-subject-of Set i p = refl
-subject-of Del i p = refl
-subject-of Get i p = refl
-
-nameless : (v : Verb) (i : List ℕ) (p : ℕ) → askOf [] (callOf v i p) ≡ callOf v [] p
-nameless Add i p = refl
-nameless Set i p = refl
-nameless Del i p = refl
-nameless Get i p = refl
+-- the call's identifier, and the call without it
+named : (v : Verb) (i : List ℕ) (p : ℕ) → (i ≡ subject (callOf v i p)) × (askOf [] (callOf v i p) ≡ callOf v [] p)
+named Add i p = (refl, refl)
+named Set i p = (refl, refl)
+named Del i p = (refl, refl)
+named Get i p = (refl, refl)
 
 module _ (t : List ℕ) (h : Ready t) (v : Verb) (i : List ℕ) (p : ℕ) (x : Read) (e : x ≡ readOf i) where
   read : x ≡ admitted t (wordFor (callOf v i p))
-  read = e ∙ ap readOf (subject-of v i p) ∙ admits-all t h (wordFor (callOf v i p))
+  read = e ∙ ap readOf (named v i p .0) ∙ admits-all t h (wordFor (callOf v i p))
 
   pub asked-word : (w : ℕ) → x ≡ Word w → call t (callOf v i p) ≡ served t w (callOf v [] p)
-  asked-word w q = call-word t (callOf v i p) x read w q ∙ ap (served t w) (nameless v i p)
+  asked-word w q = call-word t (callOf v i p) x read w q ∙ ap (served t w) (named v i p .1)
 
   pub asked-refused : (a : Answer) → x ≡ Refused a → call t (callOf v i p) ≡ turnedDown a t
   asked-refused = call-refused t (callOf v i p) x read

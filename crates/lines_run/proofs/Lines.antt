@@ -1,7 +1,6 @@
 -- The lines of an input one after the other, from index i on, and how long what they print is.
 -- Assumes nothing.
 use mathlib.Core.Path.{_≡_, refl, ap, _∙_}
-use mathlib.Core.Bool.{Bool, true, false, cond}
 use mathlib.Core.List.{List, [], _∷_, _++_}
 use mathlib.Core.Option.{Option, none, some}
 use Prim.Native.Nat.{ℕ, suc, _+_, _≤_, _<_}
@@ -10,6 +9,7 @@ use lib.Dec.{leb}
 use lib.ListN.{length, drop, drop-of-length-le}
 use lib.Seq.{drop-cons}
 use borrow.Author.Tests.{le-leb, lt-leb}
+use Rattle.lists.proofs.Tests.{cases}
 use Rattle.lines_text.specs.Line.{lf, placeOf, parted, Command, opening, ask, bad, commandOf}
 use Rattle.lines_text.specs.Parsed.{between}
 use Rattle.lines_text.specs.Printed.{mostPrinted, badLine}
@@ -27,11 +27,7 @@ module _ {T : Type 0} (D : Desk T) where
   obey-most m bad = omega arith
 
   pub turn-most : (m : Option T) (s : List ℕ) → length (turn D m s .output) ≤ mostPrinted
-  turn-most m s = by-test (leb (suc (length s)) lineLimit)
-    where
-      by-test : (t : Bool) → length (cond t (obey D m (commandOf s)) (refuse D m) .output) ≤ mostPrinted
-      by-test true = obey-most m (commandOf s)
-      by-test false = omega arith
+  turn-most m s = cases (leb (suc (length s)) lineLimit) (λ e. rw e (obey-most m (commandOf s))) (λ e. rw e (omega arith))
 
   -- ---- one line, and those after it
 
