@@ -3,7 +3,7 @@
 -- Assumes nothing.
 use Prim.Native.Nat.{ℕ, _+_}
 use native.Mathlib.Omega.{arith}
-use mathlib.Core.Path.{_≡_, refl, sym, ap, ap₂, _∙_, subst, subst⁻¹}
+use mathlib.Core.Path.{_≡_, refl, sym, ap, _∙_, subst, subst⁻¹}
 use mathlib.Core.Bool.{Bool, true, false, cond}
 use mathlib.Core.Logic.{_⊎_, inl, inr, ⊎-elim}
 use mathlib.Core.Option.{none, some}
@@ -68,40 +68,23 @@ module _ (L1 L2 : Level) (s : State) where
 
 -- ---- calls in front of others
 
-adds-append : (cs ds : List (Call ℕ)) → addsIn (cs ++ ds) ≡ addsIn cs + addsIn ds
-adds-append [] ds = omega arith
-adds-append (add w p ∷ cs) ds = omega (arith, adds-append cs ds)
-adds-append (change w p ∷ cs) ds = adds-append cs ds
-adds-append (withdraw w ∷ cs) ds = adds-append cs ds
-adds-append (query w ∷ cs) ds = adds-append cs ds
-
-withdrawals-append : (cs ds : List (Call ℕ)) → withdrawalsIn (cs ++ ds) ≡ withdrawalsIn cs + withdrawalsIn ds
-withdrawals-append [] ds = omega arith
-withdrawals-append (add w p ∷ cs) ds = withdrawals-append cs ds
-withdrawals-append (change w p ∷ cs) ds = withdrawals-append cs ds
-withdrawals-append (withdraw w ∷ cs) ds = omega (arith, withdrawals-append cs ds)
-withdrawals-append (query w ∷ cs) ds = withdrawals-append cs ds
-
-live-append : (v : ℕ) (b : Bool) (cs ds : List (Call ℕ)) → liveBy v b (cs ++ ds) ≡ liveBy v (liveBy v b cs) ds
-live-append v b [] ds = refl
-live-append v b (add w p ∷ cs) ds = live-append v (cond (eqb v w) true b) cs ds
-live-append v b (change w p ∷ cs) ds = live-append v b cs ds
-live-append v b (withdraw w ∷ cs) ds = live-append v (cond (eqb v w) false b) cs ds
-live-append v b (query w ∷ cs) ds = live-append v b cs ds
-
-plan-append : (v q : ℕ) (cs ds : List (Call ℕ)) → planBy v q (cs ++ ds) ≡ planBy v (planBy v q cs) ds
-plan-append v q [] ds = refl
-plan-append v q (add w p ∷ cs) ds = plan-append v (cond (eqb v w) p q) cs ds
-plan-append v q (change w p ∷ cs) ds = plan-append v (cond (eqb v w) p q) cs ds
-plan-append v q (withdraw w ∷ cs) ds = plan-append v q cs ds
-plan-append v q (query w ∷ cs) ds = plan-append v q cs ds
+counts-append : (cs ds : List (Call ℕ)) → (addsIn (cs ++ ds) ≡ addsIn cs + addsIn ds) × (withdrawalsIn (cs ++ ds) ≡ withdrawalsIn cs + withdrawalsIn ds)
+counts-append [] ds = (omega arith, omega arith)
+counts-append (add w p ∷ cs) ds = let h = counts-append cs ds in (omega arith, h .1)
+counts-append (change w p ∷ cs) ds = counts-append cs ds
+counts-append (withdraw w ∷ cs) ds = let h = counts-append cs ds in (h .0, omega arith)
+counts-append (query w ∷ cs) ds = counts-append cs ds
 
 -- what the calls tell of v, after what b and q tell of it
 abbrev Told : ℕ → Bool → ℕ → List (Call ℕ) → State → Type 0
 Told v b q cs t = find v (t .live) ≡ cond (liveBy v b cs) (some (planBy v q cs)) none
 
 told-append : (v : ℕ) (b : Bool) (q : ℕ) (cs ds : List (Call ℕ)) (t : State) → Told v (liveBy v b cs) (planBy v q cs) ds t → Told v b q (cs ++ ds) t
-told-append v b q cs ds t h = h ∙ sym (ap₂ (λ (x : Bool) (p : ℕ). cond x (some p) none) (live-append v b cs ds) (plan-append v q cs ds))
+told-append v b q [] ds t h = h
+told-append v b q (add w p ∷ cs) ds t h = told-append v (cond (eqb v w) true b) (cond (eqb v w) p q) cs ds t h
+told-append v b q (change w p ∷ cs) ds t h = told-append v b (cond (eqb v w) p q) cs ds t h
+told-append v b q (withdraw w ∷ cs) ds t h = told-append v (cond (eqb v w) false b) q cs ds t h
+told-append v b q (query w ∷ cs) ds t h = told-append v b q cs ds t h
 
 -- ---- calls that are accepted one by one
 
@@ -114,7 +97,7 @@ module _ (L1 L2 : Level) where
   count-all s (d ∷ ds) a =
       let t : State = step L1 L2 s d .after in
       let one = subst (λ (x : Bool). length (t .live) + withdrawalsIn (cond x (d ∷ []) []) ≡ length (s .live) + addsIn (cond x (d ∷ []) [])) (a .0) (count-step L1 L2 s d) in
-      omega (arith, one, count-all t ds (a .1), adds-append (d ∷ []) ds, withdrawals-append (d ∷ []) ds)
+      omega (arith, one, count-all t ds (a .1), counts-append (d ∷ []) ds)
 
   told-all : (v : ℕ) (s : State) → Valid L1 L2 s → (b : Bool) (q : ℕ) → Told v b q [] s → (ds : List (Call ℕ)) → AllAccepted M s ds → Told v b q ds (after M s ds)
   told-all v s w b q h [] a = h
@@ -177,7 +160,7 @@ module _ {C : Type 0} (L1 L2 : Level) (N : Machine State C) (f : C → List (Cal
   count-after s v (c ∷ cs) =
       let t : State = N .next s c in
       subst⁻¹ (λ (l : List (Call ℕ)). length (after N t cs .live) + withdrawalsIn l ≡ length (s .live) + addsIn l) (taken-cons s c cs)
-      (omega (arith, count-one s c v, count-after t (k .keeps s c v) cs, adds-append (took s c) (taken t cs), withdrawals-append (took s c) (taken t cs)))
+      (omega (arith, count-one s c v, count-after t (k .keeps s c v) cs, counts-append (took s c) (taken t cs)))
 
   -- v is live, and with the plan, as the accepted calls tell; b and q tell of it before them
   pub told-after : (v : ℕ) (s : State) → Valid L1 L2 s → (b : Bool) (q : ℕ) → find v (s .live) ≡ cond b (some q) none → (cs : List C)
