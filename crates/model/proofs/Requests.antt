@@ -62,14 +62,11 @@ stands-for = record { keeps = keeps; each = each }
     each s (ask c) v = done-one firstLevel secondLevel s (byWord c) (serve s c) (serve-each s c)
 
 -- a refused call changes nothing
-serve-keeps : (s : State) (c : Call Token) → accepted (serve s c .answer) ≡ false → serve s c .after ≡ s
-serve-keeps s c r =
+pub respond-keeps : (s : State) (q : Request) → accepted (respond s q .answer) ≡ false → respond s q .after ≡ s
+respond-keeps s (ask c) r =
     ⊎-elim (λ h. h .1)
     (λ e. ap (λ (o : Outcome). o .after) e ∙ refused-keeps firstLevel secondLevel s (byWord c) (sym (ap (λ (o : Outcome). accepted (o .answer)) e) ∙ r))
     (serve-each s c)
-
-pub respond-keeps : (s : State) (q : Request) → accepted (respond s q .answer) ≡ false → respond s q .after ≡ s
-respond-keeps s (ask c) r = serve-keeps s c r
 
 -- ---- causes 4 and 5
 
@@ -95,12 +92,9 @@ step-never L1 L2 s (change w p) = live-never s _ (find w (s .live))
 step-never L1 L2 s (withdraw w) = live-never s _ (find w (s .live))
 step-never L1 L2 s (query w) = live-never s _ (find w (s .live))
 
-serve-never : (s : State) (c : Call Token) → Never45 (numberOf (serve s c .answer))
-serve-never s c = go (wordFor c) (reads c)
+pub respond-never : (s : State) (q : Request) → Never45 (numberOf (respond s q .answer))
+respond-never s (ask c) = go (wordFor c) (reads c)
   where
     go : (r : Read) → Reads c r → Never45 (numberOf (serveRead s c r .answer))
     go (Refused a) h = omega arith
     go (Word w) h = step-never firstLevel secondLevel s (askOf w c)
-
-pub respond-never : (s : State) (q : Request) → Never45 (numberOf (respond s q .answer))
-respond-never s (ask c) = serve-never s c
