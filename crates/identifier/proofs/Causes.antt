@@ -2,7 +2,7 @@
 -- Assumes nothing.
 use mathlib.Core.Path.{_≡_, refl, sym, ap, _∙_, subst, subst⁻¹}
 use mathlib.Core.Logic.{_⊎_, inl, inr, _↔_}
-use mathlib.Core.Bool.{Bool, true, false, cond, true≢false}
+use mathlib.Core.Bool.{true, false, true≢false}
 use mathlib.Core.List.{List, [], _∷_}
 use Prim.Native.Nat.{ℕ, zero, suc, _≤_, _<_, zero-le, suc-le-suc}
 use native.Mathlib.Nat.{le-refl, le-of-lt, le-antisymm, lt-irrefl, lt-of-lt-of-le, not-suc-le-zero, le-of-suc-le-suc}
@@ -33,8 +33,8 @@ unfolding firstRefused
 first-refused [] = record { within = zero-le; before = λ j h. absurd (not-suc-le-zero h); here = λ h. absurd (not-suc-le-zero h) }
 first-refused (b ∷ s) =
     by-test (allowed b)
-    (λ e. subst (First (b ∷ s)) (sym (ap (λ (t : Bool). cond t (suc (firstRefused s)) 0) e)) (next e (first-refused s)))
-    (λ e. subst (First (b ∷ s)) (sym (ap (λ (t : Bool). cond t (suc (firstRefused s)) 0) e)) (record { within = zero-le; before = λ j h. absurd (not-suc-le-zero h); here = λ h. e }))
+    (λ e. rw e (next e (first-refused s)))
+    (λ e. rw e (record { within = zero-le; before = λ j h. absurd (not-suc-le-zero h); here = λ h. e }))
   where
     earlier : (i : ℕ) → allowed b ≡ true → AllowedTo s i → AllowedTo (b ∷ s) (suc i)
     earlier i e f zero h = e

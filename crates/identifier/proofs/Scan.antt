@@ -27,14 +27,6 @@ scan i h (b ∷ bs) = cond (allowed b) (scan (suc i) (fnvStep h (folded b)) bs) 
 abbrev found : ℕ → ℕ → List ℕ → Read
 found i h s = cond (ltb (firstRefused s) (length s)) (Refused (WrongByte (i + firstRefused s))) (Word (mixOf (fnvFrom h (map folded s))))
 
-found-more : (i h b : ℕ) (s : List ℕ) → allowed b ≡ true → found i h (b ∷ s) ≡ found (suc i) (fnvStep h (folded b)) s
-unfolding firstRefused fnvFrom
-found-more i h b s e = rw (e, leb·suc-suc (suc (firstRefused s)) (length s), add-suc i (firstRefused s), suc-add i (firstRefused s))
-
-found-here : (i h b : ℕ) (s : List ℕ) → allowed b ≡ false → found i h (b ∷ s) ≡ Refused (WrongByte i)
-unfolding firstRefused
-found-here i h b s e = rw (e, lt-ltb 0 (suc (length s)) (zero-lt-suc (length s)), add-zero i)
-
 scan-next : (i h b : ℕ) (s : List ℕ) → allowed b ≡ true → scan i h (b ∷ s) ≡ scan (suc i) (fnvStep h (folded b)) s
 unfolding scan
 scan-next i h b s e = rw e
@@ -52,8 +44,9 @@ unfolding firstRefused fnvFrom
 scan-found i h [] = scan-end i h
 scan-found i h (b ∷ s) =
     by-test (allowed b)
-    (λ e. scan-next i h b s e ∙ scan-found (suc i) (fnvStep h (folded b)) s ∙ sym (found-more i h b s e))
-    (λ e. scan-here i h b s e ∙ sym (found-here i h b s e))
+    (λ e. scan-next i h b s e ∙ scan-found (suc i) (fnvStep h (folded b)) s
+    ∙ sym (rw (e, leb·suc-suc (suc (firstRefused s)) (length s), add-suc i (firstRefused s), suc-add i (firstRefused s))))
+    (λ e. scan-here i h b s e ∙ sym (rw (e, lt-ltb 0 (suc (length s)) (zero-lt-suc (length s)), add-zero i)))
 
 -- bytes of a right number are scanned from the start
 pub scan-read : (s : List ℕ) → sized (length s) ≡ true → scan 0 fnvStart s ≡ readOf s
