@@ -3,7 +3,7 @@
 use mathlib.Core.Path.{_≡_, refl, sym, ap, _∙_}
 use mathlib.Core.List.{List, [], _∷_, _++_}
 use Prim.Native.Nat.{ℕ, zero, suc, _+_, _≤_, _<_}
-use native.Mathlib.Nat.{le-of-lt, zero-add, suc-add, le-of-suc-le-suc, not-suc-le-zero}
+use native.Mathlib.Nat.{le-of-lt, zero-add, suc-add, not-suc-le-zero}
 use native.Mathlib.Numerals.{add-one}
 use native.Mathlib.Omega.{arith}
 use lib.ListN.{length, getD, take, drop, set, length-drop, drop-of-length-le}
@@ -46,15 +46,6 @@ written-fits zero (x ∷ p) (y ∷ t) h =
 written-fits (suc a) p [] h = absurd (not-suc-le-zero (rw suc-add at h))
 written-fits (suc a) p (y ∷ t) h = rw (suc-add a (length p)) (ap (λ (l : List ℕ). y ∷ l) (written-fits a p t (omega arith)))
 
--- past the end nothing is written
-pub written-past : (a : ℕ) (p t : List ℕ) → length t ≤ a → written a p t ≡ t
-unfolding written
-written-past zero [] t h = refl
-written-past zero (x ∷ p) [] h = refl
-written-past zero (x ∷ p) (y ∷ t) h = absurd (not-suc-le-zero h)
-written-past (suc a) p [] h = refl
-written-past (suc a) p (y ∷ t) h = ap (λ (l : List ℕ). y ∷ l) (written-past a p t (le-of-suc-le-suc h))
-
 pub written-none : (a : ℕ) (t : List ℕ) → written a [] t ≡ t
 unfolding written
 written-none zero t = refl
@@ -72,6 +63,10 @@ written-cut zero (suc n) (x ∷ p) [] h = refl
 written-cut zero (suc n) (x ∷ p) (y ∷ t) h = ap (λ (l : List ℕ). x ∷ l) (written-cut zero n p t (omega arith))
 written-cut (suc a) n p [] h = refl
 written-cut (suc a) n p (y ∷ t) h = ap (λ (l : List ℕ). y ∷ l) (written-cut a n p t (omega arith))
+
+-- past the end nothing is written
+pub written-past : (a : ℕ) (p t : List ℕ) → length t ≤ a → written a p t ≡ t
+written-past a p t h = sym (written-cut a 0 p t (omega arith)) ∙ written-none a t
 
 -- ---- parts of it
 
