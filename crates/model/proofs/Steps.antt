@@ -27,6 +27,10 @@ live-keeps : (s : State) (l : List Entry) (o : Option ℕ) → Keeps s (stepLive
 live-keeps s l none = (refl, refl)
 live-keeps s l (some p) = (refl, refl)
 
+live-refused : (s : State) (l : List Entry) (o : Option ℕ) → accepted (stepLive s l o .answer) ≡ false → stepLive s l o .after ≡ s
+live-refused s l none r = refl
+live-refused s l (some p) r = absurd (true≢false r)
+
 module _ (L1 L2 : Level) where
   -- a query changes nothing
   pub query-keeps : (s : State) (w : ℕ) → step L1 L2 s (query w) .after ≡ s
@@ -42,6 +46,22 @@ module _ (L1 L2 : Level) where
 
   pub withdraw-keeps : (s : State) (w : ℕ) → Keeps s (step L1 L2 s (withdraw w) .after)
   withdraw-keeps s w = live-keeps s (remove w (s .live)) (find w (s .live))
+
+  -- a refused call changes nothing
+  pub refused-keeps : (s : State) (c : Call ℕ) → accepted (step L1 L2 s c .answer) ≡ false → step L1 L2 s c .after ≡ s
+  refused-keeps s (add w p) = go (find w (s .live))
+    where
+      e : Entry
+      e = record { word = w; plan = p }
+
+      go : (o : Option ℕ) → accepted (stepAdd L1 L2 s e o .answer) ≡ false → stepAdd L1 L2 s e o .after ≡ s
+      go (some q) = λ r. refl
+      go none =
+          by-test (λ (x : Outcome). accepted (x .answer) ≡ false → x .after ≡ s) (ltb baseLimit (length (base L1 L2 (wouldLeave L1 L2 s e))))
+          (λ t r. refl) (λ t r. absurd (true≢false r))
+  refused-keeps s (change w p) = live-refused s (update (record { word = w; plan = p }) (s .live)) (find w (s .live))
+  refused-keeps s (withdraw w) = live-refused s (remove w (s .live)) (find w (s .live))
+  refused-keeps s (query w) = λ r. query-keeps s w
 
   -- o is a refusal that changes nothing, or what the call c does
   abbrev pub Follows : State → Call ℕ → Outcome → Type 0
@@ -124,9 +144,3 @@ module _ (L1 L2 : Level) where
     by-step (change w p) = live-cases (change w p) (update (record { word = w; plan = p }) (s .live)) (find w (s .live)) (changes (record { word = w; plan = p }))
     by-step (withdraw w) = live-cases (withdraw w) (remove w (s .live)) (find w (s .live)) (withdraws w)
     by-step (query w) = live-cases (query w) (s .live) (find w (s .live)) (λ q f. queries w q)
-
-  -- a refused call changes nothing
-  pub refused-keeps : (s : State) (c : Call ℕ) → accepted (step L1 L2 s c .answer) ≡ false → step L1 L2 s c .after ≡ s
-  refused-keeps s =
-      by-step s (λ c o. accepted (o .answer) ≡ false → o .after ≡ s) (λ c a r b. refl)
-      (λ e a b. absurd (true≢false b)) (λ e q f b. absurd (true≢false b)) (λ w q f b. absurd (true≢false b)) (λ w q b. refl)
