@@ -69,9 +69,6 @@ module _ (n r : ℕ) where
     abbrev rest : List ℕ
     rest = drop (p - header) (drop header t)
 
-    length-L : length L ≡ (b1 + b2) * w
-    length-L = ap length buckets ∙ length-empty (b1 + b2)
-
     length-rest : length rest ≡ baseNumbers
     length-rest = omega (arith, length-drop (p - header) (drop header t), length-drop header t)
 
@@ -82,13 +79,7 @@ module _ (n r : ℕ) where
         ∙ sym (append-assoc hs L rest)
 
     length-front : length (hs ++ L) ≡ p
-    length-front = omega (arith, length-append hs L, length-hs, length-L)
-
-    length-filled : length filled ≡ length t
-    length-filled = ap length filled-is ∙ omega (arith, length-append (hs ++ L) rest, length-front, length-rest)
-
-    front : take p filled ≡ hs ++ L
-    front = ap (take p) filled-is ∙ take-at (hs ++ L) rest p length-front
+    length-front = omega (arith, length-append hs L, length-hs, ap length buckets ∙ length-empty (b1 + b2))
 
     back : drop p filled ≡ rest
     back = ap (drop p) filled-is ∙ drop-at (hs ++ L) rest p length-front
@@ -99,13 +90,12 @@ module _ (n r : ℕ) where
     unfolding numbersOf
     laid-out zs z =
         let k : ℕ = length filled - p in
-        let k-is : k ≡ baseNumbers = omega (arith, length-filled) in
+        let k-is : k ≡ baseNumbers = omega (arith, ap length filled-is, length-append (hs ++ L) rest, length-front, length-rest) in
         let gone : drop k (drop p filled) ≡ [] = ap (drop k) back ∙ drop-of-length-le rest {i = k} (omega (arith, length-rest)) in
         let room : length (take k (drop p filled)) ≡ baseNumbers - 2 * 0 = ap (λ (l : List ℕ). length (take k l)) back ∙ length-take-le k rest (omega (arith, length-rest)) ∙ k-is in
-        let pairs : zs ≡ basePairs [] = z ∙ ap (λ (m : ℕ). replicate m 0) room in
         let both : L ≡ levelNumbers (replicate b1 E) ++ levelNumbers (replicate b2 E) = buckets ∙ ap levelNumbers (sym (replicate-append-replicate b1 b2 E)) ∙ level-append (replicate b1 E) (replicate b2 E) in
-        ap₂ (λ (a b : List ℕ). a ++ (zs ++ b)) front gone
-        ∙ ap₂ (λ (a b : List ℕ). (hs ++ a) ++ b) both (append-nil zs ∙ pairs)
+        ap₂ (λ (a b : List ℕ). a ++ (zs ++ b)) (ap (take p) filled-is ∙ take-at (hs ++ L) rest p length-front) gone
+        ∙ ap₂ (λ (a b : List ℕ). (hs ++ a) ++ b) both (append-nil zs ∙ z ∙ ap (λ (m : ℕ). replicate m 0) room)
         ∙ append-assoc hs (levelNumbers (replicate b1 E) ++ levelNumbers (replicate b2 E)) (basePairs [])
         ∙ ap (λ (l : List ℕ). hs ++ l) (append-assoc (levelNumbers (replicate b1 E)) (levelNumbers (replicate b2 E)) (basePairs []))
 
