@@ -41,24 +41,22 @@ row-passes t second m i bound v p q = ap₂ (λ (x y : Bool). x && (y && passes 
 
 -- a bucket, whose rows were found or not
 module _ (n : ℕ) (row : ℕ → Bool) (b : Bucket) where
-  rest : Rows → Bool
+  abbrev rest : Rows → Bool
   rest found = found .ok && allOf row (chosen (b .mark) (found .rows))
 
   pub bucket-over : leb (b .bound) largestBound ≡ false → bucketTest n row b ≡ false
-  unfolding bucketTest rest
+  unfolding bucketTest
   bucket-over l = ap (λ (x : Bool). x && rest (soundRows n (b .mark) (b .cols))) l
 
   module _ (l : leb (b .bound) largestBound ≡ true) (found : Rows) (e : found ≡ soundRows n (b .mark) (b .cols)) where
     bucket-rest : bucketTest n row b ≡ rest found
-    unfolding bucketTest rest
+    unfolding bucketTest
     bucket-rest = ap₂ (λ (x : Bool) (f : Rows). x && rest f) l (sym e)
 
     pub bucket-broken : found .ok ≡ false → bucketTest n row b ≡ false
-    unfolding rest
     bucket-broken f = bucket-rest ∙ ap (λ (x : Bool). x && allOf row (chosen (b .mark) (found .rows))) f
 
     pub bucket-rows : found .ok ≡ true → bucketTest n row b ≡ allOf row (chosen (b .mark) (found .rows))
-    unfolding rest
     bucket-rows f = bucket-rest ∙ ap (λ (x : Bool). x && allOf row (chosen (b .mark) (found .rows))) f
 
 -- ---- the whole test
@@ -82,14 +80,10 @@ occupied-both n r (suc m) k xs =
 order : (a b c d e f g : Bool) → ((a && (b && (c && (d && (e && f))))) && g) ≡ ((a && b) && ((f && (g && e)) && (c && d)))
 order false b c d e f g = refl
 order true false c d e f g = refl
-order true true false d e f g = sym (and-false (f && (g && e)))
-order true true true false e f g = sym (and-false (f && (g && e)))
-order true true true true false false g = refl
-order true true true true false true false = refl
-order true true true true false true true = refl
-order true true true true true false g = refl
-order true true true true true true false = refl
-order true true true true true true true = refl
+order true true false d e f g = simp and-false
+order true true true false e f g = simp and-false
+order true true true true false f g = simp and-false
+order true true true true true f g = simp and-true
 
 module _ (t : List ℕ) where
   abbrev b1 : ℕ

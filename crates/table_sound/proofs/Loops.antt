@@ -2,11 +2,11 @@
 -- and r of solution words.
 -- Assumes nothing.
 use Prim.Native.Nat.{ℕ, zero, suc, _+_, _-_, _/_, _%_, _^_, _≤_, _<_}
-use native.Mathlib.Nat.{not-suc-le-zero, le-of-suc-le-suc}
+use native.Mathlib.Nat.{not-suc-le-zero, le-of-suc-le-suc, add-zero}
 use native.Mathlib.Numerals.{add-one}
 use native.Mathlib.Omega.{arith}
 use mathlib.Core.Path.{_≡_, refl, sym, ap, ap₂, _∙_}
-use mathlib.Core.Bool.{Bool, true, false, _&&_}
+use mathlib.Core.Bool.{Bool, true, false, _&&_, and-false}
 use mathlib.Core.List.{List, [], _∷_}
 use lib.Bits.{bitXor, bitAnd, differ, xor-zero-r}
 use lib.Count.{ones, trailingZeros}
@@ -41,8 +41,7 @@ low-lt n d hd ne = rw (low-off n d hd ne) (without-lt d (trailingZeros n d) (tz-
 
 swap : (a b c : Bool) → (a && (b && c)) ≡ (b && (a && c))
 swap true b c = refl
-swap false true c = refl
-swap false false c = refl
+swap false b c = simp and-false
 
 module _ (p : ℕ → Bool) where
   put-one : (d x : ℕ) (q : Bool) (xs ys : List ℕ) → allOf p xs ≡ (q && allOf p ys) → allOf p (putIf d x xs) ≡ (q && allOf p (putIf d x ys))
@@ -107,15 +106,13 @@ module _ (xs : List ℕ) where
   pub pairs-next : (at k : ℕ) → 0 < k → pairsFrom k (drop at xs) ≡ record { word = getD xs at 0; plan = getD xs (at + 1) 0 } ∷ pairsFrom (k - 1) (drop (at + 2) xs)
   pairs-next at zero h = absurd (omega arith)
   pairs-next at (suc k) h =
-      let e : at + 0 ≡ at = omega arith in
       let f : k ≡ suc k - 1 = omega arith in
-      ap₂ {C = List Entry} _∷_ (ap₂ {C = Entry} (λ u v. record { word = u; plan = v }) (getD-drop at xs 0 0 ∙ ap (λ (j : ℕ). getD xs j 0) e) (getD-drop at xs 1 0))
+      ap₂ {C = List Entry} _∷_ (ap₂ {C = Entry} (λ u v. record { word = u; plan = v }) (getD-drop at xs 0 0 ∙ ap (λ (j : ℕ). getD xs j 0) (add-zero at)) (getD-drop at xs 1 0))
       (ap₂ pairsFrom f (drop-drop 2 at xs))
 
   pub ascends-next : (at k : ℕ) → 1 < k → ascends (pairsFrom k (drop at xs)) ≡ (ltb (getD xs at 0) (getD xs (at + 2) 0) && ascends (pairsFrom (k - 1) (drop (at + 2) xs)))
   ascends-next at k h =
-      let g : 0 < k - 1 = omega arith in
-      rw (pairs-next at k (omega arith), pairs-next (at + 2) (k - 1) g)
+      rw (pairs-next at k (omega arith), pairs-next (at + 2) (k - 1) (omega arith))
 
   pub ascends-end : (at k : ℕ) → k ≤ 1 → ascends (pairsFrom k (drop at xs)) ≡ true
   ascends-end at zero h = refl
