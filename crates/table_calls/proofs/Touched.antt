@@ -87,10 +87,6 @@ module _ (n r : ℕ) (S : ℕ → ℕ) (xs : List ℕ) (s : Shape n r xs) where
     base-at : bucketPlace n r (length (T .level1) + length (T .level2)) ≡ bucketPlace n r (b1 + b2)
     base-at = ap₂ (λ (i j : ℕ). bucketPlace n r (i + j)) (header-read n r xs .0) (header-read n r xs .1)
 
-    based : (es : List Entry) → numbersOf (withBase T es) ≡ set (take (bucketPlace n r (b1 + b2)) xs ++ basePairs es) baseCountAt (length es)
-    based es =
-        write-base n r T h es ∙ ap₂ (λ (j : ℕ) (l : List ℕ). set (take j l ++ basePairs es) baseCountAt (length es)) base-at same
-
     tail-pairs : drop (bucketPlace n r (b1 + b2)) xs ≡ basePairs (T .base)
     tail-pairs = ap₂ (λ (j : ℕ) (l : List ℕ). drop j l) (sym base-at) (sym same) ∙ drop-base n r T h
 
@@ -145,13 +141,12 @@ module _ (n r : ℕ) (S : ℕ → ℕ) (xs : List ℕ) (s : Shape n r xs) where
             → (ys : List ℕ) → ys ≡ wordsOf (f v (bucketFrom n r (take (p + W - p) (drop p xs)))) → putMid p (p + W - p) xs ys ≡ numbersOf touched
         touched-second on p e ys q =
             let b : Bucket = f v (bucketOf n r S (T .level2) v) in
-            let len1 = header-read n r xs .0 in
-            let len = header-read n r xs .1 in
+            let len = header-read n r xs in
             written touched b (length (T .level1) + index S (length (T .level2)) v) p ys
-            (e ∙ ap₂ (λ (i m : ℕ). bucketPlace n r (i + index S m v)) (sym len1) (sym len))
+            (e ∙ ap₂ (λ (i m : ℕ). bucketPlace n r (i + index S m v)) (sym (len .0)) (sym (len .1)))
             (q ∙ ap (λ (c : Bucket). wordsOf (f v c)) (bucket-here p (b1 + index S b2 v) e ∙ sym (second-bucket n r xs s S v)))
             (ap numbersOf (passing-is ∙ cond-true _ _ on)
-            ∙ write-second n r T h (index S (length (T .level2)) v) b (subst⁻¹ (λ (m : ℕ). index S m v < m) len (second-lt n r xs s S v)))
+            ∙ write-second n r T h (index S (length (T .level2)) v) b (subst⁻¹ (λ (m : ℕ). index S m v < m) (len .1) (second-lt n r xs s S v)))
 
         module _ (out : holds n r S (T .level2) v ≡ false) (p : ℕ) (e : p ≡ bucketPlace n r (b1 + b2)) where
           abbrev after : List Entry
@@ -163,4 +158,5 @@ module _ (n r : ℕ) (S : ℕ → ℕ) (xs : List ℕ) (s : Shape n r xs) where
               let own : after ≡ g v (T .base) = ap (λ (l : List ℕ). g v (pairsFrom k l)) (tail-here p e) ∙ ap (g v) (sym base-is) in
               ap₂ (λ (l : List ℕ) (j : ℕ). set l baseCountAt j) (put-tail p e ys) m
               ∙ ap₂ (λ (l : List ℕ) (es : List Entry). set (take (bucketPlace n r (b1 + b2)) xs ++ l) baseCountAt (length es)) (q ∙ ap basePairs own) own
-              ∙ sym (ap numbersOf (passing-is ∙ cond-false _ _ out) ∙ based (g v (T .base)))
+              ∙ ap₂ (λ (j : ℕ) (l : List ℕ). set (take j l ++ basePairs (g v (T .base))) baseCountAt (length (g v (T .base)))) (sym base-at) (sym same)
+              ∙ sym (ap numbersOf (passing-is ∙ cond-false _ _ out) ∙ write-base n r T h (g v (T .base)))

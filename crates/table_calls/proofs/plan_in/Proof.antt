@@ -21,9 +21,7 @@ first-place-requires : tie.Need-first-place-requires
 first-place-requires c κs = search needs
 
 bucket-at-requires : tie.Need-bucket-at-requires
-bucket-at-requires c κs =
-    let s = c .before .before .before .before in
-    first-end (s .pre) (s .args .w) (c .first-place .result) (c .first-place .ensures)
+bucket-at-requires c κs = first-end (c .before .before .before .before .pre) _ _ (c .first-place .ensures)
 
 plan-of-requires : tie.Need-plan-of-requires
 plan-of-requires c κs = search needs
@@ -47,9 +45,7 @@ second-place-requires : tie.Need-second-place-requires
 second-place-requires c κs = search needs
 
 bucket-at-requires-2 : tie.Need-bucket-at-requires-2
-bucket-at-requires-2 c κs =
-    let v = c .before .before .before in
-    second-end (v .before .before .before .before .pre) (v .second .result) (c .second-place .result) (c .second-place .ensures)
+bucket-at-requires-2 c κs = second-end (c .before .before .before .before .before .before .before .pre) _ _ (c .second-place .ensures)
 
 plan-of-requires-2 : tie.Need-plan-of-requires-2
 plan-of-requires-2 c κs = search needs
@@ -86,9 +82,8 @@ part-find-end c = search needs
 
 find-requires : tie.Need-find-requires
 find-requires c κs =
-    let p = c .before .before in
-    let s = p .before .before .before .before .before .before .before in
-    sized (base-pairs rows solutions mixOf (s .args .t .now) (shape-of (s .pre)) (laid-of (s .pre)) (shaped-of (s .pre)) (p .base-place .result) (p .base-place .ensures))
+    let h = c .before .before .before .before .before .before .before .before .before .pre in
+    sized (base-pairs rows solutions mixOf _ (shape-of h) (laid-of h) (shaped-of h) _ (c .before .before .base-place .ensures))
 
 returns-3 : tie.Need-returns-3
 returns-3 c =

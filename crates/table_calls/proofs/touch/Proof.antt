@@ -17,14 +17,10 @@ use Rattle.table_calls.proofs.touch.Tie as tie
 
 -- the stretches end within the table
 end-1 : (c : tie.After-first-place) → c .first-place .result + bucketWords rows solutions ≤ length (c .before .before .before .before .before .before .args .t .now)
-end-1 c =
-    let s = c .before .before .before .before .before .before in
-    first-end (s .pre) (s .args .w) (c .first-place .result) (c .first-place .ensures)
+end-1 c = first-end (c .before .before .before .before .before .before .pre) _ _ (c .first-place .ensures)
 
 end-2 : (c : tie.After-second-place) → c .second-place .result + bucketWords rows solutions ≤ length (c .before .before .before .before .before .before .before .before .before .before .args .t .now)
-end-2 c =
-    let v = c .before .before .before .before .before in
-    second-end (v .before .before .before .before .before .pre) (v .second .result) (c .second-place .result) (c .second-place .ensures)
+end-2 c = second-end (c .before .before .before .before .before .before .before .before .before .before .pre) _ _ (c .second-place .ensures)
 
 end-3 : (c : tie.After-base-place) → c .base-place .result ≤ length (c .before .before .before .before .before .before .before .before .before .before .args .t .now)
 end-3 c = base-end (c .before .before .before .before .before .before .before .before .before .before .pre) (c .base-place .result) (c .base-place .ensures)
@@ -127,9 +123,8 @@ part-edit-base-end c = search needs
 
 edit-base-requires : tie.Need-edit-base-requires
 edit-base-requires c κs =
-    let p = c .before .before in
-    let s = p .before .before .before .before .before .before .before .before .before .before in
-    base-pairs rows solutions mixOf (s .args .t .now) (shape-of (s .pre)) (laid-of (s .pre)) (shaped-of (s .pre)) (p .base-place .result) (p .base-place .ensures)
+    let h = c .before .before .before .before .before .before .before .before .before .before .before .before .pre in
+    base-pairs rows solutions mixOf _ (shape-of h) (laid-of h) (shaped-of h) _ (c .before .before .base-place .ensures)
 
 slice-write-t : tie.Need-slice-write-t
 slice-write-t c =
