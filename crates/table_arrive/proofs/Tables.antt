@@ -76,17 +76,11 @@ module _ (n r : ℕ) where
     abbrev whole : ShapedTable n r T
     whole = kept-shaped T (h .table)
 
-    count1 : length (T .level1) ≡ getD t buckets1At 0
-    count1 = header-read n r t .0
-
-    count2 : length (T .level2) ≡ getD t buckets2At 0
-    count2 = header-read n r t .1
-
     pub count0 : length (T .base) ≡ getD t baseCountAt 0
     count0 = header-read n r t .2
 
     range-is : inRange (getD t buckets1At 0) (getD t buckets2At 0) ≡ true
-    range-is = sym (ap₂ inRange count1 count2) ∙ h .table .range
+    range-is = sym (ap₂ inRange (header-read n r t .0) (header-read n r t .1)) ∙ h .table .range
 
     pub shape-of : Shape n r t
     shape-of = record {
@@ -104,7 +98,7 @@ module _ (n r : ℕ) where
     -- the base list, from its place on
     module _ (p : ℕ) (e : p ≡ bucketPlace n r (getD t buckets1At 0 + getD t buckets2At 0)) where
       place-is : p ≡ bucketPlace n r (length (T .level1) + length (T .level2))
-      place-is = e ∙ sym (ap₂ (λ (a b : ℕ). bucketPlace n r (a + b)) count1 count2)
+      place-is = e ∙ sym (ap₂ (λ (a b : ℕ). bucketPlace n r (a + b)) (header-read n r t .0) (header-read n r t .1))
 
       abbrev last : List ℕ
       last = take (length t - p) (drop p t)
@@ -142,12 +136,12 @@ module _ (n r : ℕ) where
       second-here = ap (λ (k : ℕ). bucketFrom n r (drop k t)) e ∙ sym (second-bucket n r t shape-of S v)
 
       at2 : index S (length (T .level2)) v < length (T .level2)
-      at2 = subst⁻¹ (λ (m : ℕ). index S m v < m) count2 (second-lt n r t shape-of S v)
+      at2 = subst⁻¹ (λ (m : ℕ). index S m v < m) (header-read n r t .1) (second-lt n r t shape-of S v)
 
       pub second-sound : SoundBucket n r (bucketOf n r S (T .level2) v)
       second-sound = h .table .second _ at2
 
       pub second-stored : (b : Bucket) → storedAt n r p b t ≡ numbersOf (withSecond T (put S (T .level2) v b))
       second-stored b =
-          ap₂ (λ (k : ℕ) (l : List ℕ). storedAt n r k b l) (e ∙ sym (ap₂ (λ (i m : ℕ). bucketPlace n r (i + index S m v)) count1 count2)) (sym (h .numbers))
+          ap₂ (λ (k : ℕ) (l : List ℕ). storedAt n r k b l) (e ∙ sym (ap₂ (λ (i m : ℕ). bucketPlace n r (i + index S m v)) (header-read n r t .0) (header-read n r t .1))) (sym (h .numbers))
           ∙ sym (write-second n r T whole (index S (length (T .level2)) v) b at2)
