@@ -17,8 +17,7 @@ edit-word-requires : tie.Need-edit-word-requires
 edit-word-requires c κs =
     let m = c .before .before in
     let d = m .before .before in
-    let a = d .before .before .before .before .args in
-    ready (a .t .now) (d .admit .result) (readOf (a .id .now)) (m .admitted .given .0 .0) (d .admit .ensures) (m .admitted .given .1) (λ i. d .before .before .before .slice-known .given i .fits)
+    ready _ _ (readOf (d .before .before .before .before .args .id .now)) _ (d .admit .ensures) (m .admitted .given .1) (λ i. d .before .before .before .slice-known .given i .fits)
 
 enum-known-admitted-2 : tie.Need-enum-known-admitted-2
 enum-known-admitted-2 c = search needs
@@ -31,8 +30,7 @@ returns c =
     let done = c .before .before in
     let m = done .before .before .before in
     let d = m .before .before in
-    let a = d .before .before .before .before .args in
-    rw (edit-word (a .t .now) (a .id .now) (a .edit) (d .admit .result) (d .admit .ensures) (m .admitted .given .0 .0) (m .admitted .given .1)) (done .edit-word .ensures)
+    rw (edit-word _ _ (d .before .before .before .before .args .edit) _ (d .admit .ensures) _ (m .admitted .given .1)) (done .edit-word .ensures)
 
 same-length-2 : tie.Need-same-length-2
 same-length-2 c = search needs
@@ -41,8 +39,7 @@ returns-2 : tie.Need-returns-2
 returns-2 c =
     let m = c .before in
     let d = m .before .before in
-    let a = d .before .before .before .before .args in
-    rw (edit-refused (a .t .now) (a .id .now) (a .edit) (d .admit .result) (d .admit .ensures) (m .admitted2 .given .0 .0) (m .admitted2 .given .1)) (refl, refl)
+    rw (edit-refused _ _ (d .before .before .before .before .args .edit) _ (d .admit .ensures) _ (m .admitted2 .given .1)) (refl, refl)
 
 pub edit-identifier-spec : {M : Type 1} → statement M
 edit-identifier-spec =

@@ -17,14 +17,12 @@ lookup-requires c κs = search needs
 returns : tie.Need-returns
 returns c =
     let r = c .before .before in
-    let a = r .before .args in
-    ap Plan (c .lookup .ensures) ∙ ap foundOf (sym (plan-live (a .v) (r .row-of .result) (a .b) (search needs) (r .row-of .ensures) (c .before .if1 .taken)))
+    ap Plan (c .lookup .ensures) ∙ ap foundOf (sym (plan-live _ _ (r .before .args .b) (search needs) (r .row-of .ensures) (c .before .if1 .taken)))
 
 returns-2 : tie.Need-returns-2
 returns-2 c =
     let r = c .before in
-    let a = r .before .args in
-    ap foundOf (sym (plan-gone (a .v) (r .row-of .result) (a .b) (search needs) (r .row-of .ensures) (c .if1 .left)))
+    ap foundOf (sym (plan-gone _ _ (r .before .args .b) (search needs) (r .row-of .ensures) (c .if1 .left)))
 
 pub plan-of-spec : {M : Type 1} → statement M
 plan-of-spec = tie.close (tie.spec row-of-requires lookup-requires returns returns-2)

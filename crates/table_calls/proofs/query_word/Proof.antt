@@ -19,15 +19,10 @@ enum-told c = search needs
 returns : tie.Need-returns
 returns c =
     let m = c .before in
-    let r = m .before .before in
-    let a = r .before .before .args in
-    rw (query-live (a .t .now) (a .w) [] (r .plan-in .result) (r .plan-in .ensures) (m .found .given .0 .0) (m .found .given .1)) (refl, refl)
+    rw (query-live _ _ [] _ (m .before .before .plan-in .ensures) _ (m .found .given .1)) (refl, refl)
 
 returns-2 : tie.Need-returns-2
-returns-2 c =
-    let r = c .before .before in
-    let a = r .before .before .args in
-    rw (query-gone (a .t .now) (a .w) [] (r .plan-in .result) (r .plan-in .ensures) (c .enum-told .given .1)) (refl, refl)
+returns-2 c = rw (query-gone _ _ [] _ (c .before .before .plan-in .ensures) (c .enum-told .given .1)) (refl, refl)
 
 pub query-word-spec : {M : Type 1} → statement M
 query-word-spec =
