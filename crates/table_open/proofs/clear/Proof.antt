@@ -34,8 +34,7 @@ loop-less c = search needs
 loop-again : tie.Need-loop-again Inv-loop μ-loop
 loop-again c =
     let l = c .before .loop in
-    let h : l .i < length (c .before .before .args .words .now) = omega arith in
-    (search needs, simp length-set (l .inv .1), ap (λ w. set w (l .i) 0) (l .inv .2) ∙ fill-more (l .i) 0 (c .before .before .args .words .now) h)
+    (search needs, simp length-set (l .inv .1), ap (λ w. set w (l .i) 0) (l .inv .2) ∙ fill-more (l .i) 0 (c .before .before .args .words .now) (omega arith))
 
 same-length : tie.Need-same-length Inv-loop μ-loop
 same-length c = search needs
@@ -45,8 +44,7 @@ returns c =
     let l = c .before .loop in
     let xs = c .before .before .args .words .now in
     let e : l .i ≡ length xs = omega arith in
-    let h : length xs ≤ l .i = omega arith in
-    l .inv .2 ∙ ap (λ r. replicate (l .i) 0 ++ r) (drop-of-length-le xs h) ∙ append-nil (replicate (l .i) 0) ∙ ap (λ k. replicate k 0) e
+    l .inv .2 ∙ ap (λ r. replicate (l .i) 0 ++ r) (drop-of-length-le xs {i = l .i} (omega arith)) ∙ append-nil (replicate (l .i) 0) ∙ ap (λ k. replicate k 0) e
 
 pub clear-spec : {M : Type 1} → statement M
 clear-spec =

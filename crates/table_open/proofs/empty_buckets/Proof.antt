@@ -58,12 +58,11 @@ loop-less c = search needs
 loop-again : tie.Need-loop-again Inv-loop μ-loop
 loop-again c =
     let b = c .before .before in
-    let l = b .before .before .before .loop in
-    let h : l .at + bucketWords rows solutions ≤ length (l .words) = omega arith in (
+    let l = b .before .before .before .loop in (
       search needs,
       omega arith,
       same-len-mid (l .at) (l .at + bucketWords rows solutions - l .at) (l .words) (b .store .last .0) (b .store .kept .0) ∙ l .inv .2,
-      level-more rows solutions (l .i) (l .at) (l .words) (b .store .last .0) (l .at + bucketWords rows solutions - l .at) h (b .store .ensures ∙ ap wordsOf (b .before .before .before .before .empty .ensures)) (l .inv .3),
+      level-more rows solutions (l .i) (l .at) (l .words) (b .store .last .0) (l .at + bucketWords rows solutions - l .at) (omega arith) (b .store .ensures ∙ ap wordsOf (b .before .before .before .before .empty .ensures)) (l .inv .3),
     )
 
 same-length : tie.Need-same-length Inv-loop μ-loop
@@ -73,8 +72,7 @@ returns : tie.Need-returns Inv-loop μ-loop
 returns c =
     let l = c .before .loop in
     let e : l .i ≡ c .before .before .before .before .args .count = omega arith in
-    let h : length (l .words) ≤ l .at = omega arith in
-    sym (take-all (l .at) (l .words) h) ∙ l .inv .3 ∙ ap (λ (k : ℕ). levelNumbers (replicate k (emptyBucket rows solutions))) e
+    sym (take-all (l .at) (l .words) (omega arith)) ∙ l .inv .3 ∙ ap (λ (k : ℕ). levelNumbers (replicate k (emptyBucket rows solutions))) e
 
 pub empty-buckets-spec : {M : Type 1} → statement M
 empty-buckets-spec =

@@ -28,15 +28,12 @@ same-length c = search needs
 returns : tie.Need-returns
 returns c =
     let two = c .before .before .before .before in
-    let one = two .before .before in
-    let a = one .before .before .before .args in
-    rw (accepted (a .b1) (a .b2) (a .t .now) (ranged one) (two .if2 .taken ∙ two .before .length-of .ensures)) (refl, c .before .before .lay-out .ensures)
+    rw (accepted _ _ _ (ranged (two .before .before)) (two .if2 .taken ∙ two .before .length-of .ensures)) (refl, c .before .before .lay-out .ensures)
 
 returns-2 : tie.Need-returns-2
 returns-2 c =
-    let one = c .before .before in
-    let a = one .before .before .before .args in
-    rw (wrong-length (a .b1) (a .b2) (a .t .now) (ranged one) (λ e. c .if2 .left (e ∙ sym (c .before .length-of .ensures)))) (refl, refl)
+    let a = c .before .before .before .before .before .args in
+    rw (wrong-length (a .b1) (a .b2) (a .t .now) (ranged (c .before .before)) (λ e. c .if2 .left (e ∙ sym (c .before .length-of .ensures)))) (refl, refl)
 
 returns-3 : tie.Need-returns-3
 returns-3 c =
