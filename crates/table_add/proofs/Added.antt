@@ -94,9 +94,6 @@ module _ (n r : ℕ) (S : ℕ → ℕ) (t : List ℕ) (h : FlatKept n r t) (e : 
     first-same : D .level1 ≡ T .level1
     first-same = ap (λ (X : Table). X .level1) (all-law n r S T (seconds S (s .out)))
 
-    count-same : D .count ≡ T .count
-    count-same = ap (λ (X : Table). X .count) (all-law n r S T (seconds S (s .out)))
-
     place1 : at ≡ bucketPlace n r (index S (getD t1 buckets1At 0) (e .word))
     place1 =
         p ∙ ap (λ (k : ℕ). bucketPlace n r (index S k (e .word)))
@@ -125,7 +122,7 @@ module _ (n r : ℕ) (S : ℕ → ℕ) (t : List ℕ) (h : FlatKept n r t) (e : 
 
       counted : getD t2 liveCountAt 0 ≡ T .count
       unfolding numbersOf
-      counted = ap (λ (l : List ℕ). getD l liveCountAt 0) t2-is ∙ count-same
+      counted = ap (λ (l : List ℕ). getD l liveCountAt 0) t2-is ∙ ap (λ (X : Table). X .count) (all-law n r S T (seconds S (s .out)))
 
       pub enter-counted : Counted n r S t e t2
       unfolding numbersOf
@@ -181,19 +178,14 @@ module _ (n r : ℕ) (S : ℕ → ℕ) (t : List ℕ) (h : FlatKept n r t) (e : 
 occupied-few : (n r : ℕ) (bs : List Bucket) → ((i : ℕ) → i < length bs → SoundBucket n r (nth n r bs i)) → occupied bs ≤ length bs * n
 occupied-few n r [] h = omega arith
 occupied-few n r (b ∷ bs) h =
-    let k = ones-le n (b .mark) (h 0 (omega arith) .sound .mark-lt) in
-    let l = occupied-few n r bs (λ i l. h (suc i) (omega arith)) in
-    omega arith
+    omega (arith, ones-le n (b .mark) (h 0 (omega arith) .sound .mark-lt), occupied-few n r bs (λ i l. h (suc i) (omega arith)))
 
 module _ (t : List ℕ) (h : Ready t) where
-  in-range : inRange (getD t buckets1At 0) (getD t buckets2At 0) ≡ true
-  unfolding shapeTest
-  in-range = and-one (inRange (getD t buckets1At 0) (getD t buckets2At 0)) _ (and-two (leb leading (length t)) _ (h .shape))
-
   pub ready-kept : FlatKept rows solutions t
+  unfolding shapeTest
   ready-kept = record {
     table = record {
-      range = ap₂ inRange (header-read rows solutions t .0) (header-read rows solutions t .1) ∙ in-range;
+      range = ap₂ inRange (header-read rows solutions t .0) (header-read rows solutions t .1) ∙ and-one (inRange (getD t buckets1At 0) (getD t buckets2At 0)) _ (and-two (leb leading (length t)) _ (h .shape));
       first = h .sound .table .level1 .buckets;
       second = h .sound .table .level2 .buckets;
       short = h .sound .table .fits;

@@ -79,9 +79,8 @@ module _ (n r : ℕ) (S : ℕ → ℕ) where
       pub carrying-stops : done ≡ false → Drafted n r D false u
       carrying-stops y =
           let l = leb-false (length (toSecond n r S X e .base)) baseLimit (sym (p .says) ∙ y) in
-          let g = base-grows n r S (toSecond n r S X e) (drop (suc i) es) in
           record {
-            says = sym (lt-leb (length (D .base)) baseLimit (omega (arith, ap (λ (U : Table). length (U .base)) ahead)));
+            says = sym (lt-leb (length (D .base)) baseLimit (omega (arith, base-grows n r S (toSecond n r S X e) (drop (suc i) es), ap (λ (U : Table). length (U .base)) ahead)));
             kept = λ z. absurd (true≢false (sym z));
             table = λ z. absurd (true≢false (sym z));
           }
@@ -93,6 +92,13 @@ module _ (n r : ℕ) (S : ℕ → ℕ) where
         record { says = sym (le-leb (length (D .base)) baseLimit (k .short)); kept = λ _. k; table = λ _. sym (h .kept .numbers) ∙ ap numbersOf e }
 
 -- ---- the buckets are taken over from the draft d, where t is the table after i of them
+
+-- as many buckets in the tables, as many in their numbers
+same-sized : (n r : ℕ) (t d : List ℕ) → FlatKept n r t → FlatKept n r d → length (tableFrom n r t .level1) ≡ length (tableFrom n r d .level1) → length (tableFrom n r t .level2) ≡ length (tableFrom n r d .level2) → SameSize n r t d
+same-sized n r t d h k p q =
+    let a = header-read n r t in
+    let b = header-read n r d in
+    record { one = h; other = k; buckets1 = sym (a .0) ∙ p ∙ b .0; buckets2 = sym (a .1) ∙ q ∙ b .1 }
 
 module _ (n r : ℕ) (S : ℕ → ℕ) where
   pub record Taking (d : List ℕ) (T : Table) (vs t : List ℕ) (i : ℕ) : Type 0 where
@@ -162,12 +168,9 @@ module _ (n r : ℕ) (S : ℕ → ℕ) (t : List ℕ) (h : FlatKept n r t) (es :
   U-is = let e = all-law n r S T₀ es in ap (λ (X : Table). withBase (withSecond T₀ (X .level2)) (X .base)) e ∙ sym e
 
   pub draft-same-size : SameSize n r t d
-  draft-same-size = record {
-    one = h;
-    other = numbers-kept n r U kept-U d (c .table refl);
-    buckets1 = sym (header-read n r t .0) ∙ ap (λ (X : Table). length (X .level1)) (U-is ∙ sym table-d) ∙ header-read n r d .0;
-    buckets2 = sym (header-read n r t .1) ∙ sym (second-length n r S T₀ es) ∙ ap (λ (X : Table). length (X .level2)) (sym table-d) ∙ header-read n r d .1;
-  }
+  draft-same-size =
+      same-sized n r t d h (numbers-kept n r U kept-U d (c .table refl)) (ap (λ (X : Table). length (X .level1)) (U-is ∙ sym table-d))
+      (sym (second-length n r S T₀ es) ∙ ap (λ (X : Table). length (X .level2)) (sym table-d))
 
   module _ (t1 : List ℕ) (q : t1 ≡ numbersOf (takeOver n r S (tableFrom n r d) (words es) T₀)) where
     abbrev T1 : Table
@@ -188,12 +191,9 @@ module _ (n r : ℕ) (S : ℕ → ℕ) (t : List ℕ) (h : FlatKept n r t) (es :
     table1 = numbers-table n r T1 kept1 t1 t1-is
 
     pub drafted-same-size : SameSize n r t1 d
-    drafted-same-size = record {
-      one = numbers-kept n r T1 kept1 t1 t1-is;
-      other = draft-same-size .other;
-      buckets1 = sym (header-read n r t1 .0) ∙ ap (λ (X : Table). length (X .level1)) table1 ∙ header-read n r t .0 ∙ draft-same-size .buckets1;
-      buckets2 = sym (header-read n r t1 .1) ∙ ap (λ (X : Table). length (X .level2)) table1 ∙ ap (λ (X : Table). length (X .level2)) (sym table-d) ∙ header-read n r d .1;
-    }
+    drafted-same-size =
+        same-sized n r t1 d (numbers-kept n r T1 kept1 t1 t1-is) (draft-same-size .other) (ap (λ (X : Table). length (X .level1)) table1 ∙ ap (λ (X : Table). length (X .level1)) (U-is ∙ sym table-d))
+        (ap (λ (X : Table). length (X .level2)) table1 ∙ ap (λ (X : Table). length (X .level2)) (sym table-d))
 
     pub drafted : (t2 : List ℕ) → t2 ≡ numbersOf (withBase (tableFrom n r t1) (tableFrom n r d .base)) → Passed n r t U true t2
     drafted t2 w = record {

@@ -18,8 +18,7 @@ add-word-requires : tie.Need-add-word-requires
 add-word-requires c κs =
     let m = c .before .before in
     let d = m .before .before in
-    let a = d .before .before .before .before .args in
-    ready (a .t .now) (d .admit .result) (readOf (a .id .now)) (m .admitted .given .0 .0) (d .admit .ensures) (m .admitted .given .1) (λ i. d .before .before .before .slice-known .given i .fits)
+    ready _ _ (readOf (d .before .before .before .before .args .id .now)) _ (d .admit .ensures) (m .admitted .given .1) (λ i. d .before .before .before .slice-known .given i .fits)
 
 enum-known-admitted-2 : tie.Need-enum-known-admitted-2
 enum-known-admitted-2 c = search needs

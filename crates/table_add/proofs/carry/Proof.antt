@@ -50,12 +50,11 @@ loop-again : tie.Need-loop-again Inv-loop μ-loop
 loop-again c =
     let a = c .before .before .before in
     let l = a .before .before .before .before .loop in
-    let o = a .before .before .before .before .before .before .before .before .args .out in
-    let e = a .before .second .ensures in (
+    let o = a .before .before .before .before .before .before .before .before .args .out in (
       search needs,
       (
         search needs,
-        carrying-next rows solutions mixOf _ _ _ _ (l .inv .1 .1) _ (seconds-next mixOf o (l .i) (a .before .before .before .loop-test .taken) _ e) _ _ (a .arrive-second .ensures) (c .if1 .taken),
+        carrying-next rows solutions mixOf _ _ _ _ (l .inv .1 .1) _ (seconds-next mixOf o (l .i) (a .before .before .before .loop-test .taken) _ (a .before .second .ensures)) _ _ (a .arrive-second .ensures) (c .if1 .taken),
       ),
     )
 
@@ -74,9 +73,7 @@ same-length-2 c = c .before .loop .inv .1 .0
 
 returns-2 : tie.Need-returns-2 Inv-loop μ-loop
 returns-2 c =
-    let o = c .before .before .before .before .before .args .out in
-    let h = c .loop-test .left in
-    carrying-ends rows solutions mixOf _ _ _ _ (c .before .loop .inv .1 .1) (omega (arith, seconds-length mixOf o))
+    carrying-ends rows solutions mixOf _ _ _ _ (c .before .loop .inv .1 .1) (omega (arith, c .loop-test .left, seconds-length mixOf (c .before .before .before .before .before .args .out)))
 
 pub carry-spec : {M : Type 1} → statement M
 carry-spec =

@@ -65,8 +65,7 @@ returns : tie.Need-returns Inv-loop μ-loop
 returns c =
     let s = c .before .before .before .before .before .args in
     let o = s .out in
-    let h = c .loop-test .left in
-    taking-ends rows solutions mixOf _ _ _ _ _ (c .before .loop .inv .1 .1) (omega (arith, words-length mixOf (record { count = o .count; vectors = o .vectors; plans = [] })))
+    taking-ends rows solutions mixOf _ _ _ _ _ (c .before .loop .inv .1 .1) (omega (arith, c .loop-test .left, words-length mixOf (record { count = o .count; vectors = o .vectors; plans = [] })))
     ∙ ap (λ (vs : List ℕ). numbersOf (takeOver rows solutions mixOf (tableOf (s .from .now)) vs (tableOf (s .t .now)))) (words-plans mixOf (o .count) (o .vectors) [] (o .plans))
 
 pub take-buckets-spec : {M : Type 1} → statement M
