@@ -45,7 +45,7 @@ entries-back m es = entries-front es _ _
 
 pub insert-all-length : (es base : List Entry) → length (insertAll es base) ≡ length es + length base
 insert-all-length [] base = omega arith
-insert-all-length (e ∷ es) base = let h = insert-all-length es _ in let k = insert-length e base in h ∙ omega arith
+insert-all-length (e ∷ es) base = insert-all-length es _ ∙ omega (arith, insert-length e base)
 
 -- ---- at level 2 each bucket stays sound
 

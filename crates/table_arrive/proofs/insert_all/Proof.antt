@@ -38,8 +38,7 @@ array-read-insert-2 c = search needs
 insert-requires : tie.Need-insert-requires Inv-loop μ-loop
 insert-requires c κs =
     let l = c .before .before .loop in
-    let h = c .before .before .before .before .before .before .pre .1 in
-    (sized (l .inv .1 .pairs), omega (arith, capacity-of (l .inv .1 .pairs)))
+    (sized (l .inv .1 .pairs), omega (arith, c .before .before .before .before .before .before .pre .1, capacity-of (l .inv .1 .pairs)))
 
 add-i : tie.Need-add-i Inv-loop μ-loop
 add-i c = search needs
@@ -53,8 +52,7 @@ loop-again c =
     let s = b .before .before .before .before in
     let o = s .args .out in
     let l = b .loop in
-    let t = c .before .before .before .before .loop-test .taken in
-    (search needs, inserting-next _ _ _ _ _ (l .inv .1) _ _ (entries-next (o .count) (o .vectors) (o .plans) (l .i) t) (omega (arith, s .pre .1)) (c .before .before .insert .ensures))
+    (search needs, inserting-next _ _ _ _ _ (l .inv .1) _ _ (entries-next (o .count) (o .vectors) (o .plans) (l .i) (c .before .before .before .before .loop-test .taken)) (omega (arith, s .pre .1)) (c .before .before .insert .ensures))
 
 same-length : tie.Need-same-length Inv-loop μ-loop
 same-length c = length-of (c .before .loop .inv .1 .pairs) ∙ sym (length-of (c .before .before .before .before .before .pre .0))
@@ -62,8 +60,7 @@ same-length c = length-of (c .before .loop .inv .1 .pairs) ∙ sym (length-of (c
 returns : tie.Need-returns Inv-loop μ-loop
 returns c =
     let o = c .before .before .before .before .before .args .out in
-    let h = c .loop-test .left in
-    inserting-ends _ _ _ _ _ (c .before .loop .inv .1) (omega (arith, entries-length (o .count) (o .vectors) (o .plans)))
+    inserting-ends _ _ _ _ _ (c .before .loop .inv .1) (omega (arith, c .loop-test .left, entries-length (o .count) (o .vectors) (o .plans)))
 
 pub insert-all-spec : {M : Type 1} → statement M
 insert-all-spec =
