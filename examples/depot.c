@@ -9,9 +9,9 @@
 #include <stdbool.h>
 #include <stdio.h>
 #include <string.h>
-#include <unistd.h>
 
 #include "limgoshi.h"
+#include "write_file.h"
 
 #define LINE_ROOM 80u /* no right line is as long */
 
@@ -120,30 +120,6 @@ static bool add_cards(FILE *file, const char *name, size_t numbers)
             right = false;
         }
     }
-}
-
-/* Writes a file whole or not at all: under another name first, which then takes the place of the old file. */
-static bool write_file(const char *name, const uint8_t *bytes, size_t length)
-{
-    char draft[4096];
-    int n = snprintf(draft, sizeof draft, "%s.new", name);
-    if (n < 0 || (size_t)n >= sizeof draft) {
-        fprintf(stderr, "depot: name of the plane file too long\n");
-        return false;
-    }
-    FILE *file = fopen(draft, "wb");
-    if (file == NULL) {
-        perror(draft);
-        return false;
-    }
-    bool written = fwrite(bytes, 1, length, file) == length && fflush(file) == 0 && fsync(fileno(file)) == 0;
-    written = fclose(file) == 0 && written;
-    if (!written || rename(draft, name) != 0) {
-        perror(written ? name : draft);
-        remove(draft);
-        return false;
-    }
-    return true;
 }
 
 int main(int argc, char **argv)

@@ -3,8 +3,8 @@
  * Answers. Each function returns 0, accepted, or the number of the first cause that it meets, and writes the number that goes with it into
  * *value, turned down or not. A call that is turned down leaves the table and the output exactly as they were.
  *
- * Buffers. Any bytes may be handed in as identifier, table, plane or output. Nothing is kept between calls. A pointer whose length is 0 may be
- * NULL; value may not. The buffers of one call must not overlap, and value must not point into one of them.
+ * Buffers. Any bytes may be handed in as identifier, table, plane, patch or output. Nothing is kept between calls. A pointer whose length is 0 may
+ * be NULL; value may not. The buffers of one call must not overlap, and value must not point into one of them.
  *
  * Threads. There is no static data: calls are safe side by side unless one writes a buffer that another uses.
  *
@@ -35,24 +35,32 @@ extern "C" {
 /* Bytes of a plane with b1 and b2 buckets and this many base entries: 142 to 5,930. */
 #define LIMGOSHI_PLANE_BYTES(b1, b2, entries) (10u + 66u * ((b1) + (b2)) + 10u * (entries))
 
-/* Bytes of stack that a call needs at most. Where memcpy, memmove and memset are bound lazily, the first call needs about 3,200 more. */
-#define LIMGOSHI_STACK_ADD 70000u  /* limgoshi_add */
-#define LIMGOSHI_STACK_LOOKUP 500u /* limgoshi_plane_lookup */
-#define LIMGOSHI_STACK 5000u       /* any other */
+/* Bytes of a patch with this many buckets changed, base words gone and base entries new or changed: 22 to 6,598. For one limgoshi_change that is
+ * at most one bucket or one entry: 89 bytes at most, and 22 if the plan was that already. */
+#define LIMGOSHI_PATCH_BYTES(changes, gone, news) (22u + 67u * (changes) + 9u * (gone) + 10u * (news))
 
-/* The causes in the order in which they are tested, each with what *value then is. */
+/* Bytes of stack that a call needs at most. Where memcpy, memmove and memset are bound lazily, the first call needs about 3,200 more. */
+#define LIMGOSHI_STACK_ADD 70000u   /* limgoshi_add */
+#define LIMGOSHI_STACK_PATCH 10000u /* limgoshi_make_patch, limgoshi_apply_patch */
+#define LIMGOSHI_STACK_LOOKUP 500u  /* limgoshi_plane_lookup */
+#define LIMGOSHI_STACK 5000u        /* any other */
+
+/* The causes in the order in which they are tested, but 9 last of all, each with what *value then is. */
 enum {
     LIMGOSHI_ACCEPTED = 0,
-    LIMGOSHI_WRONG_LENGTH = 1,  /* identifier of 0 or over 20 bytes: its length */
-    LIMGOSHI_WRONG_BYTE = 2,    /* byte of the identifier not allowed: index of the first, from 0 */
-    LIMGOSHI_WRONG_BUCKETS = 3, /* bucket numbers out of range at opening: 0 */
-    LIMGOSHI_WRONG_TABLE = 4,   /* table of another length than its bucket numbers give, or these out of range: the length */
-    LIMGOSHI_NOT_SOUND = 5,     /* table not sound: 0 */
-    LIMGOSHI_LIVE = 6,          /* the identifier is live already: its plan */
-    LIMGOSHI_NOT_LIVE = 7,      /* the identifier is not live: 0 */
-    LIMGOSHI_FULL = 8,          /* the base list has no room for what the add would send there: 0 */
-    LIMGOSHI_SHORT_OUTPUT = 9,  /* output shorter than the plane: the length needed */
-    LIMGOSHI_WRONG_PLANE = 10   /* not a plane: offset of the first record that is wrong or cut, or of the first byte after the last */
+    LIMGOSHI_WRONG_LENGTH = 1,   /* identifier of 0 or over 20 bytes: its length */
+    LIMGOSHI_WRONG_BYTE = 2,     /* byte of the identifier not allowed: index of the first, from 0 */
+    LIMGOSHI_WRONG_BUCKETS = 3,  /* bucket numbers out of range at opening: 0 */
+    LIMGOSHI_WRONG_TABLE = 4,    /* table of another length than its bucket numbers give, or these out of range: the length */
+    LIMGOSHI_NOT_SOUND = 5,      /* table not sound: 0 */
+    LIMGOSHI_LIVE = 6,           /* the identifier is live already: its plan */
+    LIMGOSHI_NOT_LIVE = 7,       /* the identifier is not live: 0 */
+    LIMGOSHI_FULL = 8,           /* the base list has no room for what the add would send there: 0 */
+    LIMGOSHI_SHORT_OUTPUT = 9,   /* output shorter than the plane or patch: the length needed */
+    LIMGOSHI_WRONG_PLANE = 10,   /* not a plane: offset of the first record that is wrong or cut, or of the first byte after the last */
+    LIMGOSHI_UNLIKE_PLANES = 11, /* planes that differ in bucket numbers: 0 */
+    LIMGOSHI_WRONG_PATCH = 12,   /* not a patch for this plane: offset in the patch, as for 10; a record out of its place is wrong too */
+    LIMGOSHI_WRONG_SUM = 13      /* a sum in the patch is not that of the old plane, or not that of the new one: 0 */
 };
 
 /* The compiler warns where an answer is not looked at. */
@@ -89,6 +97,17 @@ LIMGOSHI_ANSWER limgoshi_write_plane(const uint64_t *table, size_t table_len, ui
 /* Finds the plan that a plane gives an identifier: for a live one its plan, for any other some number. The whole plane is checked at each call.
  * Value: the plan. Causes: 1, 2, 10. Time: 0.1 microseconds. Stack: LIMGOSHI_STACK_LOOKUP. */
 LIMGOSHI_ANSWER limgoshi_plane_lookup(const uint8_t *id, size_t id_len, const uint8_t *plane, size_t plane_len, uint64_t *value);
+
+/* Makes the patch from an old plane to a new one, for posts that have the old one, to the front of out; what lies past it is untouched.
+ * Value: the patch's length. Causes: 10 (old_plane, then new_plane), 11, 9. Time: 1 to 20 microseconds. Stack: LIMGOSHI_STACK_PATCH. */
+LIMGOSHI_ANSWER limgoshi_make_patch(const uint8_t *old_plane, size_t old_len, const uint8_t *new_plane, size_t new_len, uint8_t *out,
+                                    size_t out_len, uint64_t *value);
+
+/* Applies a patch to the old plane: the new one goes to the front of out, not over the old one; what lies past it is untouched. The new plane never
+ * gives cause 10, whoever made the patch. The sums find damage and a patch for another plane; they are no signature.
+ * Value: the new plane's length. Causes: 10, 12, 13, 9. Time: 1 to 20 microseconds. Stack: LIMGOSHI_STACK_PATCH. */
+LIMGOSHI_ANSWER limgoshi_apply_patch(const uint8_t *old_plane, size_t old_len, const uint8_t *patch, size_t patch_len, uint8_t *out,
+                                     size_t out_len, uint64_t *value);
 
 #ifdef __cplusplus
 }

@@ -21,6 +21,9 @@ pub const WORD_NOT_LIVE: u64 = 7;
 pub const BASE_FULL: u64 = 8;
 pub const OUTPUT_SHORT: u64 = 9;
 pub const PLANE_WRONG: u64 = 10;
+pub const PLANES_UNLIKE: u64 = 11;
+pub const PATCH_WRONG: u64 = 12;
+pub const SUM_WRONG: u64 = 13;
 
 impl Answer {
     pub const fn accepted(value: u64) -> Answer {

@@ -1,5 +1,6 @@
-//! Reference implementation of the plan table and its plane, written from the
-//! requirement alone (document 01, "The plan table and its plane").
+//! Reference implementation of the plan table, its plane and its patches,
+//! written from the requirement alone (document 01, "The plan table and its
+//! plane"; document 02, order 1).
 
 pub mod answer;
 pub mod bucket;
@@ -7,6 +8,7 @@ pub mod identifier;
 pub mod lines;
 #[cfg(feature = "linked")]
 pub mod ours;
+pub mod patch;
 pub mod plane;
 pub mod rng;
 pub mod table;

@@ -63,6 +63,24 @@ extern "C" {
         plane_len: usize,
         value: *mut u64,
     ) -> u64;
+    fn limgoshi_make_patch(
+        old_plane: *const u8,
+        old_len: usize,
+        new_plane: *const u8,
+        new_len: usize,
+        out: *mut u8,
+        out_len: usize,
+        value: *mut u64,
+    ) -> u64;
+    fn limgoshi_apply_patch(
+        old_plane: *const u8,
+        old_len: usize,
+        patch: *const u8,
+        patch_len: usize,
+        out: *mut u8,
+        out_len: usize,
+        value: *mut u64,
+    ) -> u64;
 }
 
 use crate::answer::Answer;
@@ -154,6 +172,34 @@ pub fn lookup(id: &[u8], plane: &[u8]) -> Answer {
 pub fn write_plane(t: &[u64], out: &mut [u8]) -> Answer {
     answered(|value| unsafe {
         limgoshi_write_plane(t.as_ptr(), t.len(), out.as_mut_ptr(), out.len(), value)
+    })
+}
+
+pub fn make_patch(old: &[u8], new: &[u8], out: &mut [u8]) -> Answer {
+    answered(|value| unsafe {
+        limgoshi_make_patch(
+            old.as_ptr(),
+            old.len(),
+            new.as_ptr(),
+            new.len(),
+            out.as_mut_ptr(),
+            out.len(),
+            value,
+        )
+    })
+}
+
+pub fn apply_patch(old: &[u8], patch: &[u8], out: &mut [u8]) -> Answer {
+    answered(|value| unsafe {
+        limgoshi_apply_patch(
+            old.as_ptr(),
+            old.len(),
+            patch.as_ptr(),
+            patch.len(),
+            out.as_mut_ptr(),
+            out.len(),
+            value,
+        )
     })
 }
 

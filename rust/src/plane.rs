@@ -42,25 +42,27 @@ pub fn write(table: &[u64], output: &mut [u8]) -> Answer {
         Ok(shape) => shape,
         Err(refusal) => return refusal,
     };
-    let plane = plane_of(table, shape);
-    if output.len() < plane.len() {
-        return Answer::refused(OUTPUT_SHORT, plane.len() as u64);
+    put(&plane_of(table, shape), output).into()
+}
+
+/// Writes the bytes to the front of the output and returns their length;
+/// cause 9.
+pub(crate) fn put(bytes: &[u8], output: &mut [u8]) -> Result<u64, Answer> {
+    let length = bytes.len() as u64;
+    match output.get_mut(..bytes.len()) {
+        Some(front) => {
+            front.copy_from_slice(bytes);
+            Ok(length)
+        }
+        None => Err(Answer::refused(OUTPUT_SHORT, length)),
     }
-    output[..plane.len()].copy_from_slice(&plane);
-    Answer::accepted(plane.len() as u64)
 }
 
 /// The plane of a sound table.
 pub fn plane_of(table: &[u64], shape: Shape) -> Vec<u8> {
     let entries = table[BASE_COUNT] as usize;
     let mut plane = Vec::with_capacity(plane_len(shape.buckets(), entries));
-    plane.extend([
-        KIND_HEADER,
-        FORMAT,
-        shape.buckets1 as u8,
-        shape.buckets2 as u8,
-        entries as u8,
-    ]);
+    plane.extend(header(shape, entries));
     for index in 0..shape.buckets() {
         let bucket = shape.read_bucket(table, index);
         plane.extend([KIND_BUCKET, bucket.bound as u8]);
@@ -70,13 +72,34 @@ pub fn plane_of(table: &[u64], shape: Shape) -> Vec<u8> {
     }
     for index in 0..entries {
         let (vector, plan) = shape.base_pair(table, index);
-        plane.push(KIND_BASE);
-        plane.extend(vector.to_le_bytes());
-        plane.push(plan as u8);
+        push_entry(&mut plane, KIND_BASE, (vector, plan as u8));
     }
-    plane.push(KIND_END);
-    plane.extend(END);
+    push_end(&mut plane);
     plane
+}
+
+/// The header record.
+pub(crate) fn header(shape: Shape, entries: usize) -> [u8; HEADER_LEN] {
+    [
+        KIND_HEADER,
+        FORMAT,
+        shape.buckets1 as u8,
+        shape.buckets2 as u8,
+        entries as u8,
+    ]
+}
+
+/// Appends a record of this kind for a base entry, (w', plan).
+pub(crate) fn push_entry(bytes: &mut Vec<u8>, kind: u8, (vector, plan): (u64, u8)) {
+    bytes.push(kind);
+    bytes.extend(vector.to_le_bytes());
+    bytes.push(plan);
+}
+
+/// Appends the record that closes.
+pub(crate) fn push_end(bytes: &mut Vec<u8>) {
+    bytes.push(KIND_END);
+    bytes.extend(END);
 }
 
 /// The plan the plane gives for an identifier; causes 1, 2 and 10.
@@ -99,8 +122,7 @@ pub fn lookup_word(word: u64, plane: &[u8]) -> Answer {
 /// A plane found right: its records, kind bytes included.
 #[derive(Clone, Copy, Debug)]
 pub struct Plane<'a> {
-    buckets1: u64,
-    buckets2: u64,
+    pub shape: Shape,
     buckets: &'a [u8],
     base: &'a [u8],
 }
@@ -136,15 +158,9 @@ impl<'a> Plane<'a> {
             at += BASE_LEN;
         }
 
-        if record(bytes, at, KIND_END, END_LEN)?[1..] != END {
-            return Err(at);
-        }
-        if bytes.len() > at + END_LEN {
-            return Err(at + END_LEN);
-        }
+        check_end(bytes, at)?;
         Ok(Plane {
-            buckets1: shape.buckets1,
-            buckets2: shape.buckets2,
+            shape,
             buckets: &bytes[buckets_start..base_start],
             base: &bytes[base_start..at],
         })
@@ -155,13 +171,14 @@ impl<'a> Plane<'a> {
     pub fn plan(&self, word: u64) -> u8 {
         let vector = level1_vector(word);
         let place = identifier::place(vector);
-        let bucket = self.bucket(identifier::bucket(place, self.buckets1));
+        let bucket = self.bucket(identifier::bucket(place, self.shape.buckets1));
         if identifier::threshold(place) < u64::from(bucket[1]) {
             return solve(bucket, vector);
         }
         let vector = level2_vector(word);
         let place = identifier::place(vector);
-        let bucket = self.bucket(self.buckets1 + identifier::bucket(place, self.buckets2));
+        let index = identifier::bucket(place, self.shape.buckets2);
+        let bucket = self.bucket(self.shape.buckets1 + index);
         if identifier::threshold(place) < u64::from(bucket[1]) {
             return solve(bucket, vector);
         }
@@ -174,18 +191,45 @@ impl<'a> Plane<'a> {
     fn bucket(&self, index: u64) -> &'a [u8] {
         &self.buckets[BUCKET_LEN * index as usize..][..BUCKET_LEN]
     }
+
+    /// The bucket records one after the other, level 1 first.
+    pub fn buckets(&self) -> &'a [u8] {
+        self.buckets
+    }
+
+    /// The base entries, (w', plan), ascending by w'.
+    pub fn entries(&self) -> impl Iterator<Item = (u64, u8)> + 'a {
+        self.base.chunks_exact(BASE_LEN).map(entry)
+    }
 }
 
 /// The record of this kind and length at this offset; the error is the offset.
-fn record(bytes: &[u8], at: usize, kind: u8, len: usize) -> Result<&[u8], usize> {
+pub(crate) fn record(bytes: &[u8], at: usize, kind: u8, len: usize) -> Result<&[u8], usize> {
     match bytes.get(at..at + len) {
         Some(record) if record[0] == kind => Ok(record),
         _ => Err(at),
     }
 }
 
+/// The record that closes stands at this offset and nothing follows; the error
+/// is the offset of what is wrong.
+pub(crate) fn check_end(bytes: &[u8], at: usize) -> Result<(), usize> {
+    if record(bytes, at, KIND_END, END_LEN)?[1..] != END {
+        return Err(at);
+    }
+    if bytes.len() > at + END_LEN {
+        return Err(at + END_LEN);
+    }
+    Ok(())
+}
+
+/// The base entry in a record, (w', plan).
+pub(crate) fn entry(record: &[u8]) -> (u64, u8) {
+    (number(&record[1..]), record[BASE_LEN - 1])
+}
+
 /// The little-endian number in the first 8 bytes.
-fn number(bytes: &[u8]) -> u64 {
+pub(crate) fn number(bytes: &[u8]) -> u64 {
     let mut first = [0; 8];
     first.copy_from_slice(&bytes[..8]);
     u64::from_le_bytes(first)

@@ -4,6 +4,7 @@
 #include <assert.h>
 #include <inttypes.h>
 #include <stdio.h>
+#include <stdlib.h>
 #include <string.h>
 
 #include "limgoshi.h"
@@ -11,19 +12,21 @@
 #define B1_MAX LIMGOSHI_BUCKETS1_MAX
 #define B2_MAX LIMGOSHI_BUCKETS2_MAX
 #define POISON 0xDEADBEEFDEADBEEFu /* *value before each call */
+#define ROOM 7000 /* for lengths and bucket numbers out of range, whatever the header says of them */
 
 /* Smallest and largest. */
 static_assert(LIMGOSHI_TABLE_NUMBERS(1, 1) == 280 && LIMGOSHI_TABLE_NUMBERS(B1_MAX, B2_MAX) == 6052, "numbers of a table");
 static_assert(LIMGOSHI_PLANE_BYTES(1, 1, 0) == 142 && LIMGOSHI_PLANE_BYTES(B1_MAX, B2_MAX, LIMGOSHI_BASE_MAX) == 5930, "bytes of a plane");
+static_assert(LIMGOSHI_PATCH_BYTES(0, 0, 0) == 22 && LIMGOSHI_PATCH_BYTES(B1_MAX + B2_MAX, LIMGOSHI_BASE_MAX, LIMGOSHI_BASE_MAX) == 6598, "bytes of a patch");
+static_assert(LIMGOSHI_PATCH_BYTES(1, 0, 0) == 89, "bytes of the patch of a changed plan");
 
-/* With room for lengths and bucket numbers out of range, whatever the header says of them. */
-static uint64_t table[7000], table_before[7000];
-static uint8_t out[7000], out_before[7000];
+static uint64_t table[ROOM], table_before[ROOM];
+static uint8_t out[ROOM], out_before[ROOM], old_plane[ROOM], new_plane[ROOM], patch[ROOM];
 static uint64_t value;
 static int failed, compared;
 
 /* The function that was called last, and the causes that each has given. */
-enum { OPEN, ADD, CHANGE, WITHDRAW, QUERY, WRITE_PLANE, PLANE_LOOKUP, FUNCTIONS };
+enum { OPEN, ADD, CHANGE, WITHDRAW, QUERY, WRITE_PLANE, PLANE_LOOKUP, MAKE_PATCH, APPLY_PATCH, FUNCTIONS };
 enum { NUMBERS = 64 }; /* more than there are causes */
 static int called, given[FUNCTIONS][NUMBERS];
 #define limgoshi_open(...) (called = OPEN, limgoshi_open(__VA_ARGS__))
@@ -33,6 +36,8 @@ static int called, given[FUNCTIONS][NUMBERS];
 #define limgoshi_query(...) (called = QUERY, limgoshi_query(__VA_ARGS__))
 #define limgoshi_write_plane(...) (called = WRITE_PLANE, limgoshi_write_plane(__VA_ARGS__))
 #define limgoshi_plane_lookup(...) (called = PLANE_LOOKUP, limgoshi_plane_lookup(__VA_ARGS__))
+#define limgoshi_make_patch(...) (called = MAKE_PATCH, limgoshi_make_patch(__VA_ARGS__))
+#define limgoshi_apply_patch(...) (called = APPLY_PATCH, limgoshi_apply_patch(__VA_ARGS__))
 
 /* Identifiers. */
 static const uint8_t *bytes(const char *text) { return (const uint8_t *)text; }
@@ -96,26 +101,27 @@ static uint64_t table_call(int which, uint64_t *t, size_t n, const uint8_t *id, 
     }
 }
 
-/* A plane made by hand: header, empty buckets with bound 8, ascending base records, end. Returns its length. */
-static size_t make_plane(unsigned b1, unsigned b2, unsigned entries)
+/* A plane made by hand: header, empty buckets with bound 8, base records with the words 0, 1, .., end. Returns its length. */
+static size_t make_plane(uint8_t to[ROOM], unsigned b1, unsigned b2, unsigned entries)
 {
     const uint8_t head[5] = {1, 1, (uint8_t)b1, (uint8_t)b2, (uint8_t)entries};
     size_t at = sizeof head;
-    memset(out, 0, sizeof out);
-    memcpy(out, head, sizeof head);
+    memset(to, 0, ROOM);
+    memcpy(to, head, sizeof head);
     for (unsigned i = 0; i < b1 + b2; i++, at += 66) {
-        out[at] = 2;
-        out[at + 1] = 8;
+        to[at] = 2;
+        to[at + 1] = 8;
     }
     for (unsigned i = 0; i < entries; i++, at += 10) {
-        out[at] = 3;
-        out[at + 1] = (uint8_t)i;
+        to[at] = 3;
+        to[at + 1] = (uint8_t)i;
     }
-    memcpy(out + at, "\4END\n", 5);
+    memcpy(to + at, "\4END\n", 5);
     return at + 5;
 }
 
-/* Every pair of bucket numbers and those next to the range: a table of the right length, one more, one less; an output of the right length, one less. */
+/* Every pair of bucket numbers and those next to the range: a table of the right length, one more, one less; an output of the right length, one less,
+ * longer. */
 static void openings(void)
 {
     for (unsigned b1 = 0; b1 <= B1_MAX + 1; b1++) {
@@ -131,6 +137,8 @@ static void openings(void)
             ANSWERS(limgoshi_open(table, n, b1, b2, &value), LIMGOSHI_ACCEPTED, 0);
             ANSWERS(limgoshi_write_plane(table, n, out, length - 1, &value), LIMGOSHI_SHORT_OUTPUT, length);
             ANSWERS(limgoshi_write_plane(table, n, out, length, &value), LIMGOSHI_ACCEPTED, length);
+            memset(out, 0xA5, sizeof out);
+            ANSWERS(limgoshi_write_plane(table, n, out, sizeof out, &value), LIMGOSHI_ACCEPTED, length);
             HOLDS(memcmp(out + length, out_before + length, sizeof out - length) == 0);
         }
     }
@@ -143,7 +151,7 @@ static void identifiers(void)
 {
     static const char allowed[] = "ABCDEFGHIJKLMNOPQRSTUVWXYZabcdefghijklmnopqrstuvwxyz0123456789*-_=:+|@.";
     uint8_t id[LIMGOSHI_ID_MAX + 1];
-    size_t n = LIMGOSHI_TABLE_NUMBERS(1, 1), length = make_plane(1, 1, 0);
+    size_t n = LIMGOSHI_TABLE_NUMBERS(1, 1), length = make_plane(out, 1, 1, 0);
     ANSWERS(limgoshi_open(table, n, 1, 1, &value), LIMGOSHI_ACCEPTED, 0);
     memset(id, 'x', sizeof id);
     for (size_t k = 0; k <= sizeof id; k += k == 1 ? LIMGOSHI_ID_MAX - 1 : 1) { /* 0, 1, 20, 21 */
@@ -236,13 +244,18 @@ static void nulls(void)
     ANSWERS(limgoshi_plane_lookup(NULL, 0, out, length, &value), LIMGOSHI_WRONG_LENGTH, 0);
     ANSWERS(limgoshi_plane_lookup(bytes("bus-17"), 6, NULL, 0, &value), LIMGOSHI_WRONG_PLANE, 0);
     ANSWERS(limgoshi_plane_lookup(NULL, 0, NULL, 0, &value), LIMGOSHI_WRONG_LENGTH, 0);
+    ANSWERS(limgoshi_make_patch(NULL, 0, NULL, 0, NULL, 0, &value), LIMGOSHI_WRONG_PLANE, 0);
+    ANSWERS(limgoshi_apply_patch(NULL, 0, NULL, 0, NULL, 0, &value), LIMGOSHI_WRONG_PLANE, 0);
+    length = make_plane(old_plane, 3, 2, 0);
+    ANSWERS(limgoshi_make_patch(old_plane, length, NULL, 0, NULL, 0, &value), LIMGOSHI_WRONG_PLANE, 0);
+    ANSWERS(limgoshi_apply_patch(old_plane, length, NULL, 0, NULL, 0, &value), LIMGOSHI_WRONG_PATCH, 0);
 }
 
 /* A plane made by hand, the same with its last byte cut, and with a byte more. */
 static void plane(unsigned b1, unsigned b2, unsigned entries)
 {
     int right = b1 >= 1 && b1 <= B1_MAX && b2 >= 1 && b2 <= B2_MAX && entries <= LIMGOSHI_BASE_MAX;
-    size_t length = make_plane(b1, b2, entries);
+    size_t length = make_plane(out, b1, b2, entries);
     HOLDS(length == LIMGOSHI_PLANE_BYTES(b1, b2, entries));
     ANSWERS(limgoshi_plane_lookup(bytes("bus-17"), 6, out, length, &value), right ? LIMGOSHI_ACCEPTED : LIMGOSHI_WRONG_PLANE, 0);
     if (right) {
@@ -262,12 +275,184 @@ static void planes(void)
         plane(B1_MAX, B2_MAX, entries);
     }
     HOLDS(2 * LIMGOSHI_TABLE_NUMBERS(0 | 1, 0 | 1) == 560 && 2 * LIMGOSHI_PLANE_BYTES(0 | 1, 0 | 1, 1 - 1) == 284); /* brackets */
-    make_plane(1, 1, 2);
+    make_plane(out, 1, 1, 2);
     out[5 + 66 + 1] = 9; /* the second bucket's bound */
     ANSWERS(limgoshi_plane_lookup(bytes("bus-17"), 6, out, LIMGOSHI_PLANE_BYTES(1, 1, 2), &value), LIMGOSHI_WRONG_PLANE, 5 + 66);
-    make_plane(1, 1, 2);
+    make_plane(out, 1, 1, 2);
     out[5 + 132 + 10 + 1] = 0; /* the second base record's word */
     ANSWERS(limgoshi_plane_lookup(bytes("bus-17"), 6, out, LIMGOSHI_PLANE_BYTES(1, 1, 2), &value), LIMGOSHI_WRONG_PLANE, 5 + 132 + 10);
+}
+
+/* The patch from a plane to one in which the buckets from number `first` on are changed, `gone` base words are gone and `news` others are new; then it
+ * is applied. Outputs of the right length, one less, longer. */
+static void between(unsigned b1, unsigned b2, unsigned first, unsigned gone, unsigned news)
+{
+    size_t old_length = make_plane(old_plane, b1, b2, gone), new_length = make_plane(new_plane, b1, b2, news);
+    size_t length = LIMGOSHI_PATCH_BYTES(b1 + b2 - first, gone, news);
+    for (unsigned i = first; i < b1 + b2; i++)
+        new_plane[5 + 66 * i + 1 + i % 65] = 7; /* its bound or a byte of its solutions */
+    for (unsigned i = 0; i < news; i++)
+        new_plane[5 + 66 * (b1 + b2) + 10 * i + 8] = 1; /* of its word, the highest byte */
+    ANSWERS(limgoshi_make_patch(old_plane, old_length, new_plane, new_length, out, length - 1, &value), LIMGOSHI_SHORT_OUTPUT, length);
+    ANSWERS(limgoshi_make_patch(old_plane, old_length, new_plane, new_length, out, length, &value), LIMGOSHI_ACCEPTED, length);
+    memset(out, 0xA5, sizeof out);
+    ANSWERS(limgoshi_make_patch(old_plane, old_length, new_plane, new_length, out, sizeof out, &value), LIMGOSHI_ACCEPTED, length);
+    HOLDS(memcmp(out + length, out_before + length, sizeof out - length) == 0);
+    HOLDS(first == b1 + b2 || (out[17] == 6 && out[18] == first));
+    memcpy(patch, out, sizeof patch);
+    ANSWERS(limgoshi_apply_patch(old_plane, old_length, patch, length, out, new_length - 1, &value), LIMGOSHI_SHORT_OUTPUT, new_length);
+    ANSWERS(limgoshi_apply_patch(old_plane, old_length, patch, length, out, new_length, &value), LIMGOSHI_ACCEPTED, new_length);
+    HOLDS(memcmp(out, new_plane, new_length) == 0);
+    memset(out, 0xA5, sizeof out);
+    ANSWERS(limgoshi_apply_patch(old_plane, old_length, patch, length, out, sizeof out, &value), LIMGOSHI_ACCEPTED, new_length);
+    HOLDS(memcmp(out + new_length, out_before + new_length, sizeof out - new_length) == 0);
+}
+
+/* Patches from the shortest to the longest. */
+static void patches(void)
+{
+    for (unsigned b1 = 1; b1 <= B1_MAX; b1++)
+        for (unsigned b2 = 1; b2 <= B2_MAX; b2++)
+            between(b1, b2, b1 - 1, b1, b2);
+    for (unsigned first = 0; first <= B1_MAX + B2_MAX; first++)
+        between(B1_MAX, B2_MAX, first, LIMGOSHI_BASE_MAX, LIMGOSHI_BASE_MAX);
+    for (unsigned entries = 0; entries <= LIMGOSHI_BASE_MAX; entries++) {
+        between(1, 1, 2, entries, 0);
+        between(1, 1, 2, 0, entries);
+    }
+    HOLDS(2 * LIMGOSHI_PATCH_BYTES(0 | 1, 1 - 1, 1 - 1) == 178); /* brackets */
+}
+
+/* FNV-1a 64. */
+static uint64_t sum(const uint8_t *plane, size_t length)
+{
+    uint64_t n = 0xcbf29ce484222325u;
+    for (size_t i = 0; i < length; i++)
+        n = (n ^ plane[i]) * 0x100000001b3u;
+    return n;
+}
+
+/* The next number of a text, 0 at its end. */
+static unsigned number(const char **text)
+{
+    char *end;
+    unsigned n = (unsigned)strtoul(*text, &end, 10);
+    *text = end;
+    return n;
+}
+
+/* A patch made by hand from a text that has the kind of each record and then, for kind 6, index and bound; for kind 7, the word; for kind 8, word and
+ * plan. Its sums are those given; `starts` is where each record starts. Returns its length. */
+static size_t starts[16];
+static size_t make_patch(const char *text, uint64_t old_sum, uint64_t new_sum)
+{
+    size_t at = 0, count = 0;
+    memset(patch, 0, sizeof patch);
+    while (*text != '\0') {
+        unsigned kind = number(&text);
+        starts[count++] = at;
+        patch[at] = (uint8_t)kind;
+        if (kind == 4)
+            memcpy(patch + at, "\4END\n", 5);
+        if (kind == 5) {
+            for (unsigned i = 0; i < 8; i++) {
+                patch[at + 1 + i] = (uint8_t)(old_sum >> 8 * i);
+                patch[at + 9 + i] = (uint8_t)(new_sum >> 8 * i);
+            }
+        }
+        if (kind >= 6 && kind <= 8)
+            patch[at + 1] = (uint8_t)number(&text);
+        if (kind == 6 || kind == 8)
+            patch[at + (kind == 6 ? 2 : 9)] = (uint8_t)number(&text);
+        at += kind == 4 ? 5u : kind == 5 ? 17u : kind == 6 ? 67u : kind == 7 ? 9u : kind == 8 ? 10u : 1u;
+    }
+    starts[count] = at;
+    return at;
+}
+
+/* Patches made by hand that are wrong for a plane of 1 and 1 buckets and this many base words, and where. */
+static const struct {
+    unsigned entries;
+    const char *text;
+    size_t at;
+} wrong_patches[] = {
+    /* without kind 5, with two, without kind 4, with another kind, with bytes after kind 4 */
+    {2, "", 0}, {2, "4", 0}, {2, "6 0 8 4", 0}, {2, "5 5 4", 17}, {2, "5", 17}, {2, "5 6 0 8", 84}, {2, "5 9 4", 17}, {2, "5 3 4", 17}, {2, "5 4 4", 22}, {2, "5 4 0", 22},
+    /* 6 after 7, 6 after 8, 7 after 8 */
+    {2, "5 7 0 6 0 8 4", 26}, {2, "5 8 2 1 6 0 8 4", 27}, {2, "5 8 2 1 7 0 4", 27},
+    /* not strictly ascending */
+    {2, "5 6 1 8 6 0 8 4", 84}, {2, "5 6 1 8 6 1 8 4", 84}, {2, "5 7 1 7 0 4", 26}, {2, "5 7 1 7 1 4", 26}, {2, "5 8 3 1 8 2 1 4", 27}, {2, "5 8 3 1 8 3 1 4", 27},
+    /* an index and a bound out of range, a word gone that is absent, a word gone and new */
+    {2, "5 6 2 8 4", 17}, {2, "5 6 0 8 6 1 9 4", 84}, {2, "5 7 2 4", 17}, {0, "5 7 0 4", 17}, {2, "5 7 0 7 1 8 1 1 4", 35},
+    /* a 65th entry: alone, after a word gone, after an entry changed */
+    {64, "5 8 64 1 4", 17}, {64, "5 7 0 8 64 1 8 65 1 4", 36}, {64, "5 8 3 1 8 64 1 4", 27},
+};
+
+/* Causes 12 and 13: the patches above; a right patch, made by hand and by the library, with every cut and with a bit changed in every byte. */
+static void damage(void)
+{
+    for (size_t i = 0; i < sizeof wrong_patches / sizeof *wrong_patches; i++) {
+        size_t old_length = make_plane(old_plane, 1, 1, wrong_patches[i].entries);
+        size_t length = make_patch(wrong_patches[i].text, 0, 0);
+        ANSWERS(limgoshi_apply_patch(old_plane, old_length, patch, length, out, sizeof out, &value), LIMGOSHI_WRONG_PATCH, wrong_patches[i].at);
+    }
+    size_t old_length = make_plane(old_plane, 1, 1, 3), new_length = make_plane(new_plane, 1, 1, 3);
+    const size_t entries = 5 + 2 * 66;
+    new_plane[5 + 1] = 3; /* the bounds */
+    new_plane[5 + 66 + 1] = 0;
+    new_plane[entries + 10 + 1] = 2; /* the words 0, 2 with another plan, and 77, where there were 0, 1, 2 */
+    new_plane[entries + 10 + 9] = 9;
+    new_plane[entries + 20 + 1] = 77;
+    uint64_t old_sum = sum(old_plane, old_length), new_sum = sum(new_plane, new_length);
+    size_t length = make_patch("5 6 0 3 6 1 0 7 1 8 2 9 8 77 0 4", old_sum, new_sum);
+    ANSWERS(limgoshi_make_patch(old_plane, old_length, new_plane, new_length, out, sizeof out, &value), LIMGOSHI_ACCEPTED, length);
+    HOLDS(memcmp(out, patch, length) == 0);
+    ANSWERS(limgoshi_apply_patch(old_plane, old_length, patch, length, out, sizeof out, &value), LIMGOSHI_ACCEPTED, new_length);
+    HOLDS(memcmp(out, new_plane, new_length) == 0);
+    for (size_t i = 0, record = 0; i < length; i++) {
+        record += i == starts[record + 1];
+        size_t start = starts[record];
+        unsigned kind = patch[start], place = (unsigned)(i - start);
+        ANSWERS(limgoshi_apply_patch(old_plane, old_length, patch, i, out, sizeof out, &value), LIMGOSHI_WRONG_PATCH, start);
+        patch[i] ^= 0x80;
+        if (kind == 8 && place >= 1 && place <= 8 && patch[starts[record + 1]] == 8) /* its word: then the next is not above it */
+            ANSWERS(limgoshi_apply_patch(old_plane, old_length, patch, length, out, sizeof out, &value), LIMGOSHI_WRONG_PATCH, starts[record + 1]);
+        else if (place == 0 || kind == 4 || kind == 7 || (kind == 6 && place <= 2))
+            ANSWERS(limgoshi_apply_patch(old_plane, old_length, patch, length, out, sizeof out, &value), LIMGOSHI_WRONG_PATCH, start);
+        else
+            ANSWERS(limgoshi_apply_patch(old_plane, old_length, patch, length, out, sizeof out, &value), LIMGOSHI_WRONG_SUM, 0);
+        patch[i] ^= 0x80;
+    }
+    length = make_patch("5 6 0 8 8 1 0 4", old_sum, old_sum); /* changes nothing */
+    ANSWERS(limgoshi_apply_patch(old_plane, old_length, patch, length, out, sizeof out, &value), LIMGOSHI_ACCEPTED, old_length);
+    HOLDS(memcmp(out, old_plane, old_length) == 0);
+}
+
+/* What making and applying test before what: each call has every later cause too. */
+static void patch_order(void)
+{
+    size_t n = make_plane(old_plane, 2, 1, 3), length;
+    make_plane(new_plane, 1, 2, 3);
+    ANSWERS(limgoshi_make_patch(old_plane, n - 1, new_plane, n + 1, out, 0, &value), LIMGOSHI_WRONG_PLANE, n - 5);
+    ANSWERS(limgoshi_make_patch(old_plane, n, new_plane, n + 1, out, 0, &value), LIMGOSHI_WRONG_PLANE, n);
+    ANSWERS(limgoshi_make_patch(old_plane, n, new_plane, n, out, 0, &value), LIMGOSHI_UNLIKE_PLANES, 0);
+    length = make_plane(new_plane, 3, 1, 3);
+    ANSWERS(limgoshi_make_patch(old_plane, n, new_plane, length, out, 0, &value), LIMGOSHI_UNLIKE_PLANES, 0);
+    length = make_plane(new_plane, 2, 2, 3);
+    ANSWERS(limgoshi_make_patch(old_plane, n, new_plane, length, out, 0, &value), LIMGOSHI_UNLIKE_PLANES, 0);
+    length = make_plane(new_plane, 2, 1, 0);
+    ANSWERS(limgoshi_make_patch(old_plane, n, new_plane, length, NULL, 0, &value), LIMGOSHI_SHORT_OUTPUT, LIMGOSHI_PATCH_BYTES(0, 3, 0));
+
+    uint64_t old_sum = sum(old_plane, n), new_sum = sum(new_plane, length);
+    make_patch("5 7 0 7 1 7 2 9", 0, 0);
+    ANSWERS(limgoshi_apply_patch(old_plane, n + 1, patch, 45, out, 0, &value), LIMGOSHI_WRONG_PLANE, n);
+    ANSWERS(limgoshi_apply_patch(old_plane, n, patch, 45, out, 0, &value), LIMGOSHI_WRONG_PATCH, 44);
+    make_patch("5 7 0 7 1 7 2 4", old_sum, old_sum);
+    ANSWERS(limgoshi_apply_patch(old_plane, n, patch, 49, out, 0, &value), LIMGOSHI_WRONG_SUM, 0);
+    make_patch("5 7 0 7 1 7 2 4", new_sum, new_sum);
+    ANSWERS(limgoshi_apply_patch(old_plane, n, patch, 49, out, 0, &value), LIMGOSHI_WRONG_SUM, 0);
+    make_patch("5 7 0 7 1 7 2 4", old_sum, new_sum);
+    ANSWERS(limgoshi_apply_patch(old_plane, n, patch, 49, NULL, 0, &value), LIMGOSHI_SHORT_OUTPUT, length);
 }
 
 /* Fills a table until its base list has LIMGOSHI_BASE_MAX entries and an add is turned down as full. Returns the number of cards tried. */
@@ -333,6 +518,38 @@ static void full(void)
     }
 }
 
+/* The patch of each changed plan, in a bucket or in the base list, and of a plan that is set again. The table is that of `full`. */
+static void plans(void)
+{
+    size_t n = LIMGOSHI_TABLE_NUMBERS(1, 1), length = LIMGOSHI_PLANE_BYTES(1, 1, LIMGOSHI_BASE_MAX);
+    unsigned in_bucket = 0, in_base = 0;
+    for (unsigned i = 0; in_bucket + in_base < table[3] && i < 10000; i++) {
+        const uint8_t *id = bytes(card(i));
+        size_t k = strlen(card(i));
+        before();
+        if (limgoshi_query(table, n, id, k, &value) != LIMGOSHI_ACCEPTED)
+            continue;
+        ANSWERS(limgoshi_write_plane(table, n, old_plane, length, &value), LIMGOSHI_ACCEPTED, length);
+        ANSWERS(limgoshi_change(table, n, id, k, (uint8_t)(i + 1), &value), LIMGOSHI_ACCEPTED, (uint8_t)i);
+        ANSWERS(limgoshi_write_plane(table, n, new_plane, length, &value), LIMGOSHI_ACCEPTED, length);
+        before();
+        uint64_t answer = limgoshi_make_patch(old_plane, length, new_plane, length, patch, LIMGOSHI_PATCH_BYTES(1, 0, 0), &value);
+        size_t size = value == LIMGOSHI_PATCH_BYTES(0, 0, 1) ? LIMGOSHI_PATCH_BYTES(0, 0, 1) : LIMGOSHI_PATCH_BYTES(1, 0, 0);
+        after(__LINE__, "limgoshi_make_patch of a changed plan", answer, LIMGOSHI_ACCEPTED, size);
+        in_bucket += size == LIMGOSHI_PATCH_BYTES(1, 0, 0);
+        in_base += size == LIMGOSHI_PATCH_BYTES(0, 0, 1);
+        ANSWERS(limgoshi_plane_lookup(id, k, old_plane, length, &value), LIMGOSHI_ACCEPTED, (uint8_t)i);
+        ANSWERS(limgoshi_apply_patch(old_plane, length, patch, size, out, sizeof out, &value), LIMGOSHI_ACCEPTED, length);
+        ANSWERS(limgoshi_plane_lookup(id, k, out, length, &value), LIMGOSHI_ACCEPTED, (uint8_t)(i + 1));
+        HOLDS(memcmp(out, new_plane, length) == 0);
+
+        ANSWERS(limgoshi_change(table, n, id, k, (uint8_t)(i + 1), &value), LIMGOSHI_ACCEPTED, (uint8_t)(i + 1));
+        ANSWERS(limgoshi_write_plane(table, n, old_plane, length, &value), LIMGOSHI_ACCEPTED, length);
+        ANSWERS(limgoshi_make_patch(new_plane, length, old_plane, length, patch, sizeof patch, &value), LIMGOSHI_ACCEPTED, LIMGOSHI_PATCH_BYTES(0, 0, 0));
+    }
+    HOLDS(in_bucket + in_base == table[3] && in_base == LIMGOSHI_BASE_MAX);
+}
+
 int main(void)
 {
     openings();
@@ -341,8 +558,12 @@ int main(void)
     order();
     nulls();
     planes();
+    patches();
+    damage();
+    patch_order();
     full();
-    static const char *const names[FUNCTIONS] = {"open", "add", "change", "withdraw", "query", "write_plane", "plane_lookup"};
+    plans();
+    static const char *const names[FUNCTIONS] = {"open", "add", "change", "withdraw", "query", "write_plane", "plane_lookup", "make_patch", "apply_patch"};
     for (int f = 0; f < FUNCTIONS; f++) {
         printf("limgoshi_%s", names[f]);
         for (int cause = 1; cause < NUMBERS; cause++)

@@ -1,6 +1,7 @@
 /* The stack that each call needs: it runs on a stack of its own that was painted with a pattern, and the deepest byte that it wrote is looked for.
  * Tables of several sizes are filled until they are full, so that an add takes every way there is: straight into a bucket, past a bound, words that
- * leave level 1 one by one and several at a time, refused as full. Prints the largest figures; status 1 if one is above the header's bound. */
+ * leave level 1 one by one and several at a time, refused as full. Patches go from the plane of the empty table to that of the full one and back.
+ * Prints the largest figures; status 1 if one is above the header's bound. */
 #define _GNU_SOURCE
 #include <inttypes.h>
 #include <stdio.h>
@@ -13,16 +14,17 @@
 #define B2_MAX LIMGOSHI_BUCKETS2_MAX
 #define STACK_BYTES (256u * 1024u)
 #define CARDS 6000u
-#define CALLS 7u
+#define CALLS 9u
 
-static const char *const names[CALLS] = {"open", "add", "change", "withdraw", "query", "write_plane", "plane_lookup"};
-static const size_t bounds[CALLS] = {LIMGOSHI_STACK, LIMGOSHI_STACK_ADD, LIMGOSHI_STACK,       LIMGOSHI_STACK,
-                                     LIMGOSHI_STACK, LIMGOSHI_STACK,     LIMGOSHI_STACK_LOOKUP};
+static const char *const names[CALLS] = {"open", "add", "change", "withdraw", "query", "write_plane", "plane_lookup", "make_patch", "apply_patch"};
+static const size_t bounds[CALLS] = {LIMGOSHI_STACK, LIMGOSHI_STACK_ADD,    LIMGOSHI_STACK,       LIMGOSHI_STACK,      LIMGOSHI_STACK,
+                                     LIMGOSHI_STACK, LIMGOSHI_STACK_LOOKUP, LIMGOSHI_STACK_PATCH, LIMGOSHI_STACK_PATCH};
 
 /* What a call is made with, and what it answers. */
 static uint64_t table[LIMGOSHI_TABLE_NUMBERS(B1_MAX, B2_MAX)];
-static uint8_t plane[LIMGOSHI_PLANE_BYTES(B1_MAX, B2_MAX, LIMGOSHI_BASE_MAX)];
-static size_t numbers, plane_length, id_length;
+static uint8_t plane[LIMGOSHI_PLANE_BYTES(B1_MAX, B2_MAX, LIMGOSHI_BASE_MAX)], old_plane[sizeof plane], new_plane[sizeof plane];
+static uint8_t patch[LIMGOSHI_PATCH_BYTES(B1_MAX + B2_MAX, LIMGOSHI_BASE_MAX, LIMGOSHI_BASE_MAX)];
+static size_t numbers, plane_length, old_length, patch_length, room, id_length;
 static uint64_t b1, b2, value, cause;
 static char id[32];
 static uint8_t plan;
@@ -32,6 +34,7 @@ static _Alignas(16) unsigned char stack[STACK_BYTES];
 static unsigned char *start;
 static size_t used[CALLS];
 static ucontext_t here, there;
+static int status;
 
 /* Makes one call. What this function itself keeps on the stack is counted as the call's. */
 static void make_call(int which)
@@ -45,7 +48,9 @@ static void make_call(int which)
     case 3: cause = limgoshi_withdraw(table, numbers, bytes, id_length, &value); break;
     case 4: cause = limgoshi_query(table, numbers, bytes, id_length, &value); break;
     case 5: cause = limgoshi_write_plane(table, numbers, plane, sizeof plane, &value); break;
-    default: cause = limgoshi_plane_lookup(bytes, id_length, plane, plane_length, &value);
+    case 6: cause = limgoshi_plane_lookup(bytes, id_length, plane, plane_length, &value); break;
+    case 7: cause = limgoshi_make_patch(old_plane, old_length, plane, plane_length, patch, room, &value); break;
+    default: cause = limgoshi_apply_patch(old_plane, old_length, patch, patch_length, new_plane, room, &value);
     }
 }
 
@@ -78,6 +83,55 @@ static void set_card(unsigned n)
     plan = (uint8_t)n;
 }
 
+/* Exchanges the two planes that a patch is made from. */
+static void exchange(void)
+{
+    memcpy(new_plane, plane, sizeof plane);
+    memcpy(plane, old_plane, sizeof plane);
+    memcpy(old_plane, new_plane, sizeof plane);
+    size_t length = plane_length;
+    plane_length = old_length;
+    old_length = length;
+}
+
+/* A patch is made and applied; then the calls that are turned down: output too short, planes unlike or wrong, each byte of the patch wrong or cut off. */
+static void patches(unsigned char paint)
+{
+    room = sizeof patch;
+    call(7);
+    patch_length = (size_t)value;
+    room = 0;
+    call(7);
+    old_length--;
+    call(7);
+    old_length++;
+    plane[2] = (uint8_t)b2; /* other bucket numbers */
+    plane[3] = (uint8_t)b1;
+    call(7);
+    plane[2] = (uint8_t)b1;
+    plane[3] = (uint8_t)b2;
+    note(7, paint);
+    room = sizeof new_plane;
+    call(8);
+    if (cause != LIMGOSHI_ACCEPTED || value != plane_length || memcmp(new_plane, plane, plane_length) != 0) {
+        printf("stack: a patch was not applied\n");
+        status = 1;
+    }
+    old_length--;
+    call(8);
+    old_length++;
+    for (size_t i = 0; i < patch_length; i++) {
+        patch[i] ^= 0x80;
+        call(8);
+        patch[i] ^= 0x80;
+    }
+    room = 0;
+    call(8);
+    for (; patch_length > 0; patch_length--)
+        call(8);
+    note(8, paint);
+}
+
 /* Every call on every card of a table that is filled until it is full, and on what it leaves; then calls that are turned down. */
 static void fill(uint64_t n1, uint64_t n2, unsigned char paint)
 {
@@ -88,6 +142,10 @@ static void fill(uint64_t n1, uint64_t n2, unsigned char paint)
     memset(stack, paint, sizeof stack);
     call(0);
     note(0, paint);
+    call(5);
+    old_length = (size_t)value;
+    memcpy(old_plane, plane, old_length);
+    note(5, paint);
     unsigned cards = 0;
     for (; cards < CARDS && full < 20; cards++) {
         set_card(cards);
@@ -98,6 +156,10 @@ static void fill(uint64_t n1, uint64_t n2, unsigned char paint)
     call(5);
     plane_length = (size_t)value;
     note(5, paint);
+    patches(paint);
+    exchange();
+    patches(paint);
+    exchange();
     static const int asked[] = {6, 4, 2, 3};
     for (size_t k = 0; k < sizeof asked / sizeof *asked; k++) {
         for (unsigned i = 0; i < cards; i += cards / 200 + 1) {
@@ -120,13 +182,14 @@ static void fill(uint64_t n1, uint64_t n2, unsigned char paint)
         numbers++;
         note(which, paint);
     }
-    if (full == 0)
+    if (full == 0) {
         printf("stack: %" PRIu64 " and %" PRIu64 " buckets did not get full\n", n1, n2);
+        status = 1;
+    }
 }
 
 int main(void)
 {
-    int status = 0;
     fill(1, 1, 0xA5);
     fill(1, 1, 0x5A); /* a byte may be written that is just the paint */
     fill(2, 1, 0xA5);

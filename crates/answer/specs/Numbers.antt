@@ -1,9 +1,10 @@
--- Document 01's table of causes: the number of each case of an answer, and what is returned with it.
+-- Document 01's table of causes, with those that document 02's orders add (11 to 13: order 1): the number of each case of an answer, and what is
+-- returned with it.
 use Prim.Native.Nat.{ℕ}
 use Rattle.answer.specs.declared.Answer.{Answer}
-use Rattle.answer.specs.declared.Answer.the-variants.{Accepted, WrongLength, WrongByte, WrongBuckets, WrongTable, NotSound, Live, NotLive, Full, ShortOutput, WrongPlane}
+use Rattle.answer.specs.declared.Answer.the-variants.{Accepted, WrongLength, WrongByte, WrongBuckets, WrongTable, NotSound, Live, NotLive, Full, ShortOutput, WrongPlane, UnlikePlanes, WrongPatch, WrongSum}
 
--- document 01's number of the cause, 0 if there is none
+-- the number of the cause, 0 if there is none
 abbrev pub numberOf : Answer → ℕ
 numberOf (Accepted n) = 0
 numberOf (WrongLength n) = 1
@@ -16,6 +17,9 @@ numberOf NotLive = 7
 numberOf Full = 8
 numberOf (ShortOutput n) = 9
 numberOf (WrongPlane i) = 10
+numberOf UnlikePlanes = 11
+numberOf (WrongPatch i) = 12
+numberOf WrongSum = 13
 
 -- document 01's "returned with it"
 abbrev pub valueOf : Answer → ℕ
@@ -30,3 +34,6 @@ valueOf NotLive = 0
 valueOf Full = 0
 valueOf (ShortOutput n) = n
 valueOf (WrongPlane i) = i
+valueOf UnlikePlanes = 0
+valueOf (WrongPatch i) = i
+valueOf WrongSum = 0

@@ -1,12 +1,12 @@
 // What a call answers: accepted, or the cause for which it is turned down, with what is returned with each.
-// Definitions: specs/Numbers.antt, document 01's number and value of each case; specs/Causes.antt, a list of causes and the first of them
+// Definitions: specs/Numbers.antt, the number and value of each case by documents 01 and 02; specs/Causes.antt, a list of causes and the first of them
 // that is met. Laws: proofs/Determined.antt, proofs/Causes.antt.
 // A later order's cause gets its case, number and value here; it is tested by the call that can meet it, and stated and proved there too.
 // Cites nothing of the project; every crate with a call cites it.
 ghost use mathlib.Core.Path.{_≡_};
 ghost use Rattle.answer.specs.Numbers.{numberOf, valueOf};
 
-// One case for accepted and one for each cause of document 01's table, in its order.
+// One case for accepted and one for each cause of document 01's table, in its order; then those of document 02's orders.
 pub enum Answer {
     // Accepted: what the call returns.
     Accepted(u64),
@@ -31,6 +31,12 @@ pub enum Answer {
     // Plane wrong: offset of the first record that is cut, of a wrong kind or with a value not allowed, or of the first
     // byte after kind 4.
     WrongPlane(u64),
+    // Order 1: planes differ in bucket numbers.
+    UnlikePlanes,
+    // Order 1: patch wrong: the offset, as for a plane.
+    WrongPatch(u64),
+    // Order 1: a sum does not fit.
+    WrongSum,
 }
 
 // The number of an answer: 0 if accepted, else that of the cause.
@@ -49,6 +55,9 @@ pub fn number(a: Answer) -> u64
         Answer::Full => 8,
         Answer::ShortOutput(_) => 9,
         Answer::WrongPlane(_) => 10,
+        Answer::UnlikePlanes => 11,
+        Answer::WrongPatch(_) => 12,
+        Answer::WrongSum => 13,
     }
 }
 
@@ -68,5 +77,8 @@ pub fn value(a: Answer) -> u64
         Answer::Full => 0,
         Answer::ShortOutput(n) => n,
         Answer::WrongPlane(i) => i,
+        Answer::UnlikePlanes => 0,
+        Answer::WrongPatch(i) => i,
+        Answer::WrongSum => 0,
     }
 }

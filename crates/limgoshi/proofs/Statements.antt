@@ -1,8 +1,8 @@
--- The three statements, over the definitions that the contracts of the entries cite: `openCall`, `call`, `writeCall`, `lookupCall`. Each theorem stands
+-- The three statements, over the definitions that the contracts of the entries cite: `openCall`, `call`, `writeCall`, `lookupCall`, `makeCall`, `applyCall`. Each theorem stands
 -- under the words that it is for; the crates named prove it. docs/READING.md lists the definitions that it takes to read this file.
 -- Assumes nothing.
 use Prim.Native.Nat.{ℕ, _^_, _≤_, _<_}
-use mathlib.Core.Path.{_≡_}
+use mathlib.Core.Path.{_≡_, ap, _∙_}
 use mathlib.Core.Bool.{true, false}
 use mathlib.Core.Logic.{_↔_}
 use mathlib.Core.Option.{none, some}
@@ -12,7 +12,7 @@ use lib.ListN.{length, getD, take}
 use Rattle.lists.specs.Entries.{planLimit, words, find}
 use Rattle.gf2.specs.Bound.{Largest}
 use Rattle.answer.specs.declared.Answer.{Answer}
-use Rattle.answer.specs.declared.Answer.the-variants.{Accepted, WrongLength, WrongByte, WrongBuckets, WrongTable, NotSound, Live, NotLive, Full, ShortOutput, WrongPlane}
+use Rattle.answer.specs.declared.Answer.the-variants.{Accepted, WrongLength, WrongByte, WrongBuckets, WrongTable, NotSound, Live, NotLive, Full, ShortOutput, WrongPlane, UnlikePlanes, WrongPatch, WrongSum}
 use Rattle.answer.specs.Numbers.{numberOf}
 use Rattle.answer.specs.Causes.{Exactly}
 use Rattle.identifier.specs.Identifier.{readOf}
@@ -28,15 +28,21 @@ use Rattle.table.specs.Causes.{openCauses, openReturns, callCauses, callReturns
 use Rattle.table.proofs.Statements as Table
 use Rattle.plane.specs.Lookup.{lookupCall}
 use Rattle.plane.specs.Causes.{lookupCauses, lookupReturns}
-use Rattle.plane_write.specs.Write.{writeCall, shownTo}
+use Rattle.plane_write.specs.Write.{putFront, writeCall, shownTo}
 use Rattle.plane_write.specs.Causes.{writeCauses, writeReturns}
 use Rattle.plane_write.proofs.Statements as Plane
+use Rattle.patch.specs.Calls.{makeCall, applyCall}
+use Rattle.patch.specs.Causes.{makeCauses, makeReturns, applyCauses, applyReturns}
+use Rattle.patch.proofs.Causes as Patch
+use Rattle.patch.proofs.Calls.{make-refused, apply-refused}
+use Rattle.patch_make.specs.After.{planeAfter}
+use Rattle.patch_make.proofs.Lists.{list-follows, list-new, plane-tells}
 
--- ---- statement 1: "Any bytes as identifier, table or plane are answered or turned down by a number of document 01's table, without fault". No
--- entry has a `requires`, and every function is proved safe and ending
+-- ---- statement 1: "Any bytes as identifier, table or plane are answered or turned down by a number of document 01's table, without fault", and any
+-- as patch; document 02's orders add their numbers. No entry has a `requires`, and every function is proved safe and ending
 
--- "by a number of document 01's table"
-pub numbers : (a : Answer) → numberOf a ≤ 10
+-- "by a number of document 01's table", or 11 to 13 of order 1
+pub numbers : (a : Answer) → numberOf a ≤ 13
 numbers (Accepted n) = omega arith
 numbers (WrongLength n) = omega arith
 numbers (WrongByte i) = omega arith
@@ -48,6 +54,9 @@ numbers NotLive = omega arith
 numbers Full = omega arith
 numbers (ShortOutput n) = omega arith
 numbers (WrongPlane i) = omega arith
+numbers UnlikePlanes = omega arith
+numbers (WrongPatch i) = omega arith
+numbers WrongSum = omega arith
 
 -- "each number given if and only if its cause is the first met", and what is returned with it: specs/Causes of the crates named list the causes
 -- of each entry in the document's words
@@ -64,6 +73,12 @@ write-causes = Plane.write-causes
 pub lookup-causes : (id p : List ℕ) → Exactly (lookupCauses id p) (lookupReturns id p) (lookupCall id p)
 lookup-causes = Plane.lookup-causes
 
+pub make-causes : (p q out : List ℕ) → Exactly (makeCauses p q out) (makeReturns p q) (makeCall p q out .answer)
+make-causes = Patch.make-exactly
+
+pub apply-causes : (p d out : List ℕ) → Exactly (applyCauses p d out) (applyReturns p d) (applyCall p d out .answer)
+apply-causes = Patch.apply-exactly
+
 -- "a call turned down leaves table and output exactly as they were"
 pub open-keeps : (b1 b2 : ℕ) (t : List ℕ) → accepted (openCall b1 b2 t .answer) ≡ false → openCall b1 b2 t .table ≡ t
 open-keeps = Table.refused-opening
@@ -73,6 +88,12 @@ call-keeps t c = Table.refused-keeps t (ask c)
 
 pub write-keeps : (t out : List ℕ) → accepted (writeCall t out .answer) ≡ false → writeCall t out .output ≡ out
 write-keeps = Plane.refused-keeps
+
+pub make-keeps : (p q out : List ℕ) → accepted (makeCall p q out .answer) ≡ false → makeCall p q out .output ≡ out
+make-keeps p q out = make-refused out p q
+
+pub apply-keeps : (p d out : List ℕ) → accepted (applyCall p d out .answer) ≡ false → applyCall p d out .output ≡ out
+apply-keeps p d out = apply-refused out p d
 
 -- ---- statement 2: t is what an accepted opening left, ps any calls since, refused ones included
 
@@ -91,6 +112,20 @@ module _ (t : List ℕ) (o : Opened t) (ps : List Put) where
     -- "a plane written and read again answers for each identifier as the table's own XOR words or base list do"
     pub plane-as-table : (id : List ℕ) → lookupCall id (take n (writeCall (after tables t ps) out .output)) ≡ shownTo (tableOf (after tables t ps)) (readOf id)
     plane-as-table = Plane.list-gives t o ps out n e
+
+-- ---- patches, document 02, order 1: a post that has the plane after the calls ps and applies the patch to the plane after the calls qs, of the same
+-- opening (qs may begin with ps), has that plane and answers by it
+
+module _ (t : List ℕ) (o : Opened t) (ps qs : List Put) (out : List ℕ) (n : ℕ) (made : makeCall (planeAfter t ps) (planeAfter t qs) out .answer ≡ Accepted n) (into : List ℕ) where
+  -- applying what was made meets no cause but 9, and gives the new plane byte for byte
+  pub post-follows : applyCall (planeAfter t ps) (take n (makeCall (planeAfter t ps) (planeAfter t qs) out .output)) into ≡ putFront (planeAfter t qs) into
+  post-follows = list-follows t o ps qs out n made into
+
+  -- every live identifier then gives its word's last accepted plan from the post's plane
+  pub plan-from-post : (m : ℕ) → applyCall (planeAfter t ps) (take n (makeCall (planeAfter t ps) (planeAfter t qs) out .output)) into .answer ≡ Accepted m
+      → (id : List ℕ) (w p : ℕ) → readOf id ≡ Word w → told w (acceptedCalls t qs) ≡ some p
+      → lookupCall id (take m (applyCall (planeAfter t ps) (take n (makeCall (planeAfter t ps) (planeAfter t qs) out .output)) into .output)) ≡ Accepted p
+  plan-from-post m e id w p i h = ap (lookupCall id) (list-new t o ps qs out n made into m e) ∙ plane-tells t o qs id w p i h
 
 -- ---- statement 3
 

@@ -1,13 +1,14 @@
-// The library for C and Rust: one entry for each call, over table and plane. Each returns the number of the answer (0: accepted) and puts
+// The library for C and Rust: one entry for each call, over table, plane and patch. Each returns the number of the answer (0: accepted) and puts
 // the number that goes with it into `value`; include/limgoshi.h declares them. No entry has a `requires`; each contract says what every buffer
 // that is handed in holds afterwards.
-// Cites answer, table_open, table_calls, table_add, plane and plane_write. Programs in other languages call it.
+// Cites answer, table_open, table_calls, table_add, plane, plane_write, patch_make and patch_apply. Programs in other languages call it.
 ghost use mathlib.Core.Path.{_≡_};
 ghost use Rattle.answer.specs.Numbers.{numberOf, valueOf};
 ghost use Rattle.model.specs.Model.{add, change, withdraw, query};
 ghost use Rattle.table.specs.Calls.{openCall, call};
 ghost use Rattle.plane.specs.Lookup.{lookupCall};
 ghost use Rattle.plane_write.specs.Write.{writeCall};
+ghost use Rattle.patch.specs.Calls.{makeCall, applyCall};
 
 // Opens an empty table with b1 and b2 buckets.
 #[no_mangle]
@@ -77,4 +78,34 @@ pub extern "C" fn limgoshi_plane_lookup(id: &[u8], plane: &[u8], value: &mut u64
     let looked_up = plane::lookup(id, plane);
     *value = answer::value(looked_up);
     answer::number(looked_up)
+}
+
+// Makes the patch from an old plane to a new one, to the front of the output.
+#[no_mangle]
+pub extern "C" fn limgoshi_make_patch(
+    old: &[u8],
+    new: &[u8],
+    out: &mut [u8],
+    value: &mut u64,
+) -> u64
+    ensures { λ r. ⌜ (r ≡ numberOf (makeCall (now (old .entry)) (now (new .entry)) (now (out .entry)) .answer)) × (now (value .exit) ≡ valueOf (makeCall (now (old .entry)) (now (new .entry)) (now (out .entry)) .answer)) × (now (out .exit) ≡ makeCall (now (old .entry)) (now (new .entry)) (now (out .entry)) .output) × (now (old .exit) ≡ now (old .entry)) × (now (new .exit) ≡ now (new .entry)) ⌝ }
+{
+    let made = patch_make::make(old, new, out);
+    *value = answer::value(made);
+    answer::number(made)
+}
+
+// Applies a patch to the plane that it was made for: the new plane, to the front of the output.
+#[no_mangle]
+pub extern "C" fn limgoshi_apply_patch(
+    old: &[u8],
+    patch: &[u8],
+    out: &mut [u8],
+    value: &mut u64,
+) -> u64
+    ensures { λ r. ⌜ (r ≡ numberOf (applyCall (now (old .entry)) (now (patch .entry)) (now (out .entry)) .answer)) × (now (value .exit) ≡ valueOf (applyCall (now (old .entry)) (now (patch .entry)) (now (out .entry)) .answer)) × (now (out .exit) ≡ applyCall (now (old .entry)) (now (patch .entry)) (now (out .entry)) .output) × (now (old .exit) ≡ now (old .entry)) × (now (patch .exit) ≡ now (patch .entry)) ⌝ }
+{
+    let applied = patch_apply::apply(old, patch, out);
+    *value = answer::value(applied);
+    answer::number(applied)
 }

@@ -1,5 +1,5 @@
 -- Calls with any bytes as identifier: each is turned down by cause 1 or 2 and changes nothing, or is the step by its word. Causes 4 and
--- 5 are never given. Assumes nothing.
+-- 5 are never given, and the size stays. Assumes nothing.
 use Prim.Native.Nat.{ℕ, _^_, _<_}
 use native.Mathlib.Omega.{arith}
 use mathlib.Core.Path.{_≡_, refl, sym, ap, _∙_, subst, subst⁻¹}
@@ -10,15 +10,16 @@ use mathlib.Core.Option.{Option, none, some}
 use lib.Dec.{ltb}
 use lib.ListN.{length}
 use borrow.Author.Tests.{ne-eqb}
-use Rattle.lists.specs.Entries.{Entry, find}
+use Rattle.lists.specs.Entries.{Entry, find, update, remove}
 use Rattle.lists.proofs.Tests.{by-test}
+use Rattle.answer.specs.declared.Answer.the-variants.{Accepted, Live, NotLive, Full}
 use Rattle.answer.specs.Numbers.{numberOf}
 use Rattle.identifier.specs.Identifier.{sized, firstRefused, wordOf, readOf}
 use Rattle.identifier.specs.declared.Read.{Read}
 use Rattle.identifier.specs.declared.Read.the-variants.{Word, Refused}
 use Rattle.identifier.proofs.Words.{word-lt}
 use Rattle.model.specs.Levels.{Level, firstLevel, secondLevel}
-use Rattle.model.specs.Model.{baseLimit, State, Call, add, change, withdraw, query, Outcome, stepLive, wouldLeave, base, stepAdd, step}
+use Rattle.model.specs.Model.{baseLimit, State, Call, add, change, withdraw, query, Outcome, withLive, stepLive, wouldLeave, base, stepAdd, step}
 use Rattle.model.specs.Request.{Token, subject, wordFor, askOf, byWord, serveRead, serve, Request, ask, respond, callsOf}
 use Rattle.model.specs.Machine.{accepted}
 use Rattle.model.specs.History.{model}
@@ -68,33 +69,46 @@ respond-keeps s (ask c) r =
     (λ e. ap (λ (o : Outcome). o .after) e ∙ refused-keeps firstLevel secondLevel s (byWord c) (sym (ap (λ (o : Outcome). accepted (o .answer)) e) ∙ r))
     (serve-each s c)
 
+-- ---- what holds of every outcome of a step
+
+module _ (L1 L2 : Level) (s : State) (P : Outcome → Type 0) (live : (p : ℕ) → P (record { answer = Live p; after = s })) (other : P (record { answer = NotLive; after = s }))
+    (full : P (record { answer = Full; after = s })) (kept : (p : ℕ) (l : List Entry) → P (record { answer = Accepted p; after = withLive s l }))
+    (added : (n : ℕ) (e : Entry) → P (record { answer = Accepted n; after = wouldLeave L1 L2 s e })) where
+  any-live : (l : List Entry) (o : Option ℕ) → P (stepLive s l o)
+  any-live l none = other
+  any-live l (some p) = kept p l
+
+  any-add : (e : Entry) (o : Option ℕ) → P (stepAdd L1 L2 s e o)
+  any-add e (some p) = live p
+  any-add e none =
+      let t : State = wouldLeave L1 L2 s e in
+      by-test P (ltb baseLimit (length (base L1 L2 t))) (λ f. full) (λ f. added (length (t .live)) e)
+
+  any-step : (c : Call ℕ) → P (step L1 L2 s c)
+  any-step (add w p) = any-add (record { word = w; plan = p }) (find w (s .live))
+  any-step (change w p) = any-live (update (record { word = w; plan = p }) (s .live)) (find w (s .live))
+  any-step (withdraw w) = any-live (remove w (s .live)) (find w (s .live))
+  any-step (query w) = any-live (s .live) (find w (s .live))
+
 -- ---- causes 4 and 5
 
 abbrev pub Never45 : ℕ → Type 0
 Never45 n = (n ≡ 4 → ⊥) × (n ≡ 5 → ⊥)
-
-live-never : (s : State) (l : List Entry) (o : Option ℕ) → Never45 (numberOf (stepLive s l o .answer))
-live-never s l none = omega arith
-live-never s l (some p) = omega arith
-
-step-never : (L1 L2 : Level) (s : State) (c : Call ℕ) → Never45 (numberOf (step L1 L2 s c .answer))
-step-never L1 L2 s (add w p) = go (find w (s .live))
-  where
-    e : Entry
-    e = record { word = w; plan = p }
-
-    go : (o : Option ℕ) → Never45 (numberOf (stepAdd L1 L2 s e o .answer))
-    go (some q) = omega arith
-    go none =
-        by-test (λ (o : Outcome). Never45 (numberOf (o .answer))) (ltb baseLimit (length (base L1 L2 (wouldLeave L1 L2 s e))))
-        (λ t. omega arith) (λ t. omega arith)
-step-never L1 L2 s (change w p) = live-never s _ (find w (s .live))
-step-never L1 L2 s (withdraw w) = live-never s _ (find w (s .live))
-step-never L1 L2 s (query w) = live-never s _ (find w (s .live))
 
 pub respond-never : (s : State) (q : Request) → Never45 (numberOf (respond s q .answer))
 respond-never s (ask c) = go (wordFor c) (reads c)
   where
     go : (r : Read) → Reads c r → Never45 (numberOf (serveRead s c r .answer))
     go (Refused a) h = omega arith
-    go (Word w) h = step-never firstLevel secondLevel s (askOf w c)
+    go (Word w) h =
+        any-step firstLevel secondLevel s (λ (o : Outcome). Never45 (numberOf (o .answer))) (λ p. omega arith) (omega arith) (omega arith) (λ p l. omega arith) (λ n e. omega arith)
+        (askOf w c)
+
+-- ---- the size that an opening fixed stays
+
+pub respond-size : (s : State) (q : Request) → respond s q .after .size ≡ s .size
+respond-size s (ask c) = go (wordFor c)
+  where
+    go : (r : Read) → serveRead s c r .after .size ≡ s .size
+    go (Refused a) = refl
+    go (Word w) = any-step firstLevel secondLevel s (λ (o : Outcome). o .after .size ≡ s .size) (λ p. refl) refl refl (λ p l. refl) (λ n e. refl) (askOf w c)

@@ -207,9 +207,10 @@ module _ (F : Format) (p : List ℕ) (e : wrongAt F p ≡ Nowhere) (b : AllBytes
       let f : getD p 1 0 ≡ F .number = eqb-true (getD p 1 0) (F .number) (both (eqb (getD p 1 0) (F .number)) _ (a .1) .0) in
       rw (← f, ← drop-cons p 4 0 (omega arith), ← drop-cons p 3 0 (omega arith), ← drop-cons p 2 0 (omega arith), ← drop-cons p 1 0 (omega arith)) (front headerKind headerBody p (a .0))
 
-  two : planeFrom F p .level1 ++ planeFrom F p .level2 ≡ readAll s (bucketFrom F) (bucketCount p) (drop bucketsAt p)
+  -- the buckets of both levels stand one after the other
+  pub buckets-read : planeFrom F p .level1 ++ planeFrom F p .level2 ≡ readAll s (bucketFrom F) (bucketCount p) (drop bucketsAt p)
   unfolding planeFrom
-  two = sym (read-add s (bucketFrom F) (buckets1 p) (buckets2 p) (drop bucketsAt p) ∙ rw drop-drop refl)
+  buckets-read = sym (read-add s (bucketFrom F) (buckets1 p) (buckets2 p) (drop bucketsAt p) ∙ rw drop-drop refl)
 
   base-bytes : bytesOf entryRecord (planeFrom F p .base) ++ endRecord ≡ drop (entriesIn F p) p
   unfolding planeFrom
@@ -233,7 +234,7 @@ module _ (F : Format) (p : List ℕ) (e : wrongAt F p ≡ Nowhere) (b : AllBytes
   pub read-written : planeBytes F (planeFrom F p) ≡ p
   unfolding planeBytes
   read-written =
-      rw (base-bytes, two, ← drop-drop (bucketCount p * s) bucketsAt p, buckets-bytes F (bucketCount p) bucketsAt (drop bucketsAt p) (h .buckets) (bytes-drop bucketsAt p b), length1, length2, length0)
+      rw (base-bytes, buckets-read, ← drop-drop (bucketCount p * s) bucketsAt p, buckets-bytes F (bucketCount p) bucketsAt (drop bucketsAt p) (h .buckets) (bytes-drop bucketsAt p b), length1, length2, length0)
       head-bytes
 
   -- which fits
@@ -245,7 +246,7 @@ module _ (F : Format) (p : List ℕ) (e : wrongAt F p ≡ Nowhere) (b : AllBytes
       record {
         range = rw (length1, length2) (c .0);
         few = rw length0 (leb-true (baseCount p) baseLimit (c .1));
-        buckets = rw two (buckets-fit F (bucketCount p) bucketsAt (drop bucketsAt p) (h .buckets) (bytes-drop bucketsAt p b));
+        buckets = rw buckets-read (buckets-fit F (bucketCount p) bucketsAt (drop bucketsAt p) (h .buckets) (bytes-drop bucketsAt p b));
         entries = entries-fit 0 (baseCount p) (entriesIn F p) (drop (entriesIn F p) p) (h .entries) (bytes-drop (entriesIn F p) p b);
         ascending = ascending-of 0 (planeFrom F p .base) (scan-allowed entryRecords entryAllowed exceeding 0 (baseCount p) (entriesIn F p) (drop (entriesIn F p) p) (h .entries));
       }

@@ -3,5 +3,6 @@ pub mod Scan
 pub mod Read
 pub mod Round
 pub mod Exact
+pub mod Octets
 pub mod Offset
 pub mod Causes

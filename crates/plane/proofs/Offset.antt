@@ -128,6 +128,12 @@ nothing-after at p h =
     (λ t. let n : length p ≤ at + endLength = leb-true _ _ t in eq-eqb (length (drop at p)) endLength (rw length-drop (omega arith)) ∙ sym t)
     (λ t. let n : at + endLength < length p = leb-false _ _ t in ne-eqb (length (drop at p)) endLength (λ x. let y : length p - at ≡ endLength = rw length-drop at x in omega arith) ∙ sym t)
 
+-- kind 4 at the offset at
+pub end-found : (at : ℕ) (p : List ℕ) → endWrong at (drop at p) ≡ found p (expectedEnd at p ∷ []) (more p (at + endLength))
+end-found at p =
+    let q : List ℕ = drop at p in
+    cases (endFits q) (λ e. rw (nothing-after at p (whole-length endKind endBody q (both (whole endKind endBody q) _ e .0)))) (λ e. rw e)
+
 module _ (F : Format) (p : List ℕ) where
   abbrev m : ℕ
   m = bucketCount p
@@ -139,22 +145,15 @@ module _ (F : Format) (p : List ℕ) where
   entry-same zero = ap (λ (b : Bool). record { at = entryAt F p 0; kind = entryKind; body = entryBody; allowed = b }) (leb·zero (entryWord F p 0))
   entry-same (suc i) = refl
 
-  end-found : endWrong (endAt F m k) (drop (endAt F m k) p) ≡ found p (expectedEnd F p ∷ []) (more p (planeLength F m k))
-  end-found =
-      let q : List ℕ = drop (endAt F m k) p in
-      cases (endFits q)
-      (λ e. rw (nothing-after (endAt F m k) p (whole-length endKind endBody q (both (whole endKind endBody q) _ e .0))))
-      (λ e. rw e)
-
   pub wrong-found : wrongAt F p ≡ found p (expected F p) (more p (planeLength F m k))
   unfolding wrongAt bucketsWrong entriesWrong
   wrong-found =
       let bs : List Expected = map (expectedBucket F p) (countFrom 0 m) in
       let es : List Expected = map (expectedEntry F p) (countFrom 0 k) in
-      let end : List Expected = expectedEnd F p ∷ [] in
+      let end : List Expected = expectedEnd (endAt F m k) p ∷ [] in
       let o : Wrong = more p (planeLength F m k) in
       ap (λ (x : Wrong). cond (headerFits F p) x (At 0))
-      (rw (end-found, scan-found entryRecords entryAllowed exceeding 0 (entriesAt F m) p (expectedEntry F p) entry-same (found p end o) k, found-append p bs (es ++ end) o, found-append p es end o)
+      (rw (end-found (endAt F m k) p, scan-found entryRecords entryAllowed exceeding 0 (entriesAt F m) p (expectedEntry F p) entry-same (found p end o) k, found-append p bs (es ++ end) o, found-append p es end o)
       (scan-found (bucketRecords F) boundAllowed (λ s b. s) tt bucketsAt p (expectedBucket F p) (λ i. refl) (found p es (found p end o)) m))
 
   -- cause 10's offset, and none

@@ -69,17 +69,15 @@ exceedsBefore F p (suc i) = ltb (entryWord F p i) (entryWord F p (suc i))
 abbrev pub expectedEntry : Format → List ℕ → ℕ → Expected
 expectedEntry F p i = record { at = entryAt F p i; kind = entryKind; body = entryBody; allowed = exceedsBefore F p i }
 
--- "Kind 4 closes": its body is the fixed byte string
-abbrev pub expectedEnd : Format → List ℕ → Expected
-expectedEnd F p =
-    let at : ℕ = endAt F (bucketCount p) (baseCount p) in
-    record { at = at; kind = endKind; body = endBody; allowed = eqList (take endBody (drop 1 (drop at p))) endBytes }
+-- "Kind 4 closes", at this offset: its body is the fixed byte string
+abbrev pub expectedEnd : ℕ → List ℕ → Expected
+expectedEnd at p = record { at = at; kind = endKind; body = endBody; allowed = eqList (take endBody (drop 1 (drop at p))) endBytes }
 
 -- in order
 abbrev pub expected : Format → List ℕ → List Expected
 expected F p =
     expectedHeader F p
-    ∷ (map (expectedBucket F p) (countFrom 0 (bucketCount p)) ++ (map (expectedEntry F p) (countFrom 0 (baseCount p)) ++ (expectedEnd F p ∷ [])))
+    ∷ (map (expectedBucket F p) (countFrom 0 (bucketCount p)) ++ (map (expectedEntry F p) (countFrom 0 (baseCount p)) ++ (expectedEnd (endAt F (bucketCount p) (baseCount p)) p ∷ [])))
 
 -- at is the offset that cause 10 returns
 abbrev pub WrongOffset : Format → List ℕ → ℕ → Type 0

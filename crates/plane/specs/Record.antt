@@ -40,15 +40,17 @@ sizeOf k = 1 + k .body
 abbrev pub recordOf : {A : Type 0} → Kind A → A → List ℕ
 recordOf k x = k .number ∷ k .write x
 
--- what one format of planes may have otherwise than another: its number, the solution words of a bucket, the kind of its bucket records
+-- what one format of planes may have otherwise than another: its number, the solution words of a bucket, the kind of its bucket records, and
+-- the kind of a patch's record for a bucket that differs
 pub record Format : Type 0 where
   pub number : ℕ
   pub words : ℕ
   pub bucketKind : ℕ
+  pub changeKind : ℕ
 
 -- the only format
 abbrev pub format1 : Format
-format1 = record { number = 1; words = solutions; bucketKind = 2 }
+format1 = record { number = 1; words = solutions; bucketKind = 2; changeKind = 6 }
 
 -- ---- kind 1: format, buckets of level 1, of level 2, base count (4 bytes)
 

@@ -18,7 +18,7 @@ use Rattle.table.proofs.Causes.{table-given}
 use Rattle.plane.specs.Record.{format1}
 use Rattle.plane.specs.Plane.{planeBytes}
 use Rattle.plane_write.specs.Write.{planeOf, Written, turnedDown, putFront, writeCall}
-use Rattle.plane_write.specs.Causes.{lengthNeeded, shortOutput, writeCauses, writeReturns}
+use Rattle.plane_write.specs.Causes.{tooShort, lengthNeeded, shortOutput, writeCauses, writeReturns}
 
 abbrev answerOf : Written → Answer
 answerOf o = o .answer
@@ -26,15 +26,19 @@ answerOf o = o .answer
 pub write-order : (t out : List ℕ) → InOrder 0 (writeCauses t out)
 write-order t out = (lit< tt, (lit< tt, (lit< tt, tt)))
 
+-- bytes to the front of the output
+pub front-given : (bytes out : List ℕ) → Given (tooShort bytes out ∷ []) (λ v. v ≡ length bytes) (putFront bytes out .answer)
+front-given bytes out =
+    if-met answerOf 9 _ (length bytes) [] (λ v. v ≡ length bytes) (ltb (length out) (length bytes)) _ _ (ltb-true (length out) (length bytes), lt-ltb (length out) (length bytes)) (refl, refl)
+    (λ f. (refl, refl))
+
 module _ (t out : List ℕ) where
   abbrev bytes : List ℕ
   bytes = planeBytes format1 (planeOf (tableOf t))
 
   -- from a sound table on
   room-given : Given (shortOutput t out ∷ []) (writeReturns t) (putFront bytes out .answer)
-  room-given =
-      if-met answerOf 9 _ (lengthNeeded t) [] (writeReturns t) (ltb (length out) (length bytes)) _ _ (ltb-true (length out) (length bytes), lt-ltb (length out) (length bytes)) (refl, refl)
-      (λ f. (refl, refl))
+  room-given = front-given bytes out
 
   pub write-exactly : ((i : ℕ) → getD t i 0 < 2 ^ rows) → Exactly (writeCauses t out) (writeReturns t) (writeCall t out .answer)
   unfolding writeCall

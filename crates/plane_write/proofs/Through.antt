@@ -26,13 +26,13 @@ use Rattle.plane.proofs.Read.{length-readAll, getD-readAll, read-add}
 
 -- ---- read one after the other
 
-pairs-read : (k : ℕ) (xs : List ℕ) → pairsFrom k xs ≡ readAll 2 pairFrom k xs
+pub pairs-read : (k : ℕ) (xs : List ℕ) → pairsFrom k xs ≡ readAll 2 pairFrom k xs
 unfolding readAll
 pairs-read zero xs = refl
 pairs-read (suc k) xs = rw (pairs-read k (drop 2 xs))
 
 -- what holds of all of m things holds of thing i
-each : {A : Type 0} (P : A → Type 0) (size : ℕ) (read : List ℕ → A) (m : ℕ) (xs : List ℕ) → Every P (readAll size read m xs) → (i : ℕ) → i < m → P (read (drop (i * size) xs))
+pub each : {A : Type 0} (P : A → Type 0) (size : ℕ) (read : List ℕ → A) (m : ℕ) (xs : List ℕ) → Every P (readAll size read m xs) → (i : ℕ) → i < m → P (read (drop (i * size) xs))
 each P size read m xs h i l =
     rw (getD-readAll size read m i xs (read xs) l) at (every-at P (read xs) (readAll size read m xs) h i (rw (length-readAll size read m xs) l))
 

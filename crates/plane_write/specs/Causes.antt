@@ -12,13 +12,17 @@ use Rattle.plane.specs.Record.{format1}
 use Rattle.plane.specs.Plane.{planeBytes}
 use Rattle.plane_write.specs.Write.{planeOf}
 
+-- an output shorter than what is to be written, with the length needed
+abbrev pub tooShort : List ℕ → List ℕ → Cause
+tooShort bytes out = causeIf 9 (length out < length bytes) (length bytes)
+
 -- the length of the table's plane
 abbrev pub lengthNeeded : List ℕ → ℕ
 lengthNeeded t = length (planeBytes format1 (planeOf (tableOf t)))
 
 -- "output shorter than the plane"; "length needed"
 abbrev pub shortOutput : List ℕ → List ℕ → Cause
-shortOutput t out = causeIf 9 (length out < lengthNeeded t) (lengthNeeded t)
+shortOutput t out = tooShort (planeBytes format1 (planeOf (tableOf t))) out
 
 -- those that the writer can meet
 abbrev pub writeCauses : List ℕ → List ℕ → List Cause

@@ -73,7 +73,7 @@ pub(crate) fn put_buckets(out: &mut [u8], at: usize, b: &[u64], m: usize)
 }
 
 // Writes the records of k base entries, whose pairs stand in front, from the offset at on.
-pub(crate) fn put_entries(out: &mut [u8], at: usize, pairs: &[u64], k: usize)
+pub fn put_entries(out: &mut [u8], at: usize, pairs: &[u64], k: usize)
     requires { ⌜ (k * 2 ≤ length (now pairs)) × (at + k * entryLength ≤ length (now out)) ⌝ }
     requires plans { ⌜ ((i : ℕ) → i < k → pairFrom (drop (i * 2) (now pairs)) .plan < 256) ⌝ }
     ensures { λ _. ⌜ now (out .exit) ≡ written at (bytesOf entryRecord (readAll 2 pairFrom k (now (pairs .entry)))) (now (out .entry)) ⌝ }
@@ -91,7 +91,7 @@ pub(crate) fn put_entries(out: &mut [u8], at: usize, pairs: &[u64], k: usize)
 }
 
 // Writes the end at the offset at.
-pub(crate) fn put_end(out: &mut [u8], at: usize)
+pub fn put_end(out: &mut [u8], at: usize)
     requires { ⌜ at + endLength ≤ length (now out) ⌝ }
     ensures { λ _. ⌜ now (out .exit) ≡ written at endRecord (now (out .entry)) ⌝ }
 {
@@ -100,7 +100,7 @@ pub(crate) fn put_end(out: &mut [u8], at: usize)
 }
 
 // Writes the header.
-pub(crate) fn put_header(out: &mut [u8], buckets1: u64, buckets2: u64, entries: u64)
+pub fn put_header(out: &mut [u8], buckets1: u64, buckets2: u64, entries: u64)
     requires { ⌜ (buckets1 < 256) × (buckets2 < 256) × (entries < 256) ⌝ }
     ensures { λ _. ⌜ now (out .exit) ≡ written 0 (headerRecord format1 buckets1 buckets2 entries) (now (out .entry)) ⌝ }
 {

@@ -6,7 +6,7 @@ use mathlib.Core.Path.{_≡_, refl, sym, ap, _∙_, subst, subst⁻¹}
 use mathlib.Core.Bool.{true, false, true≢false}
 use mathlib.Core.Logic.{⊎-elim, _↔_}
 use mathlib.Core.Option.{Option, none, some}
-use mathlib.Core.List.{List, List·Permᴰ}
+use mathlib.Core.List.{List, [], _∷_, List·Permᴰ}
 use lib.Dec.{eqb, ltb}
 use lib.ListN.{length, getD}
 use Rattle.lists.specs.Entries.{Entry, planLimit, words, find}
@@ -22,13 +22,13 @@ use Rattle.identifier.specs.declared.Read.the-variants.{Word, Refused}
 use Rattle.model.specs.Levels.{firstLevel, secondLevel, passed, due}
 use Rattle.model.specs.Model as M
 use Rattle.model.specs.Model.{baseLimit, State, Call, add, change, withdraw, query, opened, wouldLeave, base, step}
-use Rattle.model.specs.Request.{Token, wordFor, serveRead, serve, Request, ask}
+use Rattle.model.specs.Request.{Token, wordFor, serveRead, serve, Request, ask, respond}
 use Rattle.model.specs.Machine.{accepted, after, acceptedOf, Refines, Compares}
 use Rattle.model.specs.History.{callsIn, addsIn, withdrawalsIn, told}
 use Rattle.model.proofs.Valid.{valid-opened}
 use Rattle.model.proofs.Refine.{stands-after, accepted-after}
 use Rattle.model.proofs.Calls.{StandsFor, count-after, told-after}
-use Rattle.model.proofs.Requests.{word-small, serve-each, stands-for, respond-never}
+use Rattle.model.proofs.Requests.{word-small, serve-each, stands-for, respond-never, respond-size}
 use Rattle.model.proofs.Statements as Model
 use Rattle.table.specs.Table.{Table, openTable, changedIn, withdrawnFrom, addedTo}
 use Rattle.table.specs.Layout.{liveCountAt, inRange, numbersOf, tableFrom, lengthOf}
@@ -110,6 +110,10 @@ module _ (t : List ℕ) where
 each-stands : StandsFor firstLevel secondLevel states callsOf
 each-stands = record { keeps = λ s p. stands-for .keeps s (p .request); each = λ s p. stands-for .each s (p .request) }
 
+size-after : (s : State) (ps : List Put) → after states s ps .size ≡ s .size
+size-after s [] = refl
+size-after s (p ∷ ps) = size-after (respond s (p .request) .after) ps ∙ respond-size s (p .request)
+
 module _ (t : List ℕ) (o : Opened t) (ps : List Put) where
   abbrev s₀ : State
   s₀ = opened (o .size)
@@ -122,6 +126,10 @@ module _ (t : List ℕ) (o : Opened t) (ps : List Put) where
 
   pub after-stands : FlatStands t₁ s₁
   after-stands = stands-after tables states FlatStands refines t s₀ (opened-stands t o) ps
+
+  -- the size is the opening's
+  pub size-stays : s₁ .size ≡ o .size
+  size-stays = size-after s₀ ps
 
   -- neither cause 4 nor cause 5
   pub never : (p : Put) → (numberOf (request t₁ (p .request) .answer) ≡ 4 → ⊥) × (numberOf (request t₁ (p .request) .answer) ≡ 5 → ⊥)

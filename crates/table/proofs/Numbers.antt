@@ -34,7 +34,7 @@ pub length-pairsFrom : (k : ℕ) (xs : List ℕ) → length (pairsFrom k xs) ≡
 length-pairsFrom zero xs = refl
 length-pairsFrom (suc k) xs = ap suc (length-pairsFrom k (drop 2 xs))
 
-length-pairs : (es : List Entry) → length (pairNumbers es) ≡ 2 * length es
+pub length-pairs : (es : List Entry) → length (pairNumbers es) ≡ 2 * length es
 length-pairs [] = refl
 length-pairs (e ∷ es) = let h = length-pairs es in omega arith
 

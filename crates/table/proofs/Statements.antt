@@ -229,6 +229,10 @@ module _ (t : List ℕ) (o : Opened t) (ps : List Put) where
       let r = Model.settles tables states FlatStands refines t (opened (o .size)) (opening-stands t o) ps in
       (r .0, stands-one (after tables t ps) _ (r .1))
 
+  -- an opening fixes the bucket numbers: no call changes them
+  pub list-size : flatState (after tables t ps) .size ≡ o .size
+  list-size = ap (λ (s : State). s .size) (settles .1) ∙ History.size-stays t o ps
+
   -- "the table itself never gives cause 4 or 5 in a list": it is sound after each call
   pub always-sound : (shaped (after tables t ps) ≡ true) × (sound (after tables t ps) ≡ true) × FlatSound (after tables t ps)
   always-sound = stands-sound (after tables t ps) _ (History.after-stands t o ps)

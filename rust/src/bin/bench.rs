@@ -4,7 +4,7 @@
 use reference::bucket::Bucket;
 use reference::rng::Rng;
 use reference::table::{self, Shape};
-use reference::{identifier, lines, ours, plane};
+use reference::{identifier, lines, ours, patch, plane};
 use std::hint::black_box;
 use std::ops::RangeInclusive;
 use std::time::Instant;
@@ -420,6 +420,69 @@ fn opening_and_withdrawing(rng: &mut Rng) {
     }
 }
 
+/// Making and applying patches between planes of 48 and 32 buckets with 64 base records.
+fn patches(rng: &mut Rng) {
+    const N: u32 = 50;
+    const BASE: usize = 5 + 66 * 80;
+    println!("-- patches, 48 and 32 buckets, 64 base records");
+    let (mut t, inside) = filled_table(rng, 48, 32, 64);
+    let mut old = vec![0; 5930];
+    assert!(plane::write(&t, &mut old).is_accepted());
+    let mut one = old.clone();
+    let plan = table::query(&t, &inside[0]).value as u8;
+    assert!(table::change(&mut t, &inside[0], !plan).is_accepted());
+    assert!(plane::write(&t, &mut one).is_accepted());
+    // One bit of each bucket's solutions, and of each base word.
+    let (mut buckets, mut base) = (old.clone(), old.clone());
+    for bucket in buckets[5..BASE].chunks_exact_mut(66) {
+        bucket[2] ^= 1;
+    }
+    for entry in base[BASE..5925].chunks_exact_mut(10) {
+        entry[1] ^= 1;
+    }
+    for (name, new, length) in [
+        ("one plan changed", one, 89),
+        ("every bucket changed", buckets, 22 + 67 * 80),
+        ("64 base words exchanged", base, 22 + 19 * 64),
+    ] {
+        let (mut p, mut q) = (vec![0; 7000], vec![0; 7000]);
+        compare(
+            &format!("make a patch, {name}"),
+            N,
+            || {
+                for _ in 0..N {
+                    black_box(ours::make_patch(black_box(&old), &new, &mut p));
+                }
+            },
+            || {
+                for _ in 0..N {
+                    black_box(patch::make(black_box(&old), &new, &mut q));
+                }
+            },
+        );
+        assert_eq!(p, q);
+        let answer = patch::make(&old, &new, &mut q);
+        assert_eq!((answer.cause, answer.value), (0, length));
+        let made = q[..length as usize].to_vec();
+        compare(
+            &format!("apply a patch, {name}"),
+            N,
+            || {
+                for _ in 0..N {
+                    black_box(ours::apply_patch(black_box(&old), &made, &mut p));
+                }
+            },
+            || {
+                for _ in 0..N {
+                    black_box(patch::apply(black_box(&old), &made, &mut q));
+                }
+            },
+        );
+        assert_eq!(p, q);
+        assert_eq!(p[..new.len()], new);
+    }
+}
+
 /// 64 KiB of lines after the opening of 48 and 32 buckets.
 fn full_input(mut line: impl FnMut() -> String) -> Vec<u8> {
     let mut input = b"open 48 32\n".to_vec();
@@ -514,6 +577,7 @@ fn main() {
     buckets(&mut rng);
     tables(&mut rng);
     opening_and_withdrawing(&mut rng);
+    patches(&mut Rng::new(2027));
     line_program(&mut rng);
     plane_sizes(&mut rng);
 }

@@ -4,6 +4,8 @@
 //! rank, bounds by trying all of them.
 #![allow(dead_code)]
 
+pub mod patches;
+
 use reference::answer::Answer;
 use reference::bucket::Bucket;
 use reference::rng::Rng;

@@ -55,6 +55,11 @@ impl Seen {
         self.count(reference.cause);
     }
 
+    /// How many answers there were.
+    pub fn total(&self) -> u64 {
+        self.0.iter().sum()
+    }
+
     /// Prints how often each answer occurred. Just these must have.
     pub fn print(&self, what: &str, expected: &[u64]) {
         let name = |number: u64| match number {

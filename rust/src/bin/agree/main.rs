@@ -5,8 +5,10 @@ mod compare;
 mod histories;
 mod lines;
 mod parts;
+mod patches;
 mod planes;
 mod random;
+mod records;
 mod tables;
 
 use reference::rng::Rng;
@@ -31,4 +33,7 @@ fn main() {
     tables::histories(&mut rng, if long { 200 } else { 8 });
     histories::long(&mut rng, long);
     lines::lines(&mut rng, 100 * times);
+    patches::pairs(&mut rng, 400 * times);
+    patches::histories(&mut rng, times);
+    patches::edges(&mut rng, long);
 }

@@ -1,0 +1,28 @@
+-- `limgoshi::limgoshi_make_patch` meets its contract: what each call ensures, put together.
+-- Assumes nothing.
+use mathlib.Core.Path.{refl, ap, _∙_}
+use Rattle.answer.specs.Numbers.{numberOf, valueOf}
+use borrow.Author.Needs.{needs}
+use Rattle.limgoshi.proofs.limgoshi_make_patch.Statement.{statement}
+use Rattle.limgoshi.proofs.limgoshi_make_patch.Tie as tie
+
+make-requires : tie.Need-make-requires
+make-requires c κs = search needs
+
+value-requires : tie.Need-value-requires
+value-requires c κs = search needs
+
+number-requires : tie.Need-number-requires
+number-requires c κs = search needs
+
+same-length : tie.Need-same-length
+same-length c = search needs
+
+returns : tie.Need-returns
+returns c =
+    let a = c .before .before .before .before in
+    (c .number .ensures ∙ ap numberOf (a .make .ensures .0), c .before .value .ensures ∙ ap valueOf (a .make .ensures .0), a .make .ensures .1, refl, refl)
+
+pub limgoshi-make-patch-spec : {M : Type 1} → statement M
+limgoshi-make-patch-spec =
+    tie.close (tie.spec make-requires value-requires number-requires same-length returns)

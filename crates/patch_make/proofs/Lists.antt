@@ -1,0 +1,92 @@
+-- Patches between the planes of one opening, each after any list of calls: making meets no cause but 9, applied to the first plane the patch gives
+-- the second, and the post then answers by it.
+-- Assumes nothing.
+use Prim.Native.Nat.{ℕ}
+use mathlib.Core.Path.{_≡_, sym, ap, _∙_}
+use mathlib.Core.Bool.{true}
+use mathlib.Core.Option.{some}
+use mathlib.Core.List.{List, map}
+use lib.Dec.{lit<}
+use lib.ListN.{length, take, length-map}
+use borrow.Author.Tests.{eq-eqb}
+use Rattle.answer.specs.declared.Answer.the-variants.{Accepted}
+use Rattle.identifier.specs.Identifier.{readOf}
+use Rattle.identifier.specs.declared.Read.the-variants.{Word}
+use Rattle.identifier.proofs.Causes.{read-word}
+use Rattle.identifier.proofs.Words.{word-lt}
+use Rattle.model.specs.Model.{Size}
+use Rattle.model.specs.Machine.{after}
+use Rattle.model.specs.History.{told}
+use Rattle.table.specs.Table.{Table}
+use Rattle.table.specs.Calls.{rows, solutions, tableOf}
+use Rattle.table.specs.History.{Put, tables, Opened, acceptedCalls, flatState}
+use Rattle.table.proofs.Statements.{list-size, always-sound, plan}
+use Rattle.plane.specs.declared.Wrong.the-variants.{Nowhere}
+use Rattle.plane.specs.Record.{format1}
+use Rattle.plane.specs.Plane.{planeBytes, wrongAt}
+use Rattle.plane.specs.Lookup.{lookupCall}
+use Rattle.plane.specs.Fits.{Fits}
+use Rattle.plane.proofs.Round.{written-right}
+use Rattle.plane.proofs.Exact.{AllBytes}
+use Rattle.plane.proofs.Octets.{plane-octets}
+use Rattle.plane_write.specs.Write.{seenOf, planeOf, Written, putFront, shownTo}
+use Rattle.plane_write.proofs.Shown.{live-shown}
+use Rattle.plane_write.proofs.Accepted.{fits, shows}
+use Rattle.plane_write.proofs.Bounded.{after-sols}
+use Rattle.patch.specs.Patch.{patchBytes, patchOf}
+use Rattle.patch.specs.Calls.{alike, makeCall, applyCall}
+use Rattle.patch_make.specs.After.{planeAfter}
+use Rattle.patch.proofs.Statements.{make-made, made-accepted}
+use Rattle.patch.proofs.Calls.{in-front, make-apply}
+
+module _ (t : List ℕ) (o : Opened t) where
+  plane-fits : (ps : List Put) → Fits format1 (planeOf (tableOf (after tables t ps)))
+  plane-fits ps = let h = always-sound t o ps in fits (after tables t ps) (after-sols t o ps) (h .0) (h .2)
+
+  right : (ps : List Put) → wrongAt format1 (planeAfter t ps) ≡ Nowhere
+  right ps = written-right format1 (planeOf (tableOf (after tables t ps))) (plane-fits ps)
+
+  octets : (ps : List Put) → AllBytes (planeAfter t ps)
+  octets ps = plane-octets format1 (lit< tt) (lit< tt) (planeOf (tableOf (after tables t ps))) (plane-fits ps)
+
+  module _ (ps qs : List Put) where
+    same-size : flatState (after tables t ps) .size ≡ flatState (after tables t qs) .size
+    same-size = list-size t o ps ∙ sym (list-size t o qs)
+
+    list-alike : alike (planeAfter t ps) (planeAfter t qs) ≡ true
+    unfolding planeBytes
+    list-alike =
+        let T : Table = tableOf (after tables t ps) in
+        let U : Table = tableOf (after tables t qs) in
+        rw (
+          eq-eqb (length (map seenOf (T .level1))) (length (map seenOf (U .level1))) (length-map (T .level1) seenOf ∙ ap (λ (z : Size). z .buckets1) same-size ∙ sym (length-map (U .level1) seenOf)),
+          eq-eqb (length (map seenOf (T .level2))) (length (map seenOf (U .level2))) (length-map (T .level2) seenOf ∙ ap (λ (z : Size). z .buckets2) same-size ∙ sym (length-map (U .level2) seenOf)),
+        )
+
+    -- "from two planes of equal format and bucket numbers a patch is made": of two planes of one opening it always is, if it fits the output
+    pub list-make : (out : List ℕ) → makeCall (planeAfter t ps) (planeAfter t qs) out ≡ putFront (patchBytes format1 (patchOf format1 (planeAfter t ps) (planeAfter t qs))) out
+    list-make = make-made (planeAfter t ps) (planeAfter t qs) (octets ps) (octets qs) (right ps) (right qs) list-alike
+
+    -- "applied to the old plane it gives the new plane"
+    pub list-apply : (out : List ℕ) → applyCall (planeAfter t ps) (patchBytes format1 (patchOf format1 (planeAfter t ps) (planeAfter t qs))) out ≡ putFront (planeAfter t qs) out
+    list-apply = made-accepted (planeAfter t ps) (planeAfter t qs) (octets ps) (octets qs) (right ps) (right qs) list-alike
+
+    -- n bytes were made, and m were written by applying them: those are the new plane
+    module _ (out : List ℕ) (n : ℕ) (made : makeCall (planeAfter t ps) (planeAfter t qs) out .answer ≡ Accepted n) (into : List ℕ) where
+      abbrev patchMade : List ℕ
+      patchMade = take n (makeCall (planeAfter t ps) (planeAfter t qs) out .output)
+
+      pub list-follows : applyCall (planeAfter t ps) patchMade into ≡ putFront (planeAfter t qs) into
+      list-follows = make-apply (planeAfter t ps) (planeAfter t qs) out n (octets ps) (octets qs) made into
+
+      pub list-new : (m : ℕ) → applyCall (planeAfter t ps) patchMade into .answer ≡ Accepted m → take m (applyCall (planeAfter t ps) patchMade into .output) ≡ planeAfter t qs
+      list-new m e =
+          ap (λ (w : Written). take m (w .output)) list-follows
+          ∙ in-front m into (planeAfter t qs) (ap (λ (w : Written). w .answer) (sym list-follows) ∙ e) .front
+
+  -- the plane gives every live identifier its word's last accepted plan
+  pub plane-tells : (ps : List Put) (id : List ℕ) (v p : ℕ) → readOf id ≡ Word v → told v (acceptedCalls t ps) ≡ some p → lookupCall id (planeAfter t ps) ≡ Accepted p
+  plane-tells ps id v p i h =
+      let k = always-sound t o ps in
+      shows (after tables t ps) (after-sols t o ps) (k .0) (k .2) id ∙ ap (shownTo (tableOf (after tables t ps))) i
+      ∙ ap Accepted (live-shown rows solutions (tableOf (after tables t ps)) v p (plan t o ps v (rw (read-word id v .0 i .2) (word-lt id)) ∙ h))
