@@ -2,6 +2,7 @@
 -- Assumes nothing.
 use mathlib.Core.Path.{_≡_, sym, ap, _∙_, subst}
 use mathlib.Core.Bool.{true, false}
+use mathlib.Core.List.{List}
 use Prim.Native.Nat.{ℕ, _^_, _≤_, _<_}
 use native.Mathlib.Nat.{le-refl}
 use native.Mathlib.Omega.{arith}
@@ -17,6 +18,12 @@ use Rattle.gf2.proofs.Linear.{product-bit, product-lt}
 use Rattle.gf2.proofs.Lowest.{tz-lt}
 use Rattle.bucket.specs.declared.Bucket.{Bucket}
 use Rattle.bucket.specs.Bucket.{live, rowOf}
+
+-- a column that has a bit of a product has a lowest bit
+pub column-lowest : (n : ℕ) (cs : List ℕ) (i k : ℕ) → product cs k ≡ 2 ^ i → getD cs i 0 < 2 ^ n → trailingZeros n (getD cs i 0) < n
+column-lowest n cs i k p f =
+    tz-lt n (getD cs i 0) f
+    (λ z. let o : _≡_ {A = ℕ} 1 0 = sym (bit-pow-same i) ∙ ap (bit i) (sym p) ∙ product-bit cs k i ∙ ap (dot k) z ∙ dot-zero-r k in omega arith)
 
 module _ (n k : ℕ) (b : Bucket) (hl : live n k b ≡ true) where
   -- the product of a live k is the one bit of its row
@@ -55,7 +62,4 @@ module _ (n k : ℕ) (b : Bucket) (h : length (b .cols) ≡ n) where
   pub freed-lt : {i j : ℕ} → i ≡ rowOf n k b → i < n → getD (b .cols) i 0 < 2 ^ n → j ≡ trailingZeros n (getD (b .cols) i 0) → j < n
   freed-lt {i} {j} e hi f q =
       let l : live n k b ≡ true = live-row ∙ lt-ltb _ _ (subst (λ (x : ℕ). x < n) e hi) in
-      let p : product (b .cols) k ≡ 2 ^ i = row-product n k b l ∙ ap (λ (x : ℕ). 2 ^ x) (sym e) in
-      subst (λ (x : ℕ). x < n) (sym q)
-      (tz-lt n (getD (b .cols) i 0) f
-      (λ z. let o : _≡_ {A = ℕ} 1 0 = sym (bit-pow-same i) ∙ ap (bit i) (sym p) ∙ product-bit (b .cols) k i ∙ ap (dot k) z ∙ dot-zero-r k in omega arith))
+      subst (λ (x : ℕ). x < n) (sym q) (column-lowest n (b .cols) i k (row-product n k b l ∙ ap (λ (x : ℕ). 2 ^ x) (sym e)) f)

@@ -1,10 +1,10 @@
 -- What the steps of a bucket keep, at every width and number of solution words: the columns are K's inverse and K's free rows are units;
 -- the live vectors are the old ones and the new one, or without the one that left; a vector's plan is the one last given.
 -- Assumes nothing.
-use mathlib.Core.Path.{_≡_, refl, sym, ap, ap₂, _∙_, subst, subst₂}
+use mathlib.Core.Path.{_≡_, sym, ap, ap₂, _∙_, subst, subst₂}
 use mathlib.Core.Bool.{Bool, true, false, not, _&&_}
 use mathlib.Core.List.{List, _∷_, Perm, Perm·symm, Perm·trans, Perm·cons, Perm·cons-inv, List·Permᴰ}
-use Prim.Native.Nat.{ℕ, zero, suc, _-_, _^_, _<_, max}
+use Prim.Native.Nat.{ℕ, _-_, _^_, _<_, max}
 use native.Mathlib.Nat.{lt-of-not-le}
 use native.Mathlib.Decide.{ℕ-discrete}
 use native.Mathlib.Omega.{arith}
@@ -15,9 +15,9 @@ use lib.Dec.{T, T-not, eqb, eqb→eq, ltb, ltb→lt, lt→ltb}
 use lib.ListN.{length, getD, set, length-set}
 use lib.Seq.{getD-set-same, getD-set-other, set-set}
 use Rattle.lists.proofs.Tests.{bool-ext, and-l, and-r, and-i, eq-T, T→true, nT→false}
-use Rattle.gf2.specs.Vectors.{bit, outside, dot, product, combine, colStep, solStep, exchange, Inverse, units}
+use Rattle.gf2.specs.Vectors.{bit, outside, product, combine, colStep, solStep, exchange, Inverse, units}
 use Rattle.gf2.specs.Select.{elem, sums, chosen, Within}
-use Rattle.gf2.proofs.Bit.{bit-zero, bit-lt, bit-pow-same, bit-pow-other, bit-high, dot-zero-r, dot-pow}
+use Rattle.gf2.proofs.Bit.{by-place, bit-zero, bit-lt, bit-pow-same, bit-pow-other, bit-high, dot-pow}
 use Rattle.gf2.proofs.Linear.{product-bit, product-lt, combine-pow}
 use Rattle.gf2.proofs.Inverse.{replace-row, exchange-rows, empty, getD-units, exchange-same}
 use Rattle.gf2.proofs.Lowest.{bit-or, bit-outside, outside-lt, tz-bit, tz-lt, tz-pow}
@@ -26,6 +26,7 @@ use Rattle.gf2.proofs.Solutions.{plan-set, plan-kept}
 use Rattle.gf2.proofs.Depend.{depends-test, within→and, and→within}
 use Rattle.bucket.specs.declared.Bucket.{Bucket}
 use Rattle.bucket.specs.Bucket.{Sound, emptyBucket, lookup, live, tried, addAt, add, withdrawAt}
+use Rattle.bucket.proofs.Laws.{column-lowest}
 
 -- ---- the empty bucket
 
@@ -59,9 +60,7 @@ module _ (n : ℕ) (K : List ℕ) (b : Bucket) (i k : ℕ) (s : Sound n K b) (hi
   row-of = trailingZeros n (getD (b .cols) i 0)
 
   row-lt : row-of < n
-  row-lt =
-      tz-lt n (getD (b .cols) i 0) (s .inverse .cols-lt i)
-      (λ e. let z : _≡_ {A = ℕ} 1 0 = sym (bit-pow-same i) ∙ ap (bit i) (sym (s .inverse .unit i hi)) ∙ product-bit (b .cols) (getD K i 0) i ∙ ap (dot (getD K i 0)) e ∙ dot-zero-r (getD K i 0) in omega arith)
+  row-lt = column-lowest n (b .cols) i (getD K i 0) (s .inverse .unit i hi) (s .inverse .cols-lt i)
 
   row-bit : bit row-of (getD (b .cols) i 0) ≡ 1
   row-bit = tz-bit n (getD (b .cols) i 0) row-lt
@@ -78,17 +77,15 @@ module _ (n : ℕ) (K : List ℕ) (b : Bucket) (i k : ℕ) (s : Sound n K b) (hi
   withdraw-sound = record {
     inverse = exchange-rows n i row-of middle _ (subst (λ (v : ℕ). Inverse n middle (colStep (getD (b .cols) i 0) v (b .cols))) (ap (λ (x : ℕ). bitXor x (2 ^ row-of)) hk)
         (replace-row n K (b .cols) i (2 ^ row-of) (s .inverse) hi (pow-lt row-lt) (product-bit (b .cols) (2 ^ row-of) i ∙ dot-pow row-of (getD (b .cols) i 0) ∙ row-bit))) hi row-lt;
-    free = λ a ha e. at-row a ha e (ℕ-discrete a row-of);
+    free = by-place (λ a. a < n → bit a (outside (b .mark) (2 ^ row-of)) ≡ 0 → getD (exchange i row-of middle) a 0 ≡ 2 ^ a) row-of
+        (λ ha e. getD-set-same (set middle i (getD middle row-of 0)) row-of (getD middle i 0) 0
+        (omega (arith, length-set middle i (getD middle row-of 0), length-set K i (2 ^ row-of), s .inverse .rows, row-lt)) ∙ middle-i)
+        others;
     mark-lt = outside-lt n (b .mark) (2 ^ row-of) (s .mark-lt) (pow-lt row-lt);
   }
     where
-      at-row : (a : ℕ) → a < n → bit a (outside (b .mark) (2 ^ row-of)) ≡ 0 → Dec (a ≡ row-of) → getD (exchange i row-of middle) a 0 ≡ 2 ^ a
-      at-row a ha e (yes q) =
-          subst (λ (a : ℕ). getD (exchange i row-of middle) a 0 ≡ 2 ^ a) (sym q)
-          (getD-set-same (set middle i (getD middle row-of 0)) row-of (getD middle i 0) 0
-          (omega (arith, length-set middle i (getD middle row-of 0), length-set K i (2 ^ row-of), s .inverse .rows, row-lt))
-          ∙ middle-i)
-      at-row a ha e (no ne) =
+      others : (a : ℕ) → (a ≡ row-of → ⊥) → a < n → bit a (outside (b .mark) (2 ^ row-of)) ≡ 0 → getD (exchange i row-of middle) a 0 ≡ 2 ^ a
+      others a ne ha e =
           let m0 : bit a (b .mark) ≡ 0 = (let f : bit a (b .mark) - bit a (2 ^ row-of) ≡ 0 = sym (bit-outside a (b .mark) (2 ^ row-of)) ∙ e in omega (arith, bit-pow-other a row-of ne)) in
           let ni : a ≡ i → ⊥ = (λ q. let z : bit a (b .mark) ≡ 1 = subst (λ (x : ℕ). bit x (b .mark) ≡ 1) (sym q) hm in omega arith) in
           getD-set-other (set middle i (getD middle row-of 0)) row-of a (getD middle i 0) 0 ne
@@ -96,15 +93,11 @@ module _ (n : ℕ) (K : List ℕ) (b : Bucket) (i k : ℕ) (s : Sound n K b) (hi
 
   -- another row that has the bit is occupied
   row-occupied : (i ≡ row-of → ⊥) → bit row-of (b .mark) ≡ 1
-  row-occupied ne = pick (bit row-of (b .mark)) refl (bit-lt row-of (b .mark))
-    where
-      pick : (d : ℕ) → bit row-of (b .mark) ≡ d → d < 2 → bit row-of (b .mark) ≡ 1
-      pick zero e l =
-          let z : _≡_ {A = ℕ} 1 0 =
-          sym row-bit ∙ sym (dot-pow row-of (getD (b .cols) i 0)) ∙ sym (product-bit (b .cols) (2 ^ row-of) i)
-          ∙ ap (λ (x : ℕ). bit i (product (b .cols) x)) (sym (s .free row-of row-lt e)) ∙ ap (bit i) (s .inverse .unit row-of row-lt) ∙ bit-pow-other i row-of ne in
-          absurd (omega arith)
-      pick (suc d) e l = omega arith
+  row-occupied ne =
+      let f : bit row-of (b .mark) ≡ 0 → ⊥ =
+      (λ e. let z : _≡_ {A = ℕ} 1 0 = sym row-bit ∙ sym (dot-pow row-of (getD (b .cols) i 0)) ∙ sym (product-bit (b .cols) (2 ^ row-of) i)
+      ∙ ap (λ (x : ℕ). bit i (product (b .cols) x)) (sym (s .free row-of row-lt e)) ∙ ap (bit i) (s .inverse .unit row-of row-lt) ∙ bit-pow-other i row-of ne in omega arith) in
+      omega (arith, bit-lt row-of (b .mark))
 
   pub withdraw-live : Perm (chosen (b .mark) K) (k ∷ chosen (outside (b .mark) (2 ^ row-of)) (exchange i row-of middle))
   withdraw-live = pick (ℕ-discrete i row-of)

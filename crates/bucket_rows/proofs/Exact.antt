@@ -10,10 +10,10 @@ use native.Mathlib.Omega.{arith}
 use lib.Pow.{pow-lt}
 use lib.ListN.{length, getD}
 use lib.Seq.{ext-getD}
-use Rattle.gf2.specs.Vectors.{bit, product, combine, units, Inverse}
+use Rattle.gf2.specs.Vectors.{bit, product, units, Inverse}
 use Rattle.gf2.proofs.Bit.{bit-zero, bit-high, bit-ext, bit-pow-swap, dot-pow}
-use Rattle.gf2.proofs.Linear.{product-bit, product-lt, combine-pow}
-use Rattle.gf2.proofs.Inverse.{unique, empty, length-units, getD-units}
+use Rattle.gf2.proofs.Linear.{product-bit}
+use Rattle.gf2.proofs.Inverse.{unique, row-is, empty, length-units, getD-units}
 use Rattle.bucket_rows.specs.declared.Rows.{Rows}
 use Rattle.bucket_rows.specs.Exact.{FreeRows, Rowed, FoundFree}
 use Rattle.bucket_rows.specs.Elimination.{placed, answer, eliminated, freeCols, onlyIf, soundRows}
@@ -23,25 +23,14 @@ use Rattle.bucket_rows.proofs.Free.{FreeBits, cols→bits, bits→cols}
 -- ---- the bits of the columns, and the rows
 
 module _ (n mark : ℕ) (cs K : List ℕ) (inv : Inverse n K cs) where
-  -- row j is the unit: the columns show it
-  seen : (j a : ℕ) → bit j (getD cs a 0) ≡ bit a (product cs (2 ^ j))
-  seen j a = sym (dot-pow j (getD cs a 0)) ∙ sym (product-bit cs (2 ^ j) a)
-
   bits→rows : FreeBits n mark cs → FreeRows n mark K
-  bits→rows f j hj z =
-      sym (combine-pow K j) ∙ ap (combine K) (sym (bit-ext (product cs (2 ^ j)) (2 ^ j) (λ a. go a (decLt a n)))) ∙ inv .back (2 ^ j) (pow-lt hj)
-    where
-      go : (a : ℕ) → Dec (a < n) → bit a (product cs (2 ^ j)) ≡ bit a (2 ^ j)
-      go a (yes h) = sym (seen j a) ∙ f j z a h ∙ bit-pow-swap j a
-      go a (no l) =
-          bit-high (length cs) a (product cs (2 ^ j)) (product-lt cs (2 ^ j)) (omega (arith, inv .cols)) ∙ sym (bit-high n a (2 ^ j) (pow-lt hj) (omega arith))
+  bits→rows f j hj z = row-is n K cs inv j (2 ^ j) hj (pow-lt hj) (λ a h. dot-pow j (getD cs a 0) ∙ f j z a h ∙ bit-pow-swap j a)
 
   rows→bits : FreeRows n mark K → FreeBits n mark cs
-  rows→bits free j z k h = go (decLt j n)
-    where
-      go : Dec (j < n) → bit j (getD cs k 0) ≡ bit j (2 ^ k)
-      go (yes l) = seen j k ∙ ap (bit k) (ap (product cs) (sym (free j l z)) ∙ inv .unit j l) ∙ bit-pow-swap k j
-      go (no f) = bit-high n j (getD cs k 0) (inv .cols-lt k) (omega arith) ∙ sym (bit-high n j (2 ^ k) (pow-lt h) (omega arith))
+  rows→bits free j z k h = elim (decLt j n) [
+    | yes l ↦ sym (dot-pow j (getD cs k 0)) ∙ sym (product-bit cs (2 ^ j) k) ∙ ap (bit k) (ap (product cs) (sym (free j l z)) ∙ inv .unit j l) ∙ bit-pow-swap k j
+    | no f ↦ bit-high n j (getD cs k 0) (inv .cols-lt k) (omega arith) ∙ sym (bit-high n j (2 ^ k) (pow-lt h) (omega arith))
+  ]
 
 -- ---- THE MEANING of `soundRows`
 

@@ -4,9 +4,9 @@ use mathlib.Core.Path.{_≡_, refl, sym, ap, ap₂, _∙_, subst}
 use mathlib.Core.Logic.{_⊎_, inl, inr}
 use mathlib.Core.Bool.{Bool, true, false, _&&_}
 use mathlib.Core.List.{List, [], _∷_, List·Permᴰ, List·Permᴰ·nil, List·Permᴰ·cons, List·Permᴰ·trans, List·Permᴰ·append-comm}
-use Prim.Native.Nat.{ℕ, zero, suc, _-_, _/_, _%_, _^_, _≤_, _<_}
+use Prim.Native.Nat.{ℕ, zero, suc, _-_, _^_, _≤_, _<_}
 use native.Mathlib.Nat.{le-refl, not-suc-le-zero}
-use native.Mathlib.Decide.{ℕ-discrete, decLt}
+use native.Mathlib.Decide.{decLt}
 use native.Mathlib.Omega.{arith}
 use borrow.Author.Tests.{lt-ltb, le-ltb}
 use lib.Bits.{bitXor, bitAnd, bitOr, xor-comm, or-lt}
@@ -17,15 +17,15 @@ use lib.ListN.{length, getD, set, take}
 use lib.Seq.{take-suc, take-all, ext-getD, getD-set-same, getD-set-other}
 use Rattle.lists.proofs.Tests.{and-r, eq-T}
 use Rattle.lists.proofs.Parts.{take-sub}
-use Rattle.lists.proofs.Keep.{perm-length}
+use Rattle.lists.proofs.Keep.{sub-same, perm-length}
 use Rattle.gf2.specs.Vectors.{bit, on, flipIf, outside, product, colStep, solStep, units, Inverse}
-use Rattle.gf2.specs.Select.{elem, sums, indep, putIf, chosen}
-use Rattle.gf2.proofs.Bit.{bit-lt, bit-pow-same, xor-cancel}
-use Rattle.gf2.proofs.Linear.{flip-on, product-xor, product-bit, product-lt, product-colStep}
+use Rattle.gf2.specs.Select.{elem, sums, indep, chosen}
+use Rattle.gf2.proofs.Bit.{by-place, bit-lt, bit-pow-same, xor-cancel}
+use Rattle.gf2.proofs.Linear.{flip-on, product-xor, product-bit, product-lt}
 use Rattle.gf2.proofs.Inverse.{replace-row, product-units, empty}
 use Rattle.gf2.proofs.Lowest.{bit-or, bit-outside, outside-lt, tz-pow}
-use Rattle.gf2.proofs.Chosen.{chosen-none, chosen-length, chosen-add}
-use Rattle.gf2.proofs.Solutions.{colStep-product}
+use Rattle.gf2.proofs.Chosen.{chosen-none, chosen-sub, chosen-add}
+use Rattle.gf2.proofs.Solutions.{colStep-product, product-colStep}
 use Rattle.gf2.proofs.Select.{indep-cons, indep-subᴰ, indep-permᴰ, sums-permᴰ}
 use Rattle.gf2.proofs.Depend.{depends-test}
 use Rattle.gf2.proofs.Invert.{columns-indep, invertible, rows-read}
@@ -36,18 +36,6 @@ use Rattle.bucket_rows.proofs.Laws.{length-clearFrom, clearFrom-before,
 -- what is to be known of an answer: the rows are found exactly where there are any
 abbrev pub Found : ℕ → List ℕ → Rows → Type 0
 Found n cs r = ((r .ok ≡ true) × Inverse n (r .rows) cs) ⊎ ((r .ok ≡ false) × ((K : List ℕ) → Inverse n K cs → ⊥))
-
--- ---- chosen rows
-
--- a choice as long as the list is the list
-chosen-all : (m : ℕ) (rs : List ℕ) → length (chosen m rs) ≡ length rs → chosen m rs ≡ rs
-chosen-all m [] e = refl
-chosen-all m (r ∷ rs) e = go (m % 2) e (chosen-all (m / 2) rs)
-  where
-    go : (d : ℕ) → length (putIf d r (chosen (m / 2) rs)) ≡ suc (length rs) → (length (chosen (m / 2) rs) ≡ length rs → chosen (m / 2) rs ≡ rs)
-        → putIf d r (chosen (m / 2) rs) ≡ r ∷ rs
-    go zero e ih = absurd (omega (arith, chosen-length (m / 2) rs))
-    go (suc d) e ih = ap (λ (l : List ℕ). r ∷ l) (ih (omega arith))
 
 -- ---- what holds after j columns
 
@@ -146,9 +134,8 @@ module _ (n : ℕ) (cs : List ℕ) (hl : length cs ≡ n) (hc : (i : ℕ) → ge
       taken = bit-or p (s .mark) (2 ^ p) ∙ omega (arith, bit-pow-same p, bit-lt p (s .mark));
     }
 
-    done-after : (k : ℕ) → k < suc j → Dec (k ≡ j) → Stands-after k
-    done-after k h (yes e) = subst Stands-after (sym e) here
-    done-after k h (no ne) =
+    others : (k : ℕ) → (k ≡ j → ⊥) → k < suc j → Stands-after k
+    others k ne h =
         let d = g .done k (omega arith) in
         record {
           row = d .row;
@@ -171,7 +158,7 @@ module _ (n : ℕ) (cs : List ℕ) (hl : length cs ≡ n) (hc : (i : ℕ) → ge
       inverse = inverse-after;
       prods-length = length-clearFrom j p w (s .prods) ∙ g .prods-length;
       todo = todo-after;
-      done = λ k h. done-after k h (ℕ-discrete k j);
+      done = by-place (λ k. k < suc j → Stands-after k) j (λ h. here) others;
       mark-lt = or-lt n (s .mark) (2 ^ p) (g .mark-lt) (pow-lt hp);
       perm = perm-after;
     }
@@ -213,7 +200,7 @@ module _ (n : ℕ) (cs : List ℕ) (hl : length cs ≡ n) (hc : (i : ℕ) → ge
       whole = take-all n cs (omega (arith, hl))
 
       full : chosen (s .mark) (g .rows) ≡ g .rows
-      full = chosen-all (s .mark) (g .rows) (perm-length (g .perm) ∙ ap length whole ∙ hl ∙ sym (g .inverse .rows))
+      full = sub-same (chosen-sub (s .mark) (g .rows)) (perm-length (g .perm) ∙ ap length whole ∙ hl ∙ sym (g .inverse .rows))
 
       perm : List·Permᴰ (g .rows) cs
       perm = subst (λ (l : List ℕ). List·Permᴰ l cs) full (subst (λ (l : List ℕ). List·Permᴰ (chosen (s .mark) (g .rows)) l) whole (g .perm))

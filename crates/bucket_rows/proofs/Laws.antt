@@ -9,13 +9,14 @@ use native.Mathlib.Decide.{ℕ-discrete}
 use native.Mathlib.Numerals.{add-one}
 use native.Mathlib.Omega.{arith}
 use borrow.Author.Tests.{lt-ltb}
-use lib.Bits.{xor-zero-r}
+use lib.Bits.{bitXor, xor-zero-r}
 use lib.Count.{trailingZeros}
 use lib.Dec.{ltb}
 use lib.ListN.{length, getD, set, take, drop}
 use Rattle.lists.proofs.Tests.{and-false}
 use Rattle.gf2.specs.Vectors.{bit, flipIf, outside}
 use Rattle.gf2.proofs.Bit.{bit-lt}
+use Rattle.gf2.proofs.Linear.{on-zero, flip-on}
 use Rattle.gf2.proofs.Lowest.{tz-bit, tz-lt}
 use Rattle.lists.proofs.Loops.{front-step}
 use Rattle.bucket_rows.specs.declared.Rows.{Rows}
@@ -49,11 +50,7 @@ clearFrom-at (suc j) p w (x ∷ l) (suc i) h k = clearFrom-at j p w l i (le-of-s
 pub clearFrom-none : (j p : ℕ) (l : List ℕ) → clearFrom j p 0 l ≡ l
 unfolding clearFrom
 clearFrom-none zero p [] = refl
-clearFrom-none zero p (x ∷ l) = ap₂ (λ (y : ℕ) (r : List ℕ). y ∷ r) (flip-zero (bit p x)) (clearFrom-none zero p l)
-  where
-    flip-zero : (d : ℕ) → flipIf d 0 x ≡ x
-    flip-zero zero = refl
-    flip-zero (suc d) = xor-zero-r x
+clearFrom-none zero p (x ∷ l) = ap₂ (λ (y : ℕ) (r : List ℕ). y ∷ r) (flip-on (bit p x) 0 x ∙ ap (bitXor x) (on-zero (bit p x)) ∙ xor-zero-r x) (clearFrom-none zero p l)
 clearFrom-none (suc j) p [] = refl
 clearFrom-none (suc j) p (x ∷ l) = ap (λ (r : List ℕ). x ∷ r) (clearFrom-none j p l)
 

@@ -1,12 +1,11 @@
 -- A column of a free row needs no pass over the later products: no other product has its bit.
 -- Assumes nothing.
 use mathlib.Core.Path.{_≡_, refl, sym, ap, ap₂, _∙_, subst}
-use mathlib.Core.List.{List}
 use Prim.Native.Nat.{ℕ, zero, suc, _+_, _-_, _/_, _%_, _^_, _≤_, _<_}
 use native.Mathlib.Nat.{le-refl}
 use native.Mathlib.Decide.{ℕ-discrete, decLt}
 use native.Mathlib.Omega.{arith}
-use lib.Bits.{bitXor, bitOr, differ}
+use lib.Bits.{bitXor, bitOr, differ, xor-self}
 use lib.ListN.{length, getD, set, length-set}
 use lib.Seq.{ext-getD, getD-set-same, getD-set-other}
 use Rattle.gf2.specs.Vectors.{bit, on, flipIf, outside}
@@ -81,25 +80,21 @@ module _ (n occ j p : ℕ) (s : Work) (hl : length (s .prods) ≡ n) (fb : FreeB
       go zero e = sym (skip e)
       go (suc d) e = refl
 
-  w-none : (bit j occ ≡ 0 → ⊥) → (a : ℕ) → bit a occ ≡ 0 → bit a w ≡ 0
-  w-none f a z =
-      bit-xor a x (2 ^ p)
-      ∙ ap₂ differ (fb a z j hj ∙ bit-pow-other a j (apart f z)) (bit-pow-other a p (λ r. inside f (subst (λ (y : ℕ). bit y occ ≡ 0) r z)))
+  -- no free row has a bit in w
+  w-none : (a : ℕ) → bit a occ ≡ 0 → bit a w ≡ 0
+  w-none a z = bit-xor a x (2 ^ p) ∙ ap (λ (d : ℕ). differ d (bit a (2 ^ p))) (fb a z j hj) ∙ elim (ℕ-discrete (bit j occ) 0) [
+    | yes o ↦ ap (λ (y : ℕ). differ (bit a (2 ^ j)) (bit a (2 ^ y))) (own o) ∙ sym (bit-xor a (2 ^ j) (2 ^ j)) ∙ ap (bit a) (xor-self (2 ^ j)) ∙ bit-zero a
+    | no f ↦ ap₂ differ (bit-pow-other a j (apart f z)) (bit-pow-other a p (λ r. inside f (subst (λ (y : ℕ). bit y occ ≡ 0) r z)))
+  ]
 
   pub free-bits-after : FreeBits n occ (clearFrom j p w (s .prods))
-  free-bits-after a z k h = go (ℕ-discrete (bit j occ) 0) (ℕ-discrete k j) (decLt k j)
-    where
-      go : Dec (bit j occ ≡ 0) → Dec (k ≡ j) → Dec (k < j) → bit a (getD (clearFrom j p w (s .prods)) k 0) ≡ bit a (2 ^ k)
-      go (yes o) (yes e) d =
-          ap (λ (l : List ℕ). bit a (getD l k 0)) (skip o) ∙ ap (λ (k : ℕ). bit a (getD (set (s .prods) j (2 ^ p)) k 0)) e
-          ∙ ap (bit a) (getD-set-same (s .prods) j (2 ^ p) 0 (omega (arith, hl))) ∙ ap (λ (y : ℕ). bit a (2 ^ y)) (own o ∙ sym e)
-      go (yes o) (no ne) d = ap (λ (l : List ℕ). bit a (getD l k 0)) (skip o) ∙ ap (bit a) (getD-set-other (s .prods) j k (2 ^ p) 0 ne) ∙ fb a z k h
-      go (no f) e (yes l) = ap (bit a) (clearFrom-before j p w (s .prods) k l) ∙ fb a z k h
-      go (no f) e (no l) =
-          ap (bit a) (clearFrom-at j p w (s .prods) k (omega arith) (omega (arith, hl)) ∙ flip-on (bit p (getD (s .prods) k 0)) w (getD (s .prods) k 0))
-          ∙ bit-xor a (getD (s .prods) k 0) (on (bit p (getD (s .prods) k 0)) w)
-          ∙ ap (differ (bit a (getD (s .prods) k 0))) (on-none a (bit p (getD (s .prods) k 0)) w (w-none f a z))
-          ∙ differ-zero (bit a (getD (s .prods) k 0)) ∙ fb a z k h
+  free-bits-after a z k h = elim (decLt k j) [
+    | yes l ↦ ap (bit a) (clearFrom-before j p w (s .prods) k l) ∙ fb a z k h
+    | no l ↦
+        ap (bit a) (clearFrom-at j p w (s .prods) k (omega arith) (omega (arith, hl)) ∙ flip-on (bit p (getD (s .prods) k 0)) w (getD (s .prods) k 0))
+        ∙ bit-xor a (getD (s .prods) k 0) (on (bit p (getD (s .prods) k 0)) w)
+        ∙ ap (differ (bit a (getD (s .prods) k 0))) (on-none a (bit p (getD (s .prods) k 0)) w (w-none a z)) ∙ differ-zero (bit a (getD (s .prods) k 0)) ∙ fb a z k h
+  ]
 
   pub untaken-after : Untaken occ (j + 1) (bitOr (s .mark) (2 ^ p))
   untaken-after a l z = bit-or a (s .mark) (2 ^ p) ∙ omega (arith, ut a (omega arith) z, bit-pow-other a p (go (ℕ-discrete (bit j occ) 0)))

@@ -157,10 +157,9 @@ module _ (n r : ℕ) (thr : ℕ → ℕ) where
     goes-on : (t : ℕ) (b : Bucket) → b .bound ≡ t → Holds n r b (held thr t fs) → ltb (thr (e .word)) t ≡ false → fall t (seen thr e) (map (seen thr) fs) ≡ t
         → Settles e fs t (record { bucket = b; out = e ∷ [] })
     goes-on t b q h f fe = record {
-      holds = subst⁻¹ (λ (u : ℕ). Holds n r b (held thr u (e ∷ fs))) q (subst⁻¹ (Holds n r b) (cond-false (e ∷ held thr t fs) (held thr t fs) f) h);
+      holds = subst⁻¹ (λ (u : ℕ). Holds n r b (held thr u (e ∷ fs))) q (rw f h);
       falls = q ∙ sym fe;
-      leaves = subst⁻¹ (λ (u : ℕ). List·Permᴰ (e ∷ over thr t fs) (over thr u (e ∷ fs))) q
-          (subst⁻¹ (List·Permᴰ (e ∷ over thr t fs)) (cond-true (e ∷ over thr t fs) (over thr t fs) (ap not f)) (Permᴰ·refl (e ∷ over thr t fs)));
+      leaves = rw (q, f) (Permᴰ·refl (e ∷ over thr t fs));
     }
 
     pub settle-law : (t : ℕ) (b : Bucket) → b .bound ≡ t → Holds n r b (held thr t fs) → Settles e fs t (settle n thr e t b)
@@ -179,11 +178,9 @@ module _ (n r : ℕ) (thr : ℕ → ℕ) where
             let a = holds-add h e small plan-lt f in
             subst⁻¹ (λ (o : Tried). Settles e fs (suc u) (orElse o (ahead (leaving n thr u b) (settle n thr e u (lowered n thr u b))))) (a .1)
             (record {
-              holds = subst⁻¹ (λ (t : ℕ). Holds n r (a .0) (held thr t (e ∷ fs))) (a .3 ∙ q)
-                  (subst⁻¹ (Holds n r (a .0)) (cond-true (e ∷ held thr (suc u) fs) (held thr (suc u) fs) l) (a .2));
+              holds = subst⁻¹ (λ (t : ℕ). Holds n r (a .0) (held thr t (e ∷ fs))) (a .3 ∙ q) (rw l (a .2));
               falls = a .3 ∙ q ∙ sym (cond-false (fall u (seen thr e) (map (seen thr) fs)) (suc u) (ap (λ (a : Bool). ltb (thr (e .word)) (suc u) && a) (same-has ∙ f) ∙ and-false (ltb (thr (e .word)) (suc u))));
-              leaves = subst⁻¹ (λ (t : ℕ). List·Permᴰ (over thr (suc u) fs) (over thr t (e ∷ fs))) (a .3 ∙ q)
-                  (subst⁻¹ (List·Permᴰ (over thr (suc u) fs)) (cond-false (e ∷ over thr (suc u) fs) (over thr (suc u) fs) (ap not l)) (Permᴰ·refl (over thr (suc u) fs)));
+              leaves = rw (a .3 ∙ q, l) (Permᴰ·refl (over thr (suc u) fs));
             })
 
         out-at : List·Permᴰ (leaving n thr u b) (at thr u fs)

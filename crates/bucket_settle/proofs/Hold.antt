@@ -169,23 +169,14 @@ module _ {n r : ℕ} {b : Bucket} {rows : List Entry} (h : Holds n r b rows) whe
       }
 
   module _ (k p : ℕ) (l : k < 2 ^ n) (f : find k rows ≡ some p) where
-    abbrev own : List·Memᴰ (record { word = k; plan = p }) rows
-    own = find-mem k p rows f
+    abbrev row : (i : ℕ) × (i < n) × (bit i (b .mark) ≡ 1) × (getD (h .matrix) i 0 ≡ k)
+    row = row-of (record { word = k; plan = p }) (find-mem k p rows f)
 
     abbrev at : ℕ
-    at = row-of (record { word = k; plan = p }) own .0
-
-    at-lt : at < n
-    at-lt = row-of (record { word = k; plan = p }) own .1
-
-    at-mark : bit at (b .mark) ≡ 1
-    at-mark = row-of (record { word = k; plan = p }) own .2
-
-    at-row : getD (h .matrix) at 0 ≡ k
-    at-row = row-of (record { word = k; plan = p }) own .3
+    at = row .0
 
     found-row : trailingZeros n (product (b .cols) k) ≡ at
-    found-row = ap (trailingZeros n) (ap (product (b .cols)) (sym at-row) ∙ h .sound .inverse .unit at at-lt) ∙ tz-pow n at at-lt
+    found-row = ap (trailingZeros n) (ap (product (b .cols)) (sym (row .3)) ∙ h .sound .inverse .unit at (row .1)) ∙ tz-pow n at (row .1)
 
     parts : List·Permᴰ rows (record { word = k; plan = p } ∷ remove k rows)
     parts = remove-perm k p rows f
@@ -208,8 +199,8 @@ module _ {n r : ℕ} {b : Bucket} {rows : List Entry} (h : Holds n r b rows) whe
     unfolding withdrawAt
     withdraw-at = record {
       matrix = _;
-      sound = withdraw-sound n (h .matrix) b at k (h .sound) at-lt at-row at-mark;
-      lives = Perm·cons-inv (Perm·trans (Perm·symm (withdraw-live n (h .matrix) b at k (h .sound) at-lt at-row at-mark))
+      sound = withdraw-sound n (h .matrix) b at k (h .sound) (row .1) (row .3) (row .2);
+      lives = Perm·cons-inv (Perm·trans (Perm·symm (withdraw-live n (h .matrix) b at k (h .sound) (row .1) (row .3) (row .2)))
           (Perm·trans (h .lives) ∣ Permᴰ·map (λ (e : Entry). e .word) parts ∣₁));
       plans = λ x m. h .plans x (rest x m);
       wide = h .wide;
@@ -232,8 +223,8 @@ module _ {n r : ℕ} {b : Bucket} {rows : List Entry} (h : Holds n r b rows) whe
         lives = Perm·trans (h .lives) ∣ Permᴰ·map (λ (e : Entry). e .word) parts ∣₁;
         plans = λ x m. ⊎-elim
             (λ (z : x ≡ record { word = k; plan = q }). subst⁻¹ (λ (y : Entry). product (solStep (getD (b .cols) at 0) (bitXor (lookup b k) q) (b .sols)) (y .word) ≡ y .plan) z
-            (subst (λ (v : ℕ). product (solStep (getD (b .cols) at 0) (bitXor (lookup b v) q) (b .sols)) v ≡ q) at-row
-            (plan-set n (h .matrix) (b .cols) (b .sols) (h .sound .inverse) at q at-lt fits)))
+            (subst (λ (v : ℕ). product (solStep (getD (b .cols) at 0) (bitXor (lookup b v) q) (b .sols)) v ≡ q) (row .3)
+            (plan-set n (h .matrix) (b .cols) (b .sols) (h .sound .inverse) at q (row .1) fits)))
             (λ r. other x r) (List·Memᴰ·cases-cons m);
         wide = length-solStep _ _ (b .sols) ∙ h .wide;
         distinct = distinct-perm parts (h .distinct);
@@ -245,9 +236,9 @@ module _ {n r : ℕ} {b : Bucket} {rows : List Entry} (h : Holds n r b rows) whe
           other : (x : Entry) → List·Memᴰ x (remove k rows) → product (solStep (getD (b .cols) at 0) (bitXor (lookup b k) q) (b .sols)) (x .word) ≡ x .plan
           other x m =
               let r = row-of x (rest x m) in
-              let ne : at ≡ r .0 → ⊥ = (λ z. find-none k (remove k rows) (distinct-perm parts (h .distinct) .0) x m (sym at-row ∙ ap (λ (j : ℕ). getD (h .matrix) j 0) z ∙ r .3)) in
-              subst₂ (λ (v u : ℕ). product (solStep (getD (b .cols) at 0) (bitXor (lookup b v) q) (b .sols)) u ≡ product (b .sols) u) at-row (r .3)
-              (plan-kept n (h .matrix) (b .cols) (b .sols) (h .sound .inverse) at q at-lt fits (r .0) (r .1) ne)
+              let ne : at ≡ r .0 → ⊥ = (λ z. find-none k (remove k rows) (distinct-perm parts (h .distinct) .0) x m (sym (row .3) ∙ ap (λ (j : ℕ). getD (h .matrix) j 0) z ∙ r .3)) in
+              subst₂ (λ (v u : ℕ). product (solStep (getD (b .cols) at 0) (bitXor (lookup b v) q) (b .sols)) u ≡ product (b .sols) u) (row .3) (r .3)
+              (plan-kept n (h .matrix) (b .cols) (b .sols) (h .sound .inverse) at q (row .1) fits (r .0) (r .1) ne)
               ∙ h .plans x (rest x m)
 
       change-is : change n k q b ≡ record { done = true; bucket = changeAt at k q b }

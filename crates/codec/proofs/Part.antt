@@ -7,7 +7,7 @@ use native.Mathlib.Nat.{le-of-lt, zero-add, suc-add, not-suc-le-zero}
 use native.Mathlib.Numerals.{add-one}
 use native.Mathlib.Omega.{arith}
 use lib.ListN.{length, getD, take, drop, set, length-drop, drop-of-length-le}
-use lib.Seq.{length-take-le, take-all, take-nil, take-suc, getD-take, getD-drop}
+use lib.Seq.{length-take-le, take-all, take-nil, take-suc, getD-take, getD-drop, take-append-seam, drop-at}
 use Rattle.codec.specs.Parts.{partAt, written}
 
 -- ---- a part
@@ -72,12 +72,7 @@ written-past a p t h = sym (written-cut a 0 p t (omega arith)) ∙ written-none 
 
 -- the part itself
 pub part-same : (a : ℕ) (p t : List ℕ) → a + length p ≤ length t → partAt (length p) a (written a p t) ≡ p
-unfolding written
-part-same zero [] t h = refl
-part-same zero (x ∷ p) [] h = absurd (not-suc-le-zero (rw zero-add at h))
-part-same zero (x ∷ p) (y ∷ t) h = ap (λ (l : List ℕ). x ∷ l) (part-same zero p t (omega arith))
-part-same (suc a) p [] h = absurd (not-suc-le-zero (rw suc-add at h))
-part-same (suc a) p (y ∷ t) h = part-same a p t (omega arith)
+part-same a p t h = rw (written-fits a p t h, drop-at (take a t) (p ++ drop (a + length p) t) a (length-take-le a t (omega arith))) (take-append-seam p (drop (a + length p) t))
 
 -- ---- one after the other
 

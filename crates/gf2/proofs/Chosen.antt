@@ -1,9 +1,9 @@
 -- The chosen rows: a row more, a row less, and a member by its row.
 -- Assumes nothing.
-use mathlib.Core.Path.{_≡_, refl, sym, ap, ap₂, _∙_, subst, subst₂}
+use mathlib.Core.Path.{_≡_, refl, sym, ap, _∙_, subst, subst₂}
 use mathlib.Core.Logic.{⊎-elim}
-use mathlib.Core.List.{List, [], _∷_, List·Permᴰ, Permᴰ·refl, List·Permᴰ·cons, List·Permᴰ·swap, List·Permᴰ·trans}
-use Prim.Native.Nat.{ℕ, zero, suc, _/_, _%_, _^_, _≤_, _<_, zero-le}
+use mathlib.Core.List.{List, [], _∷_, Sublistᴰ, Sublistᴰ·slnil, Sublistᴰ·cons, Sublistᴰ·cons-cons, List·Permᴰ, Permᴰ·refl, List·Permᴰ·cons, List·Permᴰ·swap, List·Permᴰ·trans}
+use Prim.Native.Nat.{ℕ, zero, suc, _/_, _%_, _^_, _≤_, _<_}
 use native.Mathlib.Nat.{zero-lt-suc, not-suc-le-zero, le-of-suc-le-suc}
 use native.Mathlib.Omega.{arith}
 use lib.Bits.{bitOr, or-zero-r}
@@ -14,6 +14,7 @@ use Rattle.gf2.specs.Vectors.{outside, bit}
 use Rattle.gf2.specs.Select.{elem, putIf, chosen}
 use Rattle.gf2.proofs.Bit.{low2, bit-low, bit-suc, half-pow, even-pow, bit-pow-same}
 use Rattle.lists.proofs.Tests.{or-l, or-r, or-cases}
+use Rattle.lists.proofs.Keep.{length-sub}
 use Rattle.gf2.proofs.Lowest.{or-low, or-half, bit-outside, or-outside}
 
 -- ---- how many
@@ -22,13 +23,16 @@ pub chosen-none : (rs : List ℕ) → chosen 0 rs ≡ []
 chosen-none [] = refl
 chosen-none (r ∷ rs) = chosen-none rs
 
-pub chosen-length : (m : ℕ) (rs : List ℕ) → length (chosen m rs) ≤ length rs
-chosen-length m [] = zero-le
-chosen-length m (r ∷ rs) = go (m % 2) (chosen-length (m / 2) rs)
+pub chosen-sub : (m : ℕ) (rs : List ℕ) → Sublistᴰ (chosen m rs) rs
+chosen-sub m [] = Sublistᴰ·slnil
+chosen-sub m (r ∷ rs) = go (m % 2) (chosen-sub (m / 2) rs)
   where
-    go : (d : ℕ) → length (chosen (m / 2) rs) ≤ length rs → length (putIf d r (chosen (m / 2) rs)) ≤ suc (length rs)
-    go zero h = omega arith
-    go (suc d) h = omega arith
+    go : (d : ℕ) → Sublistᴰ (chosen (m / 2) rs) rs → Sublistᴰ (putIf d r (chosen (m / 2) rs)) (r ∷ rs)
+    go zero s = Sublistᴰ·cons s
+    go (suc d) s = Sublistᴰ·cons-cons refl s
+
+pub chosen-length : (m : ℕ) (rs : List ℕ) → length (chosen m rs) ≤ length rs
+chosen-length m rs = length-sub (chosen-sub m rs)
 
 -- ---- the live vectors of an occupied row more, and of one less
 
@@ -38,15 +42,11 @@ chosen-add (r ∷ rs) zero m k h z =
     let e : m % 2 ≡ 0 = sym (bit-low m) ∙ z in
     let l : bitOr m 1 % 2 ≡ 1 = or-low m 1 ∙ omega arith in
     let q : bitOr m 1 / 2 ≡ m / 2 = or-half m 1 ∙ or-zero-r (m / 2) in
-    subst₂ (λ (a b : List ℕ). List·Permᴰ a b)
-    (ap₂ (λ (x y : ℕ). putIf x k (chosen y rs)) (sym l) (sym q)) (ap (λ (x : ℕ). k ∷ putIf x r (chosen (m / 2) rs)) (sym e))
-    (Permᴰ·refl (k ∷ chosen (m / 2) rs))
+    rw (l, q, e) (Permᴰ·refl (k ∷ chosen (m / 2) rs))
 chosen-add (r ∷ rs) (suc i) m k h z =
     let l : bitOr m (2 ^ suc i) % 2 ≡ m % 2 = or-low m (2 ^ suc i) ∙ omega (arith, even-pow i) in
     let q : bitOr m (2 ^ suc i) / 2 ≡ bitOr (m / 2) (2 ^ i) = or-half m (2 ^ suc i) ∙ ap (bitOr (m / 2)) (half-pow i) in
-    subst (λ (a : List ℕ). List·Permᴰ a (k ∷ putIf (m % 2) r (chosen (m / 2) rs)))
-    (ap₂ (λ (x y : ℕ). putIf x r (chosen y (set rs i k))) (sym l) (sym q))
-    (go (m % 2) (chosen-add rs i (m / 2) k (le-of-suc-le-suc h) (sym (bit-suc i m) ∙ z)))
+    rw (l, q) (go (m % 2) (chosen-add rs i (m / 2) k (le-of-suc-le-suc h) (sym (bit-suc i m) ∙ z)))
   where
     go : (d : ℕ) → List·Permᴰ (chosen (bitOr (m / 2) (2 ^ i)) (set rs i k)) (k ∷ chosen (m / 2) rs)
         → List·Permᴰ (putIf d r (chosen (bitOr (m / 2) (2 ^ i)) (set rs i k))) (k ∷ putIf d r (chosen (m / 2) rs))

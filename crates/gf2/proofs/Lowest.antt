@@ -3,14 +3,14 @@
 use mathlib.Core.Path.{_≡_, refl, sym, ap, ap₂, _∙_, subst}
 use Prim.Native.Nat.{ℕ, zero, suc, _-_, _/_, _%_, _^_, _<_, min, max}
 use native.Mathlib.Nat.{not-suc-le-zero, le-of-suc-le-suc}
-use native.Mathlib.Decide.{ℕ-discrete, decLt}
 use native.Mathlib.Omega.{arith}
 use lib.Arith.{lt-of-le-ne}
+use lib.Pow.{pow-pos}
 use lib.Bits.{bitAnd, bitOr, differ, xor-lt, and-lt, or-step, or-shr}
 use lib.Count.{trailingZeros, under, trailing-le}
 use lib.Dec.{T, eqb, eqb→eq}
 use Rattle.gf2.specs.Vectors.{outside, bit}
-use Rattle.gf2.proofs.Bit.{every2, at2, low2, bit-zero, bit-low, bit-suc, bit-lt, half-pow, even-pow, bit-and, bit-xor, bit-ext, bit-pow-same, bit-pow-other, bit-high}
+use Rattle.gf2.proofs.Bit.{by-place, every2, at2, low2, bit-zero, bit-low, bit-suc, bit-lt, half-pow, even-pow, bit-and, bit-xor, bit-ext, bit-pow-same, bit-pow-other, bit-below}
 
 -- ---- bits of a mark
 
@@ -34,15 +34,9 @@ bit-outside i p m =
 
 -- a bit cleared and set again
 pub or-outside : (m i : ℕ) → bit i m ≡ 1 → bitOr (outside m (2 ^ i)) (2 ^ i) ≡ m
-or-outside m i h = bit-ext _ m (λ a. go a (ℕ-discrete a i))
-  where
-    go : (a : ℕ) → Dec (a ≡ i) → bit a (bitOr (outside m (2 ^ i)) (2 ^ i)) ≡ bit a m
-    go a (yes e) =
-        subst (λ (a : ℕ). bit a (bitOr (outside m (2 ^ i)) (2 ^ i)) ≡ bit a m) (sym e)
-        (bit-or i (outside m (2 ^ i)) (2 ^ i) ∙ ap₂ max (bit-outside i m (2 ^ i)) (bit-pow-same i) ∙ omega (arith, bit-pow-same i))
-    go a (no ne) =
-        bit-or a (outside m (2 ^ i)) (2 ^ i) ∙ ap₂ max (bit-outside a m (2 ^ i)) (bit-pow-other a i ne)
-        ∙ omega (arith, bit-pow-other a i ne)
+or-outside m i h =
+    bit-ext _ m (λ a. bit-or a (outside m (2 ^ i)) (2 ^ i) ∙ ap (λ (b : ℕ). max b (bit a (2 ^ i))) (bit-outside a m (2 ^ i))
+    ∙ by-place (λ a. max (bit a m - bit a (2 ^ i)) (bit a (2 ^ i)) ≡ bit a m) i (omega (arith, bit-pow-same i)) (λ a ne. omega (arith, bit-pow-other a i ne)) a)
 
 pub outside-lt : (n p m : ℕ) → p < 2 ^ n → m < 2 ^ n → outside p m < 2 ^ n
 outside-lt n p m hp hm = xor-lt n p (bitAnd p m) hp (and-lt n p m hp hm)
@@ -69,11 +63,8 @@ tz-low (suc n) x j h = go (x % 2) refl (trailingZeros n (x / 2)) (λ j. tz-low n
     go (suc d) e t ih j h = absurd (not-suc-le-zero h)
 
 pub tz-lt : (n x : ℕ) → x < 2 ^ n → (x ≡ 0 → ⊥) → trailingZeros n x < n
-tz-lt n x h ne = lt-of-le-ne (trailing-le n x) (λ e. ne (bit-ext x 0 (λ i. go e i (decLt i n) ∙ sym (bit-zero i))))
-  where
-    go : trailingZeros n x ≡ n → (i : ℕ) → Dec (i < n) → bit i x ≡ 0
-    go e i (yes l) = tz-low n x i (subst (λ (t : ℕ). i < t) (sym e) l)
-    go e i (no f) = bit-high n i x h (omega arith)
+tz-lt n x h ne =
+    lt-of-le-ne (trailing-le n x) (λ e. ne (bit-below n x 0 h (pow-pos n) (λ i l. tz-low n x i (subst (λ (t : ℕ). i < t) (sym e) l) ∙ sym (bit-zero i))))
 
 pub tz-pow : (n i : ℕ) → i < n → trailingZeros n (2 ^ i) ≡ i
 unfolding trailingZeros

@@ -1,7 +1,7 @@
 -- The line program prints what it would print if the model took the calls; its table is sound at each line.
 -- Assumes nothing.
 use mathlib.Core.Path.{_≡_, refl, ap, ap₂}
-use mathlib.Core.Bool.{Bool, true, false, cond}
+use mathlib.Core.Bool.{true, false}
 use mathlib.Core.List.{List, [], _∷_, _++_}
 use mathlib.Core.Option.{Option, none, some}
 use Prim.Native.Nat.{ℕ, suc, _≤_}
@@ -9,7 +9,7 @@ use native.Mathlib.Omega.{arith}
 use lib.Dec.{leb}
 use lib.ListN.{length, replicate, length-replicate}
 use borrow.Author.Tests.{eq-eqb}
-use Rattle.lists.proofs.Tests.{cases}
+use Rattle.lists.proofs.Tests.{by-test, cases}
 use Rattle.codec.specs.Bytes.{eqList}
 use Rattle.answer.specs.declared.Answer.the-variants.{Accepted, WrongBuckets}
 use Rattle.model.specs.Model.{State, Call, add, change}
@@ -47,19 +47,15 @@ plan-fits : (c : ℕ → Call R.Token) → ((p : ℕ) → p ≤ mostPlan → Pla
 plan-fits c f (Of p) h = f p h
 plan-fits c f Wrong h = tt
 
-either : (t : Bool) (a b : Command) → CommandFits a → CommandFits b → CommandFits (cond t a b)
-either true a b h k = h
-either false a b h k = k
-
 fields-fit : (fs : List (List ℕ)) → CommandFits (ofFields fs)
 unfolding ofTwo ofThree
 fields-fit [] = tt
 fields-fit (w ∷ []) = tt
-fields-fit (w ∷ x ∷ []) = either (eqList w delWord) _ _ tt (either (eqList w getWord) _ _ tt tt)
+fields-fit (w ∷ x ∷ []) = by-test CommandFits (eqList w delWord) (λ t. tt) (λ f. by-test CommandFits (eqList w getWord) (λ t. tt) (λ f. tt))
 fields-fit (w ∷ x ∷ y ∷ []) =
-    either (eqList w openWord) _ _ (open-fits (numberTo mostBuckets x) (numberTo mostBuckets y))
-    (either (eqList w addWord) _ _ (plan-fits (add x) (λ p h. omega arith) (numberTo mostPlan y) (number-most mostPlan y))
-    (either (eqList w setWord) _ _ (plan-fits (change x) (λ p h. omega arith) (numberTo mostPlan y) (number-most mostPlan y)) tt))
+    by-test CommandFits (eqList w openWord) (λ t. open-fits (numberTo mostBuckets x) (numberTo mostBuckets y))
+    (λ f. by-test CommandFits (eqList w addWord) (λ t. plan-fits (add x) (λ p h. omega arith) (numberTo mostPlan y) (number-most mostPlan y))
+    (λ f. by-test CommandFits (eqList w setWord) (λ t. plan-fits (change x) (λ p h. omega arith) (numberTo mostPlan y) (number-most mostPlan y)) (λ f. tt)))
 fields-fit (w ∷ x ∷ y ∷ z ∷ fs) = tt
 
 pub command-fits : (s : List ℕ) → CommandFits (commandOf s)

@@ -9,7 +9,7 @@ use mathlib.Core.Logic.{_⊎_, inl, inr, ⊎-elim}
 use mathlib.Core.Option.{Option, none, some}
 use mathlib.Core.List.{List, [], _∷_, map, List·Memᴰ, List·Memᴰ·head, List·Memᴰ·tail, List·Memᴰ·not-nil, List·Memᴰ·cases-cons, Sublistᴰ, Sublistᴰ·slnil, Sublistᴰ·cons, Sublistᴰ·cons-cons, Sublistᴰ·refl, List·Permᴰ, List·Permᴰ·cons, List·Permᴰ·swap, List·Permᴰ·trans, Permᴰ·refl}
 use lib.Dec.{eqb, ltb}
-use lib.ListN.{length}
+use lib.ListN.{length, length-map}
 use borrow.Author.Tests.{eqb-true, eqb-false, eq-eqb, ne-eqb, ltb-true, ltb-false}
 use Rattle.lists.specs.Entries.{Entry, find, insert, update, remove, Above, Ascending}
 use Rattle.lists.proofs.Tests.{by-test, cases, cond-true, cond-false}
@@ -208,9 +208,7 @@ update-words e (x ∷ xs) =
     (λ h. ap {B = List ℕ} (λ ws. x .word ∷ ws) (update-words e xs))
 
 pub update-length : (e : Entry) (xs : List Entry) → length (update e xs) ≡ length xs
-update-length e [] = refl
-update-length e (x ∷ xs) =
-    by-test (λ (l : List Entry). length l ≡ suc (length xs)) (eqb (e .word) (x .word)) (λ h. refl) (λ h. ap suc (update-length e xs))
+update-length e xs = sym (length-map (update e xs) (λ x. x .word)) ∙ ap length (update-words e xs) ∙ length-map xs (λ x. x .word)
 
 update-above : (w : ℕ) (e : Entry) (xs : List Entry) → Above w xs → Above w (update e xs)
 update-above w e [] a = a

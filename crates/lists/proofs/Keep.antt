@@ -6,7 +6,7 @@ use native.Mathlib.Nat.{le-of-suc-le-suc, not-suc-le-zero}
 use native.Mathlib.Omega.{arith}
 use lib.Arith.{lt-of-le-ne}
 use mathlib.Core.Path.{_≡_, refl, sym, ap, ap₂, _∙_, subst, subst⁻¹, subst₂, fun-ext}
-use mathlib.Core.Bool.{Bool, true, false, cond, not, _&&_, false≢true, true≢false}
+use mathlib.Core.Bool.{Bool, true, false, cond, not, _&&_, true≢false}
 use mathlib.Core.Logic.{⊎-elim}
 use mathlib.Core.List.{List, [], _∷_, _++_, map, append-assoc, Sublistᴰ, Sublistᴰ·slnil, Sublistᴰ·cons, Sublistᴰ·cons-cons, Sublistᴰ·refl, Sublistᴰ·trans, List·Permᴰ, List·Permᴰ·nil, List·Permᴰ·cons, List·Permᴰ·swap, List·Permᴰ·trans, Permᴰ·refl, Permᴰ·symm, Permᴰ·middle, Permᴰ·append-right, List·Permᴰ·append-comm, List·Memᴰ, List·Memᴰ·head, List·Memᴰ·tail, List·Memᴰ·not-nil, List·Memᴰ·cases-cons}
 use lib.Dec.{eqb}
@@ -29,42 +29,30 @@ length-sub Sublistᴰ·slnil = omega arith
 length-sub (Sublistᴰ·cons s) = let h = length-sub s in omega arith
 length-sub (Sublistᴰ·cons-cons e s) = let h = length-sub s in omega arith
 
-sub-cond : {A : Type 0} (b c : Bool) → (b ≡ true → c ≡ true) → (x : A) {xs ys : List A} → Sublistᴰ xs ys
-    → Sublistᴰ (cond b (x ∷ xs) xs) (cond c (x ∷ ys) ys)
-sub-cond true true h x s = Sublistᴰ·cons-cons refl s
-sub-cond true false h x s = absurd (false≢true (h refl))
-sub-cond false true h x s = Sublistᴰ·cons s
-sub-cond false false h x s = s
-
-sub-skip : {A : Type 0} (c : Bool) (x : A) {xs ys : List A} → Sublistᴰ xs ys → Sublistᴰ xs (cond c (x ∷ ys) ys)
-sub-skip true x s = Sublistᴰ·cons s
-sub-skip false x s = s
+-- a part as long as the list is the list
+pub sub-same : {A : Type 0} {xs ys : List A} → Sublistᴰ xs ys → length xs ≡ length ys → xs ≡ ys
+sub-same Sublistᴰ·slnil h = refl
+sub-same (Sublistᴰ·cons s) h = let l = length-sub s in absurd (omega arith)
+sub-same {A} (Sublistᴰ·cons-cons e s) h = ap₂ {C = List A} _∷_ e (sub-same s (omega arith))
 
 module _ {A : Type 0} (p q : A → Bool) (weaker : (x : A) → p x ≡ true → q x ≡ true) where
   pub keep-sub : {xs ys : List A} → Sublistᴰ xs ys → Sublistᴰ (keep p xs) (keep q ys)
   keep-sub Sublistᴰ·slnil = Sublistᴰ·slnil
-  keep-sub (Sublistᴰ·cons {a = y} s) = sub-skip (q y) y (keep-sub s)
+  keep-sub (Sublistᴰ·cons {a = y} {l₁ = xs} s) = by-test (Sublistᴰ (keep p xs)) (q y) (λ t. Sublistᴰ·cons (keep-sub s)) (λ f. keep-sub s)
   keep-sub (Sublistᴰ·cons-cons {a = x} {b = y} {l₁ = xs} {l₂ = ys} e s) =
-      subst⁻¹ (λ (z : A). Sublistᴰ (keep p (z ∷ xs)) (keep q (y ∷ ys))) e (sub-cond (p y) (q y) (weaker y) y (keep-sub s))
-
-perm-cond : {A : Type 0} (b : Bool) (x : A) {xs ys : List A} → List·Permᴰ xs ys → List·Permᴰ (cond b (x ∷ xs) xs) (cond b (x ∷ ys) ys)
-perm-cond true x s = List·Permᴰ·cons refl s
-perm-cond false x s = s
-
-perm-swap : {A : Type 0} (b c : Bool) (x y : A) (l : List A)
-    → List·Permᴰ (cond b (x ∷ cond c (y ∷ l) l) (cond c (y ∷ l) l)) (cond c (y ∷ cond b (x ∷ l) l) (cond b (x ∷ l) l))
-perm-swap true true x y l = List·Permᴰ·swap refl refl
-perm-swap true false x y l = Permᴰ·refl (x ∷ l)
-perm-swap false true x y l = Permᴰ·refl (y ∷ l)
-perm-swap false false x y l = Permᴰ·refl l
+      subst⁻¹ (λ (z : A). Sublistᴰ (keep p (z ∷ xs)) (keep q (y ∷ ys))) e
+      (by-test (λ (l : List A). Sublistᴰ l (keep q (y ∷ ys))) (p y) (λ t. rw (weaker y t) (Sublistᴰ·cons-cons refl (keep-sub s)))
+      (λ f. by-test (Sublistᴰ (keep p xs)) (q y) (λ t. Sublistᴰ·cons (keep-sub s)) (λ f. keep-sub s)))
 
 module _ {A : Type 0} (p : A → Bool) where
   pub keep-perm : {xs ys : List A} → List·Permᴰ xs ys → List·Permᴰ (keep p xs) (keep p ys)
   keep-perm List·Permᴰ·nil = List·Permᴰ·nil
   keep-perm (List·Permᴰ·cons {a = x} {b = y} {l₁ = xs} {l₂ = ys} e s) =
-      subst⁻¹ (λ (z : A). List·Permᴰ (keep p (z ∷ xs)) (keep p (y ∷ ys))) e (perm-cond (p y) y (keep-perm s))
+      subst⁻¹ (λ (z : A). List·Permᴰ (keep p (z ∷ xs)) (keep p (y ∷ ys))) e
+      (cases (p y) (λ t. rw t (List·Permᴰ·cons refl (keep-perm s))) (λ f. rw f (keep-perm s)))
   keep-perm (List·Permᴰ·swap {a = x} {b = y} {a′ = x′} {b′ = y′} {l = l} e f) =
-      subst₂ (λ (u v : A). List·Permᴰ (keep p (x ∷ y ∷ l)) (keep p (u ∷ v ∷ l))) f e (perm-swap (p x) (p y) x y (keep p l))
+      subst₂ (λ (u v : A). List·Permᴰ (keep p (x ∷ y ∷ l)) (keep p (u ∷ v ∷ l))) f e
+      (cases (p x) (λ t. cases (p y) (λ u. rw (t, u) (List·Permᴰ·swap refl refl)) (λ u. rw (t, u) (Permᴰ·refl (x ∷ keep p l)))) (λ n. rw n (Permᴰ·refl (keep p (y ∷ l)))))
   keep-perm (List·Permᴰ·trans s t) = List·Permᴰ·trans (keep-perm s) (keep-perm t)
 
 pub tabulate-at : (f : ℕ → ℕ) (n i : ℕ) → i < n → getD (tabulate f n) i 0 ≡ f i
@@ -87,24 +75,15 @@ tabulate-out f (suc n) (suc i) h = tabulate-out (λ j. f (suc j)) n i (le-of-suc
 
 -- ---- keep and map
 
-map-cond : {A B : Type 0} (f : A → B) (b : Bool) (x : A) (xs : List A) → cond b (f x ∷ map f xs) (map f xs) ≡ map f (cond b (x ∷ xs) xs)
-map-cond f true x xs = refl
-map-cond f false x xs = refl
-
 pub keep-map : {A B : Type 0} (f : A → B) (p : B → Bool) (xs : List A) → keep p (map f xs) ≡ map f (keep (λ x. p (f x)) xs)
 keep-map f p [] = refl
 keep-map {A} {B} f p (x ∷ xs) =
-    ap (λ (l : List B). cond (p (f x)) (f x ∷ l) l) (keep-map f p xs) ∙ map-cond f (p (f x)) x (keep (λ y. p (f y)) xs)
-
-keep-cond : {A : Type 0} (p : A → Bool) (b : Bool) (x : A) (xs : List A)
-    → keep p (cond b (x ∷ xs) xs) ≡ cond (b && p x) (x ∷ keep p xs) (keep p xs)
-keep-cond p true x xs = refl
-keep-cond p false x xs = refl
+    cases (p (f x)) (λ t. rw t (ap (λ (l : List B). f x ∷ l) (keep-map f p xs))) (λ n. rw n (keep-map f p xs))
 
 pub keep-keep : {A : Type 0} (p q : A → Bool) (xs : List A) → keep p (keep q xs) ≡ keep (λ x. q x && p x) xs
 keep-keep p q [] = refl
 keep-keep {A} p q (x ∷ xs) =
-    keep-cond p (q x) x (keep q xs) ∙ ap (λ (l : List A). cond (q x && p x) (x ∷ l) l) (keep-keep p q xs)
+    cases (q x) (λ t. rw t (ap (λ (l : List A). cond (p x) (x ∷ l) l) (keep-keep p q xs))) (λ n. rw n (keep-keep p q xs))
 
 -- ---- members of what is kept
 
@@ -128,15 +107,12 @@ keep-out {A} p (y ∷ ys) x =
 pub keep-ext : {A : Type 0} (p q : A → Bool) (xs : List A) → ((x : A) → p x ≡ q x) → keep p xs ≡ keep q xs
 keep-ext {A} p q xs h = ap (λ (r : A → Bool). keep r xs) (fun-ext h)
 
-part-cond : {A : Type 0} (b : Bool) (x : A) {xs : List A} (ys zs : List A) → List·Permᴰ xs (ys ++ zs)
-    → List·Permᴰ (x ∷ xs) (cond b (x ∷ ys) ys ++ cond (not b) (x ∷ zs) zs)
-part-cond true x ys zs s = List·Permᴰ·cons refl s
-part-cond false x ys zs s = List·Permᴰ·trans (List·Permᴰ·cons refl s) (Permᴰ·symm (Permᴰ·middle x ys zs))
-
 -- a list is what passes a test, and what does not
 pub keep-part : {A : Type 0} (p : A → Bool) (xs : List A) → List·Permᴰ xs (keep p xs ++ keep (λ x. not (p x)) xs)
 keep-part p [] = List·Permᴰ·nil
-keep-part p (x ∷ xs) = part-cond (p x) x (keep p xs) (keep (λ y. not (p y)) xs) (keep-part p xs)
+keep-part p (x ∷ xs) =
+    cases (p x) (λ t. rw t (List·Permᴰ·cons refl (keep-part p xs)))
+    (λ n. rw n (List·Permᴰ·trans (List·Permᴰ·cons refl (keep-part p xs)) (Permᴰ·symm (Permᴰ·middle x (keep p xs) (keep (λ y. not (p y)) xs)))))
 
 pub shuffle : {A : Type 0} (a b c : List A) → List·Permᴰ (a ++ b ++ c) (b ++ (a ++ c))
 shuffle {A} a b c = subst (List·Permᴰ (a ++ b ++ c)) (append-assoc b a c) (Permᴰ·append-right c (List·Permᴰ·append-comm a b))

@@ -16,7 +16,7 @@ use Rattle.lists.proofs.Tests.{by-test}
 use Rattle.lists.proofs.Keep.{keep-out, perm-length}
 
 -- by whether two words are equal
-by-word {ℓ} : {P : Type ℓ} (v w : ℕ) → (v ≡ w → P) → ((v ≡ w → ⊥) → P) → P
+pub by-word {ℓ} : {P : Type ℓ} (v w : ℕ) → (v ≡ w → P) → ((v ≡ w → ⊥) → P) → P
 by-word {P = P} v w f g = elim (ℕ-discrete v w) [ yes e ↦ f e | no n ↦ g n ]
 
 module _ (l : List Entry) (asc : Ascending l) (e : Entry) (f : find (e .word) l ≡ none) where

@@ -1,9 +1,9 @@
--- Lists of requests to the model: every state reached is valid, the live count is accepted adds less accepted withdrawals, and each word
--- is live with the plan that the accepted calls tell.
+-- Lists of requests, to the model and to tables that stand for its states: every state reached is valid, the live count is accepted adds
+-- less accepted withdrawals, and each word is live with the plan that the accepted calls tell.
 -- Assumes nothing.
 use Prim.Native.Nat.{ℕ, _+_}
 use native.Mathlib.Omega.{arith}
-use mathlib.Core.Path.{_≡_, refl, sym, ap, _∙_, subst, subst⁻¹}
+use mathlib.Core.Path.{_≡_, refl, sym, ap, ap₂, _∙_, subst, subst⁻¹}
 use mathlib.Core.Bool.{Bool, true, false, cond}
 use mathlib.Core.Logic.{_⊎_, inl, inr, ⊎-elim}
 use mathlib.Core.Option.{none, some}
@@ -17,7 +17,7 @@ use Rattle.lists.proofs.Entries.{insert-length, insert-found, insert-other, rem
 use Rattle.answer.specs.declared.Answer.{Answer}
 use Rattle.model.specs.Levels.{Level}
 use Rattle.model.specs.Model.{State, Call, add, change, withdraw, query, Outcome, step}
-use Rattle.model.specs.Machine.{Machine, accepted, after, acceptedOf, AllAccepted}
+use Rattle.model.specs.Machine.{Machine, accepted, after, answers, acceptedOf, AllAccepted, Alike, Refines, Compares}
 use Rattle.model.specs.History.{wordModel, callsIn, addsIn, withdrawalsIn, liveBy, planBy}
 use Rattle.model.proofs.Steps.{refused-keeps, Follows, by-step}
 use Rattle.model.proofs.Valid.{Valid, valid-step}
@@ -31,6 +31,10 @@ is-live : (b : Bool) (q p x : ℕ) → cond b (some q) none ≡ some p → some 
 is-live true q p x e = refl
 is-live false q p x e = absurd (none≢some e)
 
+-- what the calls tell of v, after what b and q tell of it
+abbrev Told : ℕ → Bool → ℕ → List (Call ℕ) → State → Type 0
+Told v b q cs t = find v (t .live) ≡ cond (liveBy v b cs) (some (planBy v q cs)) none
+
 -- ---- one call
 
 module _ (L1 L2 : Level) (s : State) where
@@ -40,20 +44,16 @@ module _ (L1 L2 : Level) (s : State) where
 
   pub count-step : (c : Call ℕ) → Counts c (step L1 L2 s c)
   count-step =
-      by-step L1 L2 s Counts (λ c a r. simp r)
+      by-step L1 L2 s Counts (λ c a r k. simp r)
       (λ e a. let h = insert-length e (s .live) in omega arith)
       (λ e q f. let h = update-length e (s .live) in omega arith)
       (λ w q f. let h = remove-length w q (s .live) f in omega arith)
       (λ w q. refl)
 
   module _ (asc : Ascending (s .live)) (v : ℕ) (b : Bool) (q : ℕ) (h : find v (s .live) ≡ cond b (some q) none) where
-    -- what the call tells of v
-    abbrev Tells : Call ℕ → Outcome → Type 0
-    Tells c o = find v (o .after .live) ≡ cond (liveBy v b (taking (o .answer) c)) (some (planBy v q (taking (o .answer) c))) none
-
-    pub told-step : (c : Call ℕ) → Tells c (step L1 L2 s c)
+    pub told-step : (c : Call ℕ) → Told v b q (taking (step L1 L2 s c .answer) c) (step L1 L2 s c .after)
     told-step =
-        by-step L1 L2 s Tells (λ c a r. rw r h)
+        by-step L1 L2 s (λ c o. Told v b q (taking (o .answer) c) (o .after)) (λ c a r k. rw r h)
         (λ e a. cases (eqb v (e .word))
         (λ y. rw y (ap (λ (u : ℕ). find u (insert e (s .live))) (eqb-true v (e .word) y) ∙ insert-found e (s .live) asc (a .fresh)))
         (λ n. rw n (insert-other e (s .live) v (eqb-false v (e .word) n) ∙ h)))
@@ -74,10 +74,6 @@ counts-append (add w p ∷ cs) ds = let h = counts-append cs ds in (omega arith,
 counts-append (change w p ∷ cs) ds = counts-append cs ds
 counts-append (withdraw w ∷ cs) ds = let h = counts-append cs ds in (h .0, omega arith)
 counts-append (query w ∷ cs) ds = counts-append cs ds
-
--- what the calls tell of v, after what b and q tell of it
-abbrev Told : ℕ → Bool → ℕ → List (Call ℕ) → State → Type 0
-Told v b q cs t = find v (t .live) ≡ cond (liveBy v b cs) (some (planBy v q cs)) none
 
 told-append : (v : ℕ) (b : Bool) (q : ℕ) (cs ds : List (Call ℕ)) (t : State) → Told v (liveBy v b cs) (planBy v q cs) ds t → Told v b q (cs ++ ds) t
 told-append v b q [] ds t h = h
@@ -171,3 +167,38 @@ module _ {C : Type 0} (L1 L2 : Level) (N : Machine State C) (f : C → List (Cal
       subst⁻¹ (λ (l : List (Call ℕ)). Told v b q l (after N t cs)) (taken-cons s c cs)
       (told-append v b q (took s c) (taken t cs) (after N t cs)
       (told-after v t (k .keeps s c w) (liveBy v b (took s c)) (planBy v q (took s c)) (told-one v s w b q h c) cs))
+
+-- ---- calls put to tables that stand for states: the states settle every answer, and two tables that are the same in what is compared
+-- answer every further list alike
+
+module _ {T S C : Type 0} (M : Machine T C) (N : Machine S C) (Stands : T → S → Type 0) (r : Refines M N Stands) where
+  pub stands-after : (t : T) (s : S) → Stands t s → (cs : List C) → Stands (after M t cs) (after N s cs)
+  stands-after t s h [] = h
+  stands-after t s h (c ∷ cs) = stands-after (M .next t c) (N .next s c) (r .goes t s c h) cs
+
+  pub answers-after : (t : T) (s : S) → Stands t s → (cs : List C) → answers M t cs ≡ answers N s cs
+  answers-after t s h [] = refl
+  answers-after t s h (c ∷ cs) = ap₂ {C = List Answer} _∷_ (r .says t s c h) (answers-after (M .next t c) (N .next s c) (r .goes t s c h) cs)
+
+  pub accepted-after : (t : T) (s : S) → Stands t s → (cs : List C) → acceptedOf M t cs ≡ acceptedOf N s cs
+  accepted-after t s h [] = refl
+  accepted-after t s h (c ∷ cs) =
+      ap₂ (λ (a : Answer) (l : List C). cond (accepted a) (c ∷ l) l) (r .says t s c h) (accepted-after (M .next t c) (N .next s c) (r .goes t s c h) cs)
+
+  module _ (Same : T → T → Type 0) (k : Compares Stands Same) where
+    alike : (t u : T) (s : S) → Stands t s → Stands u s → (cs : List C) → Alike M Same t u cs
+    alike t u s h g [] = tt
+    alike t u s h g (c ∷ cs) = (
+      r .says t s c h ∙ sym (r .says u s c g),
+      k .same (M .next t c) (M .next u c) (N .next s c) (r .goes t s c h) (r .goes u s c g),
+      alike (M .next t c) (M .next u c) (N .next s c) (r .goes t s c h) (r .goes u s c g) cs,
+    )
+
+    -- t and u are what openings left, ds and es any calls, refused ones included
+    pub statement-3 : (t u : T) (s q : S) → Stands t s → Stands u q → (ds es : List C) → Same (after M t ds) (after M u es)
+        → (cs : List C) → Alike M Same (after M t ds) (after M u es) cs
+    statement-3 t u s q h g ds es e cs =
+        let h′ = stands-after t s h ds in
+        let g′ = stands-after u q g es in
+        alike (after M t ds) (after M u es) (after N s ds) h′
+        (subst⁻¹ (Stands (after M u es)) (k .one (after M t ds) (after M u es) (after N s ds) (after N q es) e h′ g′) g′) cs

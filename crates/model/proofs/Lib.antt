@@ -3,11 +3,8 @@ pub mod Levels
 pub mod Steps
 pub mod Valid
 pub mod Arrivals
-pub mod AddSteps
 pub mod Requests
 pub mod Calls
-pub mod Refine
 pub mod Orders
-pub mod Lift
 pub mod Example
 pub mod Statements

@@ -81,22 +81,21 @@ module _ (L1 L2 : Level) (z : Size) where
 
   -- ---- es came first, new is added to the state that they left: where all are accepted what that leaves, and when all are
 
-  record Ran (s : State) (es new : List Entry) : Type 0 where
-    leaves : after (wordModel L1 L2) s (map addOf new) ≡ fromOpening (sort (joined es new))
-    distinct : Distinct (joined es new)
-    fits : Fits (joined es new)
+  record Ran (t : State) (all : List Entry) : Type 0 where
+    leaves : t ≡ fromOpening (sort all)
+    distinct : Distinct all
+    fits : Fits all
 
   ran : (new es : List Entry) (s : State) → s ≡ fromOpening (sort es) → Distinct es → Fits es
-      → AllAccepted (wordModel L1 L2) s (map addOf new) → Ran s es new
+      → AllAccepted (wordModel L1 L2) s (map addOf new) → Ran (after (wordModel L1 L2) s (map addOf new)) (joined es new)
   ran [] es s q d h a = record { leaves = q; distinct = d; fits = h }
   ran (e ∷ new) es s q d h a =
       let r = added L1 L2 (fromOpening (sort es)) e (subst (λ (t : State). accepted (step L1 L2 t (addOf e) .answer) ≡ true) q (a .0)) in
       let m = settled-again (insert-sub e (sort es)) in
       let q′ : step L1 L2 s (addOf e) .after ≡ fromOpening (sort (e ∷ es)) =
       ap (λ (t : State). step L1 L2 t (addOf e) .after) q ∙ ap (λ (o : Outcome). o .after) (r .left) ∙ m in
-      let k = ran new (e ∷ es) (step L1 L2 s (addOf e) .after) q′ (find-perm (sort-perm es) (e .word) (r .fresh), d)
-      (subst (λ (t : State). length (base L1 L2 t) ≤ baseLimit) m (r .fits)) (a .1) in
-      record { leaves = k .leaves; distinct = k .distinct; fits = k .fits }
+      ran new (e ∷ es) (step L1 L2 s (addOf e) .after) q′ (find-perm (sort-perm es) (e .word) (r .fresh), d)
+      (subst (λ (t : State). length (base L1 L2 t) ≤ baseLimit) m (r .fits)) (a .1)
 
   runs : (new es : List Entry) (s : State) → s ≡ fromOpening (sort es) → Distinct (joined es new) → Fits (joined es new)
       → AllAccepted (wordModel L1 L2) s (map addOf new)
@@ -111,7 +110,7 @@ module _ (L1 L2 : Level) (z : Size) where
 
   -- ---- from opening
 
-  start : (es : List Entry) → AllAccepted (wordModel L1 L2) (opened z) (map addOf es) → Ran (opened z) [] es
+  start : (es : List Entry) → AllAccepted (wordModel L1 L2) (opened z) (map addOf es) → Ran (after (wordModel L1 L2) (opened z) (map addOf es)) (joined [] es)
   start es a = ran es [] (opened z) opened-is tt (omega arith) a
 
   -- what accepted adds leave is settled by their words and plans

@@ -5,34 +5,30 @@ use native.Mathlib.Omega.{arith}
 use mathlib.Core.Path.{_≡_, refl, sym, ap, _∙_, subst, subst⁻¹}
 use mathlib.Core.Bool.{false, not}
 use mathlib.Core.Logic.{inl, inr, ⊎-elim}
-use mathlib.Core.List.{List}
-use mathlib.Core.Option.{Option, none, some}
 use lib.Dec.{ltb}
 use lib.ListN.{length}
 use borrow.Author.Tests.{ne-eqb}
-use Rattle.lists.specs.Entries.{Entry, find, update, remove}
 use Rattle.lists.proofs.Tests.{by-test}
-use Rattle.answer.specs.declared.Answer.the-variants.{Accepted, Live, NotLive, Full}
 use Rattle.answer.specs.Numbers.{numberOf}
 use Rattle.identifier.specs.Identifier.{sized, firstRefused, wordOf, readOf}
 use Rattle.identifier.specs.declared.Read.{Read}
 use Rattle.identifier.specs.declared.Read.the-variants.{Word, Refused}
 use Rattle.identifier.proofs.Words.{word-lt}
-use Rattle.model.specs.Levels.{Level, firstLevel, secondLevel}
-use Rattle.model.specs.Model.{baseLimit, State, Call, add, change, withdraw, query, Outcome, withLive, stepLive, wouldLeave, base, stepAdd, step}
+use Rattle.model.specs.Levels.{firstLevel, secondLevel}
+use Rattle.model.specs.Model.{State, Call, Outcome, step}
 use Rattle.model.specs.Request.{Token, subject, wordFor, askOf, byWord, serveRead, serve, Request, ask, respond, callsOf}
 use Rattle.model.specs.Machine.{accepted}
 use Rattle.model.specs.History.{model}
-use Rattle.model.proofs.Steps.{refused-keeps, Follows}
+use Rattle.model.proofs.Steps.{refused-keeps, Follows, by-step}
 use Rattle.model.proofs.Valid.{Valid}
 use Rattle.model.proofs.Calls.{Done, done-one, valid-one, StandsFor}
 
 -- a call is for the word of its identifier, or it is refused with cause 1 or 2
-abbrev Reads : Call Token → Read → Type 0
+abbrev pub Reads : Call Token → Read → Type 0
 Reads c (Word w) = w ≡ wordOf (subject c)
 Reads c (Refused a) = (0 < numberOf a) × (numberOf a < 3)
 
-reads : (c : Call Token) → Reads c (wordFor c)
+pub reads : (c : Call Token) → Reads c (wordFor c)
 unfolding readOf
 reads c =
     let i : Token = subject c in
@@ -69,27 +65,6 @@ respond-keeps s (ask c) r =
     (λ e. ap (λ (o : Outcome). o .after) e ∙ refused-keeps firstLevel secondLevel s (byWord c) (sym (ap (λ (o : Outcome). accepted (o .answer)) e) ∙ r))
     (serve-each s c)
 
--- ---- what holds of every outcome of a step
-
-module _ (L1 L2 : Level) (s : State) (P : Outcome → Type 0) (live : (p : ℕ) → P (record { answer = Live p; after = s })) (other : P (record { answer = NotLive; after = s }))
-    (full : P (record { answer = Full; after = s })) (kept : (p : ℕ) (l : List Entry) → P (record { answer = Accepted p; after = withLive s l }))
-    (added : (n : ℕ) (e : Entry) → P (record { answer = Accepted n; after = wouldLeave L1 L2 s e })) where
-  any-live : (l : List Entry) (o : Option ℕ) → P (stepLive s l o)
-  any-live l none = other
-  any-live l (some p) = kept p l
-
-  any-add : (e : Entry) (o : Option ℕ) → P (stepAdd L1 L2 s e o)
-  any-add e (some p) = live p
-  any-add e none =
-      let t : State = wouldLeave L1 L2 s e in
-      by-test P (ltb baseLimit (length (base L1 L2 t))) (λ f. full) (λ f. added (length (t .live)) e)
-
-  any-step : (c : Call ℕ) → P (step L1 L2 s c)
-  any-step (add w p) = any-add (record { word = w; plan = p }) (find w (s .live))
-  any-step (change w p) = any-live (update (record { word = w; plan = p }) (s .live)) (find w (s .live))
-  any-step (withdraw w) = any-live (remove w (s .live)) (find w (s .live))
-  any-step (query w) = any-live (s .live) (find w (s .live))
-
 -- ---- causes 4 and 5
 
 abbrev pub Never45 : ℕ → Type 0
@@ -101,8 +76,8 @@ respond-never s (ask c) = go (wordFor c) (reads c)
     go : (r : Read) → Reads c r → Never45 (numberOf (serveRead s c r .answer))
     go (Refused a) h = omega arith
     go (Word w) h =
-        any-step firstLevel secondLevel s (λ (o : Outcome). Never45 (numberOf (o .answer))) (λ p. omega arith) (omega arith) (omega arith) (λ p l. omega arith) (λ n e. omega arith)
-        (askOf w c)
+        by-step firstLevel secondLevel s (λ c o. Never45 (numberOf (o .answer))) (λ c a r k. omega arith) (λ e a. omega arith) (λ e q f. omega arith) (λ w q f. omega arith)
+        (λ w q. omega arith) (askOf w c)
 
 -- ---- the size that an opening fixed stays
 
@@ -111,4 +86,4 @@ respond-size s (ask c) = go (wordFor c)
   where
     go : (r : Read) → serveRead s c r .after .size ≡ s .size
     go (Refused a) = refl
-    go (Word w) = any-step firstLevel secondLevel s (λ (o : Outcome). o .after .size ≡ s .size) (λ p. refl) refl refl (λ p l. refl) (λ n e. refl) (askOf w c)
+    go (Word w) = by-step firstLevel secondLevel s (λ c o. o .after .size ≡ s .size) (λ c a r k. refl) (λ e a. refl) (λ e q f. refl) (λ w q f. refl) (λ w q. refl) (askOf w c)

@@ -28,9 +28,7 @@ use Rattle.model.proofs.Valid as Valid
 use Rattle.model.proofs.Arrivals as Arrivals
 use Rattle.model.proofs.Requests as Requests
 use Rattle.model.proofs.Calls as Calls
-use Rattle.model.proofs.Refine as Refine
 use Rattle.model.proofs.Orders as Orders
-use Rattle.model.proofs.Lift as Lift
 
 -- ---- one call, at any two levels
 
@@ -119,14 +117,14 @@ module _ {T S C : Type 0} (M : Machine T C) (N : Machine S C) (Stands : T → S 
   -- "So the opening and these calls alone settle every answer and bound": the answers are the model's, and the table stands for the
   -- state that the model comes to
   pub settles : (t : T) (s : S) → Stands t s → (cs : List C) → (answers M t cs ≡ answers N s cs) × Stands (after M t cs) (after N s cs)
-  settles t s h cs = (Refine.answers-after M N Stands refines t s h cs, Refine.stands-after M N Stands refines t s h cs)
+  settles t s h cs = (Calls.answers-after M N Stands refines t s h cs, Calls.stands-after M N Stands refines t s h cs)
 
   -- statement 3, the claim about lists: t and u are as openings left them, ds and es any calls, refused ones included. Where the two
   -- tables are then the same in bucket numbers, live words, plans and bounds (Same), each further call of every list gets the same
   -- answer from both, and they are the same again after each call
   pub statement-3 : (Same : T → T → Type 0) → Compares Stands Same → (t u : T) (s r : S) → Stands t s → Stands u r → (ds es : List C)
       → Same (after M t ds) (after M u es) → (cs : List C) → Alike M Same (after M t ds) (after M u es) cs
-  statement-3 = Refine.statement-3 M N Stands refines
+  statement-3 = Calls.statement-3 M N Stands refines
 
 -- ---- orders of document 02
 
@@ -139,4 +137,4 @@ order-of-adds = Orders.order-free
 
 -- order 9: a lift never overfills the base list. The states that calls reach are valid (Calls.valid-after)
 pub lift-fits : (L1 L2 : Level) (s : State) → Valid.Valid L1 L2 s → length (base L1 L2 (lifted L1 L2 s)) ≤ 64
-lift-fits = Lift.lift-fits
+lift-fits = Valid.lift-fits

@@ -2,11 +2,11 @@
 -- Assumes nothing.
 use Prim.Native.Nat.{ℕ, _<_, _≤_}
 use mathlib.Core.Path.{_≡_, refl, sym, ap, _∙_}
-use mathlib.Core.Bool.{true, false, true≢false, false≢true}
+use mathlib.Core.Bool.{true, false, true≢false}
 use mathlib.Core.Logic.{_↔_, _⊎_}
 use mathlib.Core.Option.{Option, none, some}
 use mathlib.Core.List.{List}
-use lib.Dec.{ltb}
+use lib.Dec.{ltb, lit<}
 use lib.ListN.{length, getD}
 use borrow.Author.Tests.{ltb-true, ltb-false, lt-ltb, le-ltb}
 use Rattle.lists.specs.Entries.{Entry, words, find, insert, update, remove}
@@ -14,6 +14,7 @@ use Rattle.lists.proofs.Tests.{cases, by-test, cond-true, cond-false}
 use Rattle.gf2.specs.Bound.{Largest}
 use Rattle.answer.specs.declared.Answer.{Answer}
 use Rattle.answer.specs.declared.Answer.the-variants.{Accepted, Live, NotLive, Full}
+use Rattle.answer.specs.Numbers.{numberOf}
 use Rattle.model.specs.Levels.{Level, due, passed}
 use Rattle.model.specs.Model.{baseLimit, State, Call, add, addOf, change, withdraw, query, Outcome, withLive, settled, wouldLeave, base, stepAdd, stepLive, step}
 use Rattle.model.specs.Machine.{accepted}
@@ -107,20 +108,24 @@ module _ (L1 L2 : Level) where
     pub fits : length (base L1 L2 (wouldLeave L1 L2 s e)) ≤ baseLimit
     pub left : step L1 L2 s (addOf e) ≡ record { answer = Accepted (length (insert e (s .live))); after = wouldLeave L1 L2 s e }
 
-  pub added : (s : State) (e : Entry) → accepted (step L1 L2 s (addOf e) .answer) ≡ true → Added s e
-  added s e = go (find (e .word) (s .live)) refl
+  -- the add of e is refused and changes nothing, or tells that
+  add-cases : (s : State) (e : Entry) (P : Outcome → Type 0) → ((a : Answer) → accepted a ≡ false → 5 < numberOf a → P (record { answer = a; after = s }))
+      → (Added s e → P (record { answer = Accepted (length (insert e (s .live))); after = wouldLeave L1 L2 s e })) → P (step L1 L2 s (addOf e))
+  add-cases s e P refused adds = go (find (e .word) (s .live)) refl
     where
-      go : (o : Option ℕ) → find (e .word) (s .live) ≡ o → accepted (stepAdd L1 L2 s e o .answer) ≡ true → Added s e
-      go (some p) f = λ b. absurd (false≢true b)
+      go : (o : Option ℕ) → find (e .word) (s .live) ≡ o → P (stepAdd L1 L2 s e o)
+      go (some q) f = refused (Live q) refl (lit< tt)
       go none f =
-          by-test (λ (x : Outcome). accepted (x .answer) ≡ true → Added s e) (ltb baseLimit (length (base L1 L2 (wouldLeave L1 L2 s e))))
-          (λ t b. absurd (false≢true b))
-          (λ t b. let h = ltb-false baseLimit _ t in record { fresh = f; fits = h; left = accepts s e f h })
+          by-test P (ltb baseLimit (length (base L1 L2 (wouldLeave L1 L2 s e)))) (λ t. refused Full refl (lit< tt))
+          (λ t. let h = ltb-false baseLimit _ t in adds (record { fresh = f; fits = h; left = accepts s e f h }))
+
+  pub added : (s : State) (e : Entry) → accepted (step L1 L2 s (addOf e) .answer) ≡ true → Added s e
+  added s e = add-cases s e (λ o. accepted (o .answer) ≡ true → Added s e) (λ a r k t. absurd (true≢false (sym t ∙ r))) (λ a t. a)
 
   -- ---- the cases of a call: what holds in each holds of what it does
 
   module _ (s : State) (P : Call ℕ → Outcome → Type 0)
-      (refused : (c : Call ℕ) (a : Answer) → accepted a ≡ false → P c (record { answer = a; after = s }))
+      (refused : (c : Call ℕ) (a : Answer) → accepted a ≡ false → 5 < numberOf a → P c (record { answer = a; after = s }))
       (adds : (e : Entry) → Added s e → P (addOf e) (record { answer = Accepted (length (insert e (s .live))); after = wouldLeave L1 L2 s e }))
       (changes : (e : Entry) (q : ℕ) → find (e .word) (s .live) ≡ some q
       → P (change (e .word) (e .plan)) (record { answer = Accepted q; after = withLive s (update e (s .live)) }))
@@ -128,19 +133,11 @@ module _ (L1 L2 : Level) where
       (queries : (w q : ℕ) → P (query w) (record { answer = Accepted q; after = s })) where
     live-cases : (c : Call ℕ) (l : List Entry) (o : Option ℕ)
         → ((q : ℕ) → o ≡ some q → P c (record { answer = Accepted q; after = withLive s l })) → P c (stepLive s l o)
-    live-cases c l none f = refused c NotLive refl
+    live-cases c l none f = refused c NotLive refl (lit< tt)
     live-cases c l (some q) f = f q refl
 
-    add-cases : (e : Entry) (o : Option ℕ) → find (e .word) (s .live) ≡ o → P (addOf e) (stepAdd L1 L2 s e o)
-    add-cases e (some q) f = refused (addOf e) (Live q) refl
-    add-cases e none f =
-        by-test (P (addOf e)) (ltb baseLimit (length (base L1 L2 (wouldLeave L1 L2 s e))))
-        (λ t. refused (addOf e) Full refl)
-        (λ t. let h = ltb-false baseLimit (length (base L1 L2 (wouldLeave L1 L2 s e))) t in
-        adds e (record { fresh = f; fits = h; left = accepts s e f h }))
-
     pub by-step : (c : Call ℕ) → P c (step L1 L2 s c)
-    by-step (add w p) = add-cases (record { word = w; plan = p }) (find w (s .live)) refl
+    by-step (add w p) = let e : Entry = record { word = w; plan = p } in add-cases s e (P (addOf e)) (refused (addOf e)) (adds e)
     by-step (change w p) = live-cases (change w p) (update (record { word = w; plan = p }) (s .live)) (find w (s .live)) (changes (record { word = w; plan = p }))
     by-step (withdraw w) = live-cases (withdraw w) (remove w (s .live)) (find w (s .live)) (withdraws w)
     by-step (query w) = live-cases (query w) (s .live) (find w (s .live)) (λ q f. queries w q)

@@ -28,11 +28,11 @@ every-set F [] i x h f = tt
 every-set F (y ∷ ys) zero x h f = (f, h .1)
 every-set F (y ∷ ys) (suc i) x h f = (h .0, every-set F ys i x (h .1) f)
 
-set-all-fit : (F : Format) (cs : List Change) (bs : List PlaneBucket) → Every (FitsChange F) cs → Every (FitsBucket F) bs → Every (FitsBucket F) (setAll cs bs)
+pub set-all-fit : (F : Format) (cs : List Change) (bs : List PlaneBucket) → Every (FitsChange F) cs → Every (FitsBucket F) bs → Every (FitsBucket F) (setAll cs bs)
 set-all-fit F [] bs h f = f
 set-all-fit F (c ∷ cs) bs h f = set-all-fit F cs (set bs (c .index) (c .bucket)) (h .1) (every-set (FitsBucket F) bs (c .index) (c .bucket) f (h .0))
 
-set-all-length : (cs : List Change) (bs : List PlaneBucket) → length (setAll cs bs) ≡ length bs
+pub set-all-length : (cs : List Change) (bs : List PlaneBucket) → length (setAll cs bs) ≡ length bs
 set-all-length [] bs = refl
 set-all-length (c ∷ cs) bs = set-all-length cs (set bs (c .index) (c .bucket)) ∙ length-set bs (c .index) (c .bucket)
 
@@ -45,6 +45,14 @@ news-few gone (e ∷ es) s h a =
     news-few gone es (filled s e) (leb-true (length (enter e (s .base))) baseLimit (d .1)) (c .1)
 
 module _ (P : Plane) (D : Patch) where
+  -- what a plane that allows the patch allows of each kind
+  pub allowed-each : allowed P D ≡ true → (allAllowed (changeAllowed (length (bucketsOf P))) nextIndex 0 (D .changes) ≡ true)
+      × ((allAllowed (goneAllowed (P .base)) nextWord 0 (D .gone) ≡ true) × (allAllowed (newAllowed (D .gone)) filled (unfilled (P .base) (D .gone)) (D .news) ≡ true))
+  unfolding allowed
+  allowed-each a =
+      let c = both (allAllowed (changeAllowed (length (bucketsOf P))) nextIndex 0 (D .changes)) _ a in
+      (c .0, both (allAllowed (goneAllowed (P .base)) nextWord 0 (D .gone)) _ (c .1))
+
   all-length : length (setAll (D .changes) (bucketsOf P)) ≡ length (P .level1) + length (P .level2)
   all-length = set-all-length (D .changes) (bucketsOf P) ∙ length-append (P .level1) (P .level2)
 
@@ -58,13 +66,10 @@ module _ (P : Plane) (D : Patch) where
 
   module _ (F : Format) (f : Fits F P) (h : FitsPatch F P D) where
     few : length (patched P D .base) ≤ baseLimit
-    unfolding patched allowed
+    unfolding patched
     few =
-        let a = both (allAllowed (changeAllowed (length (bucketsOf P))) nextIndex 0 (D .changes)) _ (h .allows) in
-        let b = both (allAllowed (goneAllowed (P .base)) nextWord 0 (D .gone)) _ (a .1) in
-        let n : length (removeAll (D .gone) (P .base)) ≤ length (P .base) = remove-all-length (D .gone) (P .base) in
         let l : length (P .base) ≤ baseLimit = f .few in
-        news-few (D .gone) (D .news) (unfilled (P .base) (D .gone)) (omega arith) (b .1)
+        news-few (D .gone) (D .news) (unfilled (P .base) (D .gone)) (omega (arith, remove-all-length (D .gone) (P .base))) (allowed-each (h .allows) .1 .1)
 
     pub patched-fits : Fits F (patched P D)
     unfolding patched

@@ -2,8 +2,7 @@
 -- Assumes nothing.
 use Prim.Native.Nat.{ℕ, suc, _≤_}
 use native.Mathlib.Omega.{arith}
-use native.Mathlib.Decide.{ℕ-discrete}
-use mathlib.Core.Path.{_≡_, refl, sym, ap, ap₂, _∙_, subst⁻¹}
+use mathlib.Core.Path.{_≡_, refl, sym, ap, _∙_}
 use mathlib.Core.Bool.{Bool, true, false, cond, not, _&&_, true≢false}
 use mathlib.Core.Option.{Option, none, some}
 use mathlib.Core.List.{List, [], _∷_, List·Memᴰ·head}
@@ -16,12 +15,8 @@ use Rattle.lists.proofs.Tests.{cases, by-test, cond-true, cond-false}
 use Rattle.lists.proofs.Keep.{keep-in, keep-out, length-sub}
 use Rattle.lists.proofs.Entries.{none≢some, above-mem, mem-above, remove-sub, find-mem, find-none, none-find, mem-find, find-ext, insert-length, insert-ascending, insert-found, insert-other, remove-ascending, remove-found, remove-other, remove-length, update-length, update-ascending, update-found, update-other}
 use Rattle.lists.proofs.Edits.{find-keep}
-use Rattle.lists.proofs.Sorts.{ascending-distinct}
+use Rattle.lists.proofs.Sorts.{by-word, ascending-distinct}
 use Rattle.patch.specs.Base.{isThere, has, among, removeAll, enter, enterAll, goneOf, newsOf}
-
--- by whether two words are equal
-pub by-word : {P : Type 0} (v w : ℕ) → (v ≡ w → P) → ((v ≡ w → ⊥) → P) → P
-by-word {P} v w f g = elim (ℕ-discrete v w) [ yes e ↦ f e | no n ↦ g n ]
 
 -- by what is found
 pub by-find : {P : Type 0} (o : Option ℕ) → (o ≡ none → P) → ((p : ℕ) → o ≡ some p → P) → P
@@ -31,25 +26,13 @@ by-find (some p) f g = g p refl
 some-inj : {a b : ℕ} → _≡_ {A = Option ℕ} (some a) (some b) → a ≡ b
 some-inj e = cc
 
-there-some : (o : Option ℕ) (p : ℕ) → o ≡ some p → isThere o ≡ true
-there-some o p e = ap isThere e
-
-there-none : (o : Option ℕ) → o ≡ none → isThere o ≡ false
-there-none o e = ap isThere e
-
 -- ---- one entry
 
 pub enter-ascending : (e : Entry) (base : List Entry) → Ascending base → Ascending (enter e base)
-enter-ascending e base a =
-    by-find (find (e .word) base)
-    (λ n. subst⁻¹ Ascending (cond-false (update e base) (insert e base) (there-none _ n)) (insert-ascending e base a n))
-    (λ p s. subst⁻¹ Ascending (cond-true (update e base) (insert e base) (there-some _ p s)) (update-ascending e base a))
+enter-ascending e base a = by-find (find (e .word) base) (λ n. rw n (insert-ascending e base a n)) (λ p s. rw s (update-ascending e base a))
 
 pub enter-found : (e : Entry) (base : List Entry) → Ascending base → find (e .word) (enter e base) ≡ some (e .plan)
-enter-found e base a =
-    by-find (find (e .word) base)
-    (λ n. ap (find (e .word)) (cond-false (update e base) (insert e base) (there-none _ n)) ∙ insert-found e base a n)
-    (λ p s. ap (find (e .word)) (cond-true (update e base) (insert e base) (there-some _ p s)) ∙ update-found e p base s)
+enter-found e base a = by-find (find (e .word) base) (λ n. rw n (insert-found e base a n)) (λ p s. rw s (update-found e p base s))
 
 pub enter-other : (e : Entry) (base : List Entry) (w : ℕ) → (w ≡ e .word → ⊥) → find w (enter e base) ≡ find w base
 enter-other e base w n =
@@ -96,9 +79,7 @@ pub enter-all-found : (w p : ℕ) (es base : List Entry) → Distinct es → Asc
 enter-all-found w p [] base d a h = absurd (none≢some h)
 enter-all-found w p (e ∷ es) base d a h =
     by-word w (e .word)
-    (λ q. enter-all-kept w es (enter e base) (ap (λ (x : ℕ). find x es) q ∙ d .0)
-    ∙ ap (λ (x : ℕ). find x (enter e base)) q ∙ enter-found e base a
-    ∙ sym (cond-true (some (e .plan)) (find w es) (eq-eqb w (e .word) q)) ∙ h)
+    (λ q. enter-all-kept w es (enter e base) (rw q (d .0)) ∙ ap (λ (x : ℕ). find x (enter e base)) q ∙ enter-found e base a ∙ (rw (eq-eqb w (e .word) q) at h))
     (λ n. enter-all-found w p es (enter e base) (d .1) (enter-ascending e base a) (sym (cond-false (some (e .plan)) (find w es) (ne-eqb w (e .word) n)) ∙ h))
 
 -- ---- from one base list to another
@@ -235,18 +216,15 @@ remove-all-length (w ∷ ws) es =
 
 -- a word that is there makes no entry more
 pub enter-length : (e : Entry) (es : List Entry) → length (enter e es) ≡ cond (isThere (find (e .word) es)) (length es) (suc (length es))
-enter-length e es =
-    cases (isThere (find (e .word) es))
-    (λ t. ap length (cond-true (update e es) (insert e es) t) ∙ update-length e es ∙ sym (cond-true (length es) (suc (length es)) t))
-    (λ f. ap length (cond-false (update e es) (insert e es) f) ∙ insert-length e es ∙ sym (cond-false (length es) (suc (length es)) f))
+enter-length e es = cases (isThere (find (e .word) es)) (λ t. rw t (update-length e es)) (λ f. rw f (insert-length e es))
 
 -- of the words gone, each there before, w is one exactly if it was there and is no longer
 pub among-gone : (w : ℕ) (ws : List ℕ) (base : List Entry) → Ascending base → (among w ws ≡ true → isThere (find w base) ≡ true)
     → among w ws ≡ (isThere (find w base) && not (isThere (find w (removeAll ws base))))
 among-gone w ws base a h =
     cases (among w ws)
-    (λ t. t ∙ sym (ap₂ (λ (x y : Bool). x && not y) (h t) (ap isThere (remove-all-gone w ws base a t))))
-    (λ f. f ∙ sym (ap (λ (o : Option ℕ). isThere (find w base) && not (isThere o)) (remove-all-kept w ws base f) ∙ and-not (isThere (find w base))))
+    (λ t. rw (t, h t, remove-all-gone w ws base a t))
+    (λ f. rw (f, remove-all-kept w ws base f) (sym (and-not (isThere (find w base)))))
   where
     and-not : (x : Bool) → (x && not x) ≡ false
     and-not true = refl

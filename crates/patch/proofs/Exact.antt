@@ -9,10 +9,11 @@ use lib.Dec.{leb, ltb}
 use lib.ListN.{length, getD, drop, length-drop}
 use lib.Seq.{drop-cons, drop-drop}
 use Rattle.lists.specs.Entries.{Entry}
+use Rattle.lists.proofs.Tests.{and-both}
 use Rattle.codec.specs.Bytes.{toBytes}
 use Rattle.plane.specs.declared.Wrong.the-variants.{Nowhere}
 use Rattle.plane.specs.Record.{Format, bytesOf, wordBytes, wordFrom, bucketLength, bucketBytes, bucketFrom, entryFrom, endRecord}
-use Rattle.plane.specs.Plane.{Plane, fits, whole, allAllowed, endWrong}
+use Rattle.plane.specs.Plane.{Plane, fits, whole, endWrong}
 use Rattle.plane.specs.Fits.{Below, FitsEntry}
 use Rattle.plane.proofs.Scan.{both, right, next, whole-length, end-parts}
 use Rattle.plane.proofs.Exact.{AllBytes, bytes-drop, front, word-bytes, word-lt, bucket-body, bucket-fit, entry-body, entry-fit, fits-there, fits-allowed, fits-bytes, scan-allowed, scan-bytes, scan-fit, end-bytes}
@@ -64,14 +65,14 @@ module _ (gone : List ℕ) (s : Filled) (p : List ℕ) (e : fits newRecords (new
 -- ---- the patch
 
 module _ (F : Format) (P : Plane) (d : List ℕ) (e : patchWrongAt F P d ≡ Nowhere) (b : AllBytes d) where
-  record Parts : Type 0 where
+  pub record Parts : Type 0 where
     pub sums : whole sumsKind sumsBody d ≡ true
     pub changes : changesWrong F P d ≡ Nowhere
     pub gone : goneWrong F P d ≡ Nowhere
     pub news : newsWrong F P d ≡ Nowhere
     pub end : endWrong (endIn F d) (drop (endIn F d) d) ≡ Nowhere
 
-  parts : Parts
+  pub parts : Parts
   unfolding patchWrongAt
   parts =
       let h = right (whole sumsKind sumsBody d) _ 0 e in
@@ -119,21 +120,12 @@ module _ (F : Format) (P : Plane) (d : List ℕ) (e : patchWrongAt F P d ≡ Now
   unfolding patchBytes
   patch-written = rw at-changes at-sums
 
-  changes-allowed : allAllowed (changeAllowed (length (bucketsOf P))) nextIndex 0 (D .changes) ≡ true
-  unfolding changesWrong patchFrom
-  changes-allowed = scan-allowed (changeRecords F) (changeAllowed (length (bucketsOf P))) nextIndex 0 (changesIn F d) changesAt (drop changesAt d) (parts .changes)
-
-  gone-allowed : allAllowed (goneAllowed (P .base)) nextWord 0 (D .gone) ≡ true
-  unfolding goneWrong patchFrom
-  gone-allowed = scan-allowed goneRecords (goneAllowed (P .base)) nextWord 0 (goneIn F d) (goneAt F d) (drop (goneAt F d) d) (parts .gone)
-
-  news-allowed : allAllowed (newAllowed (D .gone)) filled (unfilled (P .base) (D .gone)) (D .news) ≡ true
-  unfolding newsWrong patchFrom
-  news-allowed = scan-allowed newRecords (newAllowed (D .gone)) filled (unfilled (P .base) (D .gone)) (newsIn F d) (newsAt F d) (drop (newsAt F d) d) (parts .news)
-
   all-allowed : allowed P D ≡ true
-  unfolding allowed
-  all-allowed = rw (changes-allowed, gone-allowed) news-allowed
+  unfolding allowed changesWrong goneWrong newsWrong patchFrom
+  all-allowed =
+      and-both (scan-allowed (changeRecords F) (changeAllowed (length (bucketsOf P))) nextIndex 0 (changesIn F d) changesAt (drop changesAt d) (parts .changes))
+      (and-both (scan-allowed goneRecords (goneAllowed (P .base)) nextWord 0 (goneIn F d) (goneAt F d) (drop (goneAt F d) d) (parts .gone))
+      (scan-allowed newRecords (newAllowed (D .gone)) filled (unfilled (P .base) (D .gone)) (newsIn F d) (newsAt F d) (drop (newsAt F d) d) (parts .news)))
 
   -- which fits
   pub patch-fits : FitsPatch F P (patchFrom F d)

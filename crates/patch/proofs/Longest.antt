@@ -1,16 +1,16 @@
 -- How long a patch can be: that a plane allows no more records than it has buckets and the limit of base entries twice.
 -- Assumes nothing.
-use Prim.Native.Nat.{ℕ, suc, _+_, _-_, _≤_, _<_}
+use Prim.Native.Nat.{ℕ, suc, _+_, _-_, _≤_}
 use native.Mathlib.Omega.{arith}
 use mathlib.Core.Path.{_≡_, refl, sym, ap, _∙_}
 use mathlib.Core.Bool.{true, _&&_, true≢false}
-use mathlib.Core.Option.{none, some}
+use mathlib.Core.Option.{none}
 use mathlib.Core.List.{List, [], _∷_, map}
-use lib.Dec.{leb, ltb}
+use lib.Dec.{eqb, leb, ltb}
 use lib.ListN.{length, length-append, length-map}
-use borrow.Author.Tests.{leb-true, ltb-true, ne-eqb}
+use borrow.Author.Tests.{leb-true, ltb-true, eqb-true}
 use Rattle.lists.specs.Entries.{Entry, find, Ascending, Distinct}
-use Rattle.lists.proofs.Tests.{cond-false}
+use Rattle.lists.proofs.Tests.{cases}
 use Rattle.lists.proofs.Entries.{none≢some}
 use Rattle.lists.proofs.Sorts.{ascending-distinct}
 use Rattle.model.specs.Model.{baseLimit}
@@ -21,13 +21,13 @@ use Rattle.plane.specs.Plane.{Plane, planeFrom, wrongAt, allAllowed, entryAllow
 use Rattle.plane.specs.Fits.{Fits}
 use Rattle.plane.proofs.Scan.{both}
 use Rattle.plane.proofs.Exact.{AllBytes, ascending-of, read-fits}
-use Rattle.patch.specs.Base.{isThere, removeAll, enterAll}
+use Rattle.patch.specs.Base.{isThere, among, enterAll}
 use Rattle.patch.specs.Record.{Change}
 use Rattle.patch.specs.Patch.{Patch, patchBytes, patchOf, bucketsOf, patched}
-use Rattle.patch.specs.Wrong.{changeAllowed, nextIndex, goneAllowed, nextWord, Filled, newAllowed, filled, unfilled, allowed, patchFrom, patchWrongAt}
+use Rattle.patch.specs.Wrong.{changeAllowed, nextIndex, goneAllowed, nextWord, Filled, newAllowed, filled, unfilled, patchFrom, patchWrongAt}
 use Rattle.patch.specs.Fits.{FitsPatch}
-use Rattle.patch.proofs.Base.{by-word, by-find, remove-all-ascending, enter-all-found, fewer}
-use Rattle.patch.proofs.Applied.{patched-fits}
+use Rattle.patch.proofs.Base.{by-find, remove-all-ascending, enter-all-found, fewer}
+use Rattle.patch.proofs.Applied.{allowed-each, patched-fits}
 use Rattle.patch.proofs.Exact.{patch-fits, patch-written}
 use Rattle.patch.proofs.Statements.{format1-own, patch-length, made-fits}
 
@@ -37,14 +37,15 @@ changes-few n least [] a = omega arith
 changes-few n least (c ∷ cs) a =
     let k = both (changeAllowed n least c) (allAllowed (changeAllowed n) nextIndex (suc (c .index)) cs) a in
     let l = both (leb least (c .index)) _ (k .0) in
-    let low : least ≤ c .index = leb-true least (c .index) (l .0) in
-    let high : c .index < n = ltb-true (c .index) n (both (ltb (c .index) n) _ (l .1) .0) in
-    let i : length cs ≤ n - suc (c .index) = changes-few n (suc (c .index)) cs (k .1) in
-    omega arith
+    omega (arith, leb-true least (c .index) (l .0), ltb-true (c .index) n (both (ltb (c .index) n) _ (l .1) .0), changes-few n (suc (c .index)) cs (k .1))
 
 -- a word as an entry
 abbrev entryOf : ℕ → Entry
 entryOf w = record { word = w; plan = 0 }
+
+among-map : (v : ℕ) (ws : List ℕ) → among v ws ≡ isThere (find v (map entryOf ws))
+among-map v [] = refl
+among-map v (w ∷ ws) = cases (eqb v w) (λ t. rw t) (λ f. rw f (among-map v ws))
 
 module _ (base : List Entry) where
   gone-rising : (least : ℕ) (ws : List ℕ) → allAllowed (goneAllowed base) nextWord least ws ≡ true → allAllowed entryAllowed exceeding least (map entryOf ws) ≡ true
@@ -53,21 +54,19 @@ module _ (base : List Entry) where
       let k = both (goneAllowed base least w) (allAllowed (goneAllowed base) nextWord (suc w) ws) a in
       rw (both (leb least w) _ (k .0) .0) (gone-rising (suc w) ws (k .1))
 
-  -- the words gone are the base list's
-  gone-there : (least : ℕ) (ws : List ℕ) → allAllowed (goneAllowed base) nextWord least ws ≡ true → (v : ℕ) → find v base ≡ none → find v (map entryOf ws) ≡ none
-  gone-there least [] a v n = refl
-  gone-there least (w ∷ ws) a v n =
-      let k = both (goneAllowed base least w) (allAllowed (goneAllowed base) nextWord (suc w) ws) a in
-      by-word v w
-      (λ q. absurd (true≢false (sym (both (leb least w) _ (k .0) .1) ∙ ap (λ (x : ℕ). isThere (find x base)) (sym q) ∙ ap isThere n)))
-      (λ m. cond-false (some 0) (find v (map entryOf ws)) (ne-eqb v w m) ∙ gone-there (suc w) ws (k .1) v n)
+  -- each word gone was there
+  pub gone-there : (least : ℕ) (ws : List ℕ) → allAllowed (goneAllowed base) nextWord least ws ≡ true → (w : ℕ) → among w ws ≡ true → isThere (find w base) ≡ true
+  gone-there least [] h w m = absurd (true≢false (sym m))
+  gone-there least (v ∷ ws) h w m =
+      let a = both (goneAllowed base least v) (allAllowed (goneAllowed base) nextWord (suc v) ws) h in
+      cases (eqb w v) (λ t. rw (eqb-true w v t) (both (leb least v) _ (a .0) .1)) (λ f. gone-there (suc v) ws (a .1) w (rw f at m))
 
   gone-few : (ws : List ℕ) → allAllowed (goneAllowed base) nextWord 0 ws ≡ true → length ws ≤ length base
   gone-few ws a =
       let es : List Entry = map entryOf ws in
-      let l : length es ≤ length base = fewer es base (ascending-distinct es (ascending-of 0 es (gone-rising 0 ws a))) (gone-there 0 ws a) in
-      let n : length es ≡ length ws = length-map ws entryOf in
-      omega arith
+      let old : (v : ℕ) → find v base ≡ none → find v es ≡ none =
+      λ v n. by-find (find v es) (λ m. m) (λ p s. absurd (true≢false (sym (gone-there 0 ws a v (among-map v ws ∙ ap isThere s)) ∙ ap isThere n))) in
+      omega (arith, fewer es base (ascending-distinct es (ascending-of 0 es (gone-rising 0 ws a))) old, length-map ws entryOf)
 
 news-rising : (gone : List ℕ) (s : Filled) (es : List Entry) → allAllowed (newAllowed gone) filled s es ≡ true → allAllowed entryAllowed exceeding (s .least) es ≡ true
 news-rising gone s [] a = refl
@@ -83,37 +82,24 @@ news-few gone s es asc a =
     (λ w n. by-find (find w es) (λ m. m) (λ p k. absurd (none≢some (sym n ∙ enter-all-found w p es (s .base) d asc k))))
 
 module _ (P : Plane) (D : Patch) (f : Fits format1 P) (h : FitsPatch format1 P D) where
-  three : (allAllowed (changeAllowed (length (bucketsOf P))) nextIndex 0 (D .changes) ≡ true)
-      × ((allAllowed (goneAllowed (P .base)) nextWord 0 (D .gone) ≡ true) × (allAllowed (newAllowed (D .gone)) filled (unfilled (P .base) (D .gone)) (D .news) ≡ true))
-  unfolding allowed
-  three =
-      let c = both (allAllowed (changeAllowed (length (bucketsOf P))) nextIndex 0 (D .changes)) _ (h .allows) in
-      (c .0, both (allAllowed (goneAllowed (P .base)) nextWord 0 (D .gone)) _ (c .1))
-
   most : length (bucketsOf P) ≤ mostBuckets1 + mostBuckets2
   most =
-      let n1 : ℕ = length (P .level1) in
-      let n2 : ℕ = length (P .level2) in
-      let d = both (leb 1 n1 && leb n1 mostBuckets1) _ (f .range) in
-      let l1 : n1 ≤ mostBuckets1 = leb-true n1 mostBuckets1 (both (leb 1 n1) _ (d .0) .1) in
-      let l2 : n2 ≤ mostBuckets2 = leb-true n2 mostBuckets2 (both (leb 1 n2) _ (d .1) .1) in
+      let d = both (leb 1 (length (P .level1)) && leb (length (P .level1)) mostBuckets1) _ (f .range) in
+      let l1 = leb-true (length (P .level1)) mostBuckets1 (both (leb 1 (length (P .level1))) _ (d .0) .1) in
+      let l2 = leb-true (length (P .level2)) mostBuckets2 (both (leb 1 (length (P .level2))) _ (d .1) .1) in
       rw (length-append (P .level1) (P .level2)) (omega arith)
 
   few-news : length (D .news) ≤ baseLimit
   unfolding patched
   few-news =
-      let l = news-few (D .gone) (unfilled (P .base) (D .gone)) (D .news) (remove-all-ascending (D .gone) (P .base) (f .ascending)) (three .1 .1) in
-      let m : length (enterAll (D .news) (removeAll (D .gone) (P .base))) ≤ baseLimit = patched-fits P D format1 f h .few in
-      omega arith
+      let l = news-few (D .gone) (unfilled (P .base) (D .gone)) (D .news) (remove-all-ascending (D .gone) (P .base) (f .ascending)) (allowed-each P D (h .allows) .1 .1) in
+      omega (arith, patched-fits P D format1 f h .few)
 
   -- a patch has 22 to 6,598 bytes
   pub patch-most : length (patchBytes format1 D) ≤ 6598
   patch-most =
-      let c : length (D .changes) ≤ length (bucketsOf P) - 0 = changes-few (length (bucketsOf P)) 0 (D .changes) (three .0) in
-      let g : length (D .gone) ≤ length (P .base) = gone-few (P .base) (D .gone) (three .1 .0) in
-      let b : length (P .base) ≤ baseLimit = f .few in
-      let n : length (D .news) ≤ baseLimit = few-news in
-      rw (patch-length D (h .sized)) (omega (arith, most))
+      let t = allowed-each P D (h .allows) in
+      rw (patch-length D (h .sized)) (omega (arith, changes-few (length (bucketsOf P)) 0 (D .changes) (t .0), gone-few (P .base) (D .gone) (t .1 .0), f .few, few-news, most))
 
 -- so has one that is wrong nowhere
 pub right-most : (p d : List ℕ) → AllBytes p → AllBytes d → wrongAt format1 p ≡ Nowhere → patchWrongAt format1 (planeFrom format1 p) d ≡ Nowhere → length d ≤ 6598

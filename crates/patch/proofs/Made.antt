@@ -13,10 +13,10 @@ use Rattle.codec.specs.Bytes.{eqList}
 use Rattle.codec.proofs.Equal.{equal-eq}
 use Rattle.lists.specs.Lists.{keep, Every}
 use Rattle.lists.specs.Entries.{Entry, words, find, Ascending}
-use Rattle.lists.proofs.Tests.{cases, by-test, cond-true, cond-false}
+use Rattle.lists.proofs.Tests.{cases, by-test}
 use Rattle.lists.proofs.Keep.{keep-out}
 use Rattle.lists.proofs.Entries.{none≢some, above-mem, mem-find}
-use Rattle.lists.proofs.Sorts.{ascending-distinct}
+use Rattle.lists.proofs.Sorts.{by-word, ascending-distinct}
 use Rattle.bucket.specs.Bucket.{largestBound}
 use Rattle.model.specs.Model.{baseLimit}
 use Rattle.plane.specs.Record.{Format, wordBytes, PlaneBucket, bucketBytes, bucketFrom}
@@ -28,7 +28,7 @@ use Rattle.patch.specs.Record.{Change}
 use Rattle.patch.specs.Patch.{changesOf, bucketsOf, between, setAll, patched}
 use Rattle.patch.specs.Wrong.{changeAllowed, nextIndex, goneAllowed, nextWord, Filled, newAllowed, filled, unfilled, allowed}
 use Rattle.patch.specs.Fits.{FitsChange, Sized}
-use Rattle.patch.proofs.Base.{by-word, by-find, enter-ascending, enter-other, remove-all-ascending, remove-all-gone, still-none, gone-is, gone-not, news-ascending, edits-lead, fewer}
+use Rattle.patch.proofs.Base.{by-find, enter-ascending, enter-other, remove-all-ascending, remove-all-gone, still-none, gone-is, gone-not, news-ascending, edits-lead, fewer}
 
 -- ---- buckets
 
@@ -48,12 +48,8 @@ module _ (F : Format) where
       let past : setAll (changesOf (suc i) bs cs) (front ++ c ∷ bs) ≡ front ++ c ∷ cs =
       ap (setAll (changesOf (suc i) bs cs)) (sym (append-snoc front c bs)) ∙ changes-lead (front ++ (c ∷ [])) bs cs (suc i) more (omega arith) (f .1) (g .1) ∙ append-snoc front c cs in
       cases (eqList (bucketBytes b) (bucketBytes c))
-      (λ t. ap (λ (ds : List Change). setAll ds (front ++ b ∷ bs)) (cond-true (changesOf (suc i) bs cs) (record { index = i; bucket = c } ∷ changesOf (suc i) bs cs) t)
-      ∙ ap (λ (x : PlaneBucket). setAll (changesOf (suc i) bs cs) (front ++ x ∷ bs)) (same-bucket b c (f .0) (g .0) (equal-eq (bucketBytes b) (bucketBytes c) t))
-      ∙ past)
-      (λ u. ap (λ (ds : List Change). setAll ds (front ++ b ∷ bs)) (cond-false (changesOf (suc i) bs cs) (record { index = i; bucket = c } ∷ changesOf (suc i) bs cs) u)
-      ∙ ap (setAll (changesOf (suc i) bs cs)) (set-at front b bs c i n)
-      ∙ past)
+      (λ t. rw (t, same-bucket b c (f .0) (g .0) (equal-eq (bucketBytes b) (bucketBytes c) t)) past)
+      (λ u. rw u (ap (setAll (changesOf (suc i) bs cs)) (set-at front b bs c i n) ∙ past))
 
   changes-fit : (bs cs : List PlaneBucket) (i : ℕ) → Every (FitsBucket F) cs → Every (FitsChange F) (changesOf i bs cs)
   changes-fit [] cs i g = tt

@@ -3,7 +3,7 @@
 use Prim.Native.Nat.{ℕ, zero, suc, _+_}
 use mathlib.Core.Path.{_≡_, refl, sym, ap, ap₂}
 use mathlib.Core.Logic.{_↔_}
-use mathlib.Core.Bool.{Bool, true, false, cond, not, _&&_}
+use mathlib.Core.Bool.{Bool, cond, not, _&&_, and-true}
 use mathlib.Core.List.{List, [], _∷_, _++_, map}
 use lib.Dec.{leb, ltb, leb·zero}
 use lib.ListN.{length}
@@ -22,10 +22,6 @@ use Rattle.patch.specs.Record.{sumsKind, sumsBody, changeBody, changeRec
 use Rattle.patch.specs.Patch.{bucketsOf}
 use Rattle.patch.specs.Wrong.{changeAllowed, nextIndex, goneAllowed, nextWord, newAllowed, filled, unfilled, changesAt, changesIn, goneAt, goneIn, newsAt, newsIn, endIn, patchFrom, changesWrong, goneWrong, newsWrong, patchWrongAt}
 use Rattle.patch.specs.Offset.{exceeds, changePlace, changeAt, expectedChange, gonePlace, goneWord, expectedGone, newPlace, newEntry, baseAfter, expectedNew, expectedPatch, WrongPatchOffset, RightPatch}
-
-and-true : (b : Bool) → (b && true) ≡ b
-and-true true = refl
-and-true false = refl
 
 module _ (F : Format) (P : Plane) (d : List ℕ) where
   abbrev gone : List ℕ

@@ -5,7 +5,7 @@ use mathlib.Core.Logic.{_↔_}
 use mathlib.Core.Path.{_≡_, refl, sym, ap, _∙_}
 use mathlib.Core.Bool.{true}
 use mathlib.Core.List.{List}
-use Prim.Native.Nat.{ℕ, _+_, _*_, _<_}
+use Prim.Native.Nat.{ℕ, _+_, _*_}
 use native.Mathlib.Omega.{arith}
 use lib.Dec.{eqb}
 use lib.ListN.{length}
@@ -15,13 +15,12 @@ use Rattle.hash.proofs.FnvLaws.{fnv-lt}
 use Rattle.model.specs.Model.{baseLimit}
 use Rattle.table.specs.Layout.{mostBuckets1, mostBuckets2}
 use Rattle.plane.specs.declared.Wrong.the-variants.{Nowhere}
-use Rattle.plane.specs.Record.{Format, format1, wordBytes}
+use Rattle.plane.specs.Record.{Format, format1}
 use Rattle.plane.specs.Plane.{Plane, planeBytes, planeFrom, wrongAt, buckets1, buckets2}
-use Rattle.plane.specs.Fits.{Below, Fits}
+use Rattle.plane.specs.Fits.{Fits}
 use Rattle.plane.proofs.Scan.{both}
 use Rattle.plane.proofs.Round.{written-right, written-read}
 use Rattle.plane.proofs.Exact.{AllBytes, length1, length2, read-written, read-fits}
-use Rattle.plane.proofs.Octets.{plane-octets}
 use Rattle.plane_write.specs.Write.{putFront}
 use Rattle.patch.specs.Record.{OwnKind}
 use Rattle.patch.specs.Patch.{Patch, patchBytes, patchOf, between, patched}
@@ -46,10 +45,6 @@ patch-exactly F own P d b = (
   λ o. rw (o .bytes) at (patch-right F own (o .patch) (o .fits .sized) P (o .fits .allows)),
 )
 
--- the patch that was written is read
-pub patch-back : (F : Format) → OwnKind F → (D : Patch) → Sized F D → patchFrom F (patchBytes F D) ≡ D
-patch-back = patch-read
-
 -- 22 bytes, 67 for each bucket that differs, 9 for each base word gone, 10 for each base entry new or changed
 pub patch-length : (D : Patch) → Sized format1 D → length (patchBytes format1 D) ≡ 22 + 67 * length (D .changes) + 9 * length (D .gone) + 10 * length (D .news)
 patch-length D h = patch-bytes-length format1 format1-own D h ∙ omega arith
@@ -58,9 +53,6 @@ pub longest : 22 + 67 * (mostBuckets1 + mostBuckets2) + 9 * baseLimit + 10 * bas
 longest = refl
 
 -- ---- made and applied
-
-sum-below : (l : List ℕ) → Below wordBytes (fnvOf l)
-sum-below l = fnv-lt l
 
 -- two planes that are right
 module _ (F : Format) (own : OwnKind F) (p q : List ℕ) (bp : AllBytes p) (bq : AllBytes q) (ep : wrongAt F p ≡ Nowhere) (eq : wrongAt F q ≡ Nowhere) where
@@ -77,7 +69,7 @@ module _ (F : Format) (own : OwnKind F) (p q : List ℕ) (bp : AllBytes p) (bq :
   fq = read-fits F q eq bq
 
   pub made-sized : Sized F (patchOf F p q)
-  made-sized = between-sized F P Q fp fq (fnvOf p) (fnvOf q) (sum-below p) (sum-below q)
+  made-sized = between-sized F P Q fp fq (fnvOf p) (fnvOf q) (fnv-lt p) (fnv-lt q)
 
   pub made-fits : FitsPatch F P (patchOf F p q)
   made-fits = record { sized = made-sized; allows = between-allowed F P Q fp fq (fnvOf p) (fnvOf q) }
@@ -111,9 +103,6 @@ module _ (F : Format) (p d : List ℕ) (bp : AllBytes p) (bd : AllBytes d) (ep :
 
   pub applied-right : wrongAt F (applied F p d) ≡ Nowhere
   applied-right = written-right F (patched (planeFrom F p) (patchFrom F d)) new-fits
-
-  pub applied-bytes : F .number < 256 → F .bucketKind < 256 → AllBytes (applied F p d)
-  applied-bytes n k = plane-octets F n k (patched (planeFrom F p) (patchFrom F d)) new-fits
 
   -- which says what the patch says
   pub applied-says : planeFrom F (applied F p d) ≡ patched (planeFrom F p) (patchFrom F d)

@@ -7,11 +7,12 @@ use native.Mathlib.Omega.{arith}
 use mathlib.Core.Path.{_≡_, refl, sym, ap, ap₂, _∙_}
 use mathlib.Core.Bool.{cond}
 use mathlib.Core.List.{List, [], _∷_, _++_, append-assoc}
-use lib.ListN.{length, getD, drop, set, List·getD-eq-default}
-use lib.Seq.{drop-cons, drop-drop, getD-drop}
+use lib.ListN.{length, getD, drop, set, length-append, List·getD-eq-default}
+use lib.Seq.{drop-cons, drop-drop, drop-at, getD-drop}
 use borrow.Author.Tests.{eq-eqb, ne-eqb}
 use Rattle.codec.specs.Bytes.{eqList}
 use Rattle.codec.specs.Parts.{written}
+use Rattle.codec.proofs.Part.{written-fits}
 use Rattle.lists.specs.Lists.{Every}
 use Rattle.plane.specs.Record.{Kind, sizeOf, recordOf, bytesOf, PlaneBucket, bucketBytes}
 use Rattle.plane.proofs.Round.{Sized}
@@ -60,11 +61,7 @@ changes-step i bs cs z hb hc = rw (drop-cons bs i z hb, drop-cons cs i z hc)
 -- ---- a record written over the old one
 
 written-front : (a b rest : List ℕ) → length a ≡ length b → written 0 a (b ++ rest) ≡ a ++ rest
-unfolding written
-written-front [] [] rest l = refl
-written-front [] (y ∷ b) rest l = absurd (omega arith)
-written-front (x ∷ a) [] rest l = absurd (omega arith)
-written-front (x ∷ a) (y ∷ b) rest l = ap (λ (p : List ℕ). x ∷ p) (written-front a b rest (omega arith))
+written-front a b rest l = written-fits 0 a (b ++ rest) (omega (arith, length-append b rest)) ∙ ap (λ (p : List ℕ). a ++ p) (drop-at b rest (0 + length a) (omega arith))
 
 pub written-past : (a : List ℕ) (n : ℕ) (p rest : List ℕ) → written (length a + n) p (a ++ rest) ≡ a ++ written n p rest
 unfolding written

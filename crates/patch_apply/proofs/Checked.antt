@@ -3,51 +3,30 @@
 use Prim.Native.Nat.{ℕ, _+_, _*_, _≤_}
 use native.Mathlib.Omega.{arith}
 use mathlib.Core.Path.{_≡_, sym, ap, ap₂, _∙_}
-use mathlib.Core.Bool.{Bool, true, false, not, _&&_, true≢false}
-use mathlib.Core.List.{List, [], _∷_}
-use lib.Dec.{eqb, leb}
+use mathlib.Core.Bool.{Bool, true, false, not, _&&_}
+use mathlib.Core.List.{List}
+use lib.Dec.{leb}
 use lib.ListN.{length, drop, length-append, length-drop}
-use borrow.Author.Tests.{eqb-true}
 use Rattle.lists.specs.Entries.{Entry, find, Ascending}
-use Rattle.lists.proofs.Tests.{cases, cond-false}
 use Rattle.model.specs.Model.{baseLimit}
 use Rattle.plane.specs.declared.Wrong.the-variants.{Nowhere, At}
-use Rattle.plane.specs.Record.{Format, readAll, bucketLength, bucketFrom, entryRecords, entryFrom}
-use Rattle.plane.specs.Plane.{Plane, planeFrom, bucketsAt, entriesAt, whole, wrongIn, allAllowed, entryAllowed, exceeding, entriesWrong, endWrong, buckets1, buckets2, bucketCount, baseCount, wrongAt}
-use Rattle.plane.proofs.Scan.{both, header, parts, entriesIn, scan-room}
+use Rattle.plane.specs.Record.{Format, readAll, bucketLength, bucketFrom, entryFrom}
+use Rattle.plane.specs.Plane.{Plane, planeFrom, bucketsAt, entriesAt, whole, wrongIn, endWrong, buckets1, buckets2, bucketCount}
+use Rattle.plane.proofs.Scan.{scan-room}
 use Rattle.plane.proofs.Read.{length-readAll}
-use Rattle.plane.proofs.Exact.{scan-allowed, ascending-of}
+use Rattle.plane.proofs.Exact.{scan-allowed}
 use Rattle.patch.specs.Base.{isThere, among, removeAll, enter, enterAll}
 use Rattle.patch.specs.Record.{sumsKind, sumsBody, changeLength, changeRecords, goneKind, goneLength, goneFrom, goneRecords, newKind, newLength, newRecords}
 use Rattle.patch.specs.Patch.{bucketsOf, patched}
 use Rattle.patch.specs.Wrong.{changeAllowed, nextIndex, goneAllowed, nextWord, Filled, newAllowed, filled, unfilled, run, changesAt, changesIn, goneAt, goneIn, newsAt, newsIn, patchFrom, changesWrong, goneWrong, newsWrong, patchWrongAt}
 use Rattle.patch.proofs.Base.{among-gone}
+use Rattle.patch.proofs.Longest.{gone-there}
 use Rattle.patch_apply.specs.Steps.{newAllowedBy, started, baseWrong}
-
--- ---- the base list of a right plane
-
-module _ (F : Format) (p : List ℕ) (e : wrongAt F p ≡ Nowhere) where
-  pub base-ascending : Ascending (planeFrom F p .base)
-  unfolding planeFrom entriesWrong
-  base-ascending = ascending-of 0 (planeFrom F p .base) (scan-allowed entryRecords entryAllowed exceeding 0 (baseCount p) (entriesIn F p) (drop (entriesIn F p) p) (parts F p e .entries))
-
-  pub base-few : length (planeFrom F p .base) ≤ baseLimit
-  unfolding planeFrom
-  base-few = rw length-readAll (header F p (parts F p e .header) .entries)
 
 -- ---- kind 7
 
 pub gone-wrong : (F : Format) (P : Plane) (d : List ℕ) {at : ℕ} → goneWrong F P d ≡ At at → baseWrong F P d ≡ At at
 gone-wrong F P d e = rw e
-
--- each word gone was there
-gone-there : (base : List Entry) (least : ℕ) (ws : List ℕ) → allAllowed (goneAllowed base) nextWord least ws ≡ true → (w : ℕ) → among w ws ≡ true → isThere (find w base) ≡ true
-gone-there base least [] h w m = absurd (true≢false (sym m))
-gone-there base least (v ∷ ws) h w m =
-    let a = both (goneAllowed base least v) _ h in
-    cases (eqb w v)
-    (λ t. ap (λ (x : ℕ). isThere (find x base)) (eqb-true w v t) ∙ both (leb least v) _ (a .0) .1)
-    (λ f. gone-there base (nextWord least v) ws (a .1) w (sym (cond-false true (among w ws) f) ∙ m))
 
 module _ (F : Format) (P : Plane) (d : List ℕ) where
   -- what the code has found before it looks at kind 7: where it starts, how many words there are, and the base list
@@ -163,7 +142,7 @@ module _ (F : Format) (p d : List ℕ) where
     unfolding patchWrongAt
     base-wrong e = rw (right, e)
 
-  buckets-count : length (bucketsOf plane) ≡ bucketCount p
+  pub buckets-count : length (bucketsOf plane) ≡ bucketCount p
   unfolding planeFrom
   buckets-count =
       length-append (plane .level1) (plane .level2)

@@ -1,33 +1,38 @@
 -- What the loop over the entries new or changed asks for: one that the base list takes at the cursor, one that it does not, and none left.
 -- Assumes nothing.
-use Prim.Native.Nat.{ℕ, suc, _+_, _-_, _≤_, _<_}
+use Prim.Native.Nat.{ℕ, suc, _+_, _-_, _*_, _≤_, _<_}
 use native.Mathlib.Omega.{arith}
-use mathlib.Core.Path.{_≡_, refl, sym, ap, ap₂, _∙_}
+use mathlib.Core.Path.{_≡_, refl, sym, ap, _∙_}
 use mathlib.Core.Bool.{Bool, true, false, cond, not, _&&_, true≢false}
 use mathlib.Core.List.{List, [], _∷_, _++_}
 use lib.Dec.{leb, ltb}
-use lib.ListN.{length, take, drop, length-append, length-drop}
+use lib.ListN.{length, getD, take, drop, length-append, length-drop}
 use lib.Seq.{drop-drop}
-use borrow.Author.Tests.{leb-true, le-leb, ltb-true}
+use borrow.Author.Tests.{leb-true, le-leb, ltb-true, le-ltb, lt-ltb}
 use Rattle.lists.specs.Entries.{Entry, find, Ascending}
 use Rattle.lists.proofs.Tests.{by-test, cases}
 use Rattle.lists.proofs.Every.{every-append}
+use Rattle.lists.proofs.Parts.{rest}
 use Rattle.model.specs.Model.{baseLimit}
 use Rattle.table.specs.Layout.{pairsFrom}
+use Rattle.table.proofs.Numbers.{length-pairsFrom}
 use Rattle.plane.specs.declared.Wrong.{Wrong}
-use Rattle.plane.specs.declared.Wrong.the-variants.{Nowhere, At}
+use Rattle.plane.specs.declared.Wrong.the-variants.{At}
 use Rattle.plane.specs.Record.{readAll, entryBody, entryFrom}
-use Rattle.plane.specs.Plane.{whole, wrongIn}
-use Rattle.plane.proofs.Scan.{both, whole-next, scan-step, scan-here}
+use Rattle.plane.specs.Plane.{whole, fits, wrongIn}
+use Rattle.plane.proofs.Scan.{both, refused, whole-next, scan-step, scan-here}
+use Rattle.plane.proofs.Scan as Scan
 use Rattle.patch.specs.Base.{isThere, enter, enterAll}
 use Rattle.patch.specs.Cursor.{below, isFirst}
 use Rattle.patch.specs.Record.{newKind, newLength, newRecords}
 use Rattle.patch.specs.Wrong.{Filled, filled}
 use Rattle.patch.proofs.Base.{enter-length}
-use Rattle.patch.proofs.Cursor.{Low, low-up, low-front, find-low, ascending-drop, there-first}
-use Rattle.patch_apply.specs.Steps.{taken, passed, newAllowedBy, started}
-use Rattle.patch_apply.proofs.Cursor.{exceeds, sought, low-sought, low-passed, there-sought, enter-sought}
-use Rattle.patch_apply.proofs.Pairs.{found-lt}
+use Rattle.patch.proofs.Cursor.{Low, low-up, low-front, find-low, ascending-drop, there-first, seek-low, seek-there}
+use Rattle.patch_apply.specs.declared.Edited.the-variants as E
+use Rattle.patch_apply.specs.Steps.{edited, leastAfter, taken, passed, newAllowedBy, started}
+use Rattle.patch_apply.proofs.Answers.{edited-at, edited-entries}
+use Rattle.patch_apply.proofs.Cursor.{sought, low-passed, enter-sought}
+use Rattle.patch_apply.proofs.Pairs.{drop-pairs, pairs-part, sought-le, found-lt}
 use Rattle.patch_apply.proofs.Remove.{read-step, read-none}
 
 -- the test of an entry, by whether its word is in the base list, and whether it was in the old one
@@ -35,174 +40,164 @@ taken-is : (f g : Bool) (n : ℕ) → n ≤ baseLimit → (not (g && not f) && l
 taken-is true true n h = le-leb n baseLimit h
 taken-is true false n h = le-leb n baseLimit h
 taken-is false true n h = refl
-taken-is false false n h = sym (exceeds n baseLimit)
+taken-is false false n h = refl
 
-module _ (d : List ℕ) (first k : ℕ) (old kept : List Entry) where
+-- old and kept are the numbers of n and of m entries
+module _ (d : List ℕ) (first k : ℕ) (old : List ℕ) (n : ℕ) (kept : List ℕ) (m : ℕ) where
+  abbrev O : List Entry
+  O = pairsFrom n old
+
+  abbrev K : List Entry
+  K = pairsFrom m kept
+
   abbrev scan : Filled → ℕ → ℕ → Wrong
-  scan s left at = wrongIn newRecords (newAllowedBy old kept) filled s left at (drop at d)
+  scan s left at = wrongIn newRecords (newAllowedBy O K) filled s left at (drop at d)
 
   abbrev news : ℕ → ℕ → List Entry
   news left at = readAll newLength entryFrom left (drop at d)
 
-  -- before the offset `at` the entries fit; `new` is what comes of them and of the first i entries
-  pub record Entering (least at left o i : ℕ) (new : List Entry) : Type 0 where
+  -- before the offset `at` the entries fit; the first l entries of `new` are what comes of them and of the first i of `kept`
+  pub record Entering (least at left o i l : ℕ) (new : List ℕ) : Type 0 where
+    pub left-of : left ≤ k
     pub room : at ≤ length d
-    pub scanned : scan (started kept) k first ≡ scan (record { least = least; base = new ++ drop i kept }) left at
-    pub entered : enterAll (news k first) kept ≡ enterAll (news left at) (new ++ drop i kept)
-    pub low : Low least new
-    pub low-old : Low least (take o old)
-    pub low-kept : Low least (take i kept)
-    pub few : length new + (length kept - i) ≤ baseLimit
+    pub in-old : o ≤ n
+    pub in-kept : i ≤ m
+    pub few : l + (m - i) ≤ baseLimit
+    pub scanned : scan (started K) k first ≡ scan (record { least = least; base = pairsFrom l new ++ drop i K }) left at
+    pub entered : enterAll (news k first) K ≡ enterAll (news left at) (pairsFrom l new ++ drop i K)
+    pub low : Low least (pairsFrom l new)
+    pub low-old : Low least (take o O)
+    pub low-kept : Low least (take i K)
 
-  pub entering-starts : first ≤ length d → length kept ≤ baseLimit → Entering 0 first k 0 0 []
-  entering-starts h l = record {
-    room = h;
-    scanned = refl;
-    entered = refl;
-    low = tt;
-    low-old = tt;
-    low-kept = tt;
-    few = omega arith;
-  }
+  pub entering-starts : (new : List ℕ) → first ≤ length d → m ≤ baseLimit → Entering (leastAfter (ltb k k) 0) first k 0 0 0 new
+  entering-starts new h l =
+      rw (le-ltb k k (omega arith))
+      (record { left-of = omega arith; room = h; in-old = omega arith; in-kept = omega arith; few = omega arith; scanned = refl; entered = refl; low = tt; low-old = tt; low-kept = tt })
 
-  pub entering-ends : (least at left o i : ℕ) (new : List Entry) → left ≡ 0 → Entering least at left o i new
-      → (scan (started kept) k first ≡ Nowhere) × (enterAll (news k first) kept ≡ new ++ drop i kept)
-  entering-ends least at left o i new z h = (
-    h .scanned ∙ ap (λ (n : ℕ). scan (record { least = least; base = new ++ drop i kept }) n at) z,
-    h .entered ∙ ap (λ (n : ℕ). enterAll (news n at) (new ++ drop i kept)) z ∙ ap (λ (es : List Entry). enterAll es (new ++ drop i kept)) (read-none newLength entryFrom (drop at d)),
-  )
-
-  module _ (least at left o i : ℕ) (new : List Entry) (some : 0 < left) (h : Entering least at left o i new) where
-    abbrev p : List ℕ
-    p = drop at d
-
+  module _ (least at left o i l : ℕ) (new : List ℕ) (h : Entering least at left o i l new) where
     abbrev base : List Entry
-    base = new ++ drop i kept
+    base = pairsFrom l new ++ drop i K
 
-    abbrev state : Filled
-    state = record { least = least; base = base }
+    -- none is left, and the other entries of `kept` are copied
+    pub entering-ends : left ≡ 0 → (xs : List ℕ) → pairsFrom (l + (m - i)) xs ≡ pairsFrom l new ++ pairsFrom (m - i) (drop (2 * i) kept)
+        → (E.Entries (l + (m - i)) ≡ edited (scan (started K) k first) (enterAll (news k first) K)) × (pairsFrom (l + (m - i)) xs ≡ enterAll (news k first) K)
+    entering-ends z xs e =
+        let lies : pairsFrom (l + (m - i)) xs ≡ enterAll (news k first) K =
+        e ∙ ap (λ (x : List Entry). pairsFrom l new ++ x) (sym (drop-pairs i m kept (h .in-kept))) ∙ sym (h .entered ∙ rw (z, read-none newLength entryFrom (drop at d))) in
+        (edited-entries _ _ (h .scanned ∙ rw z) (sym (length-pairsFrom (l + (m - i)) xs) ∙ ap length lies), lies)
 
-    not-both : (a b c : Bool) → (a && b) ≡ false → (a && (b && c)) ≡ false
-    not-both true true c e = absurd (true≢false e)
-    not-both true false c e = refl
-    not-both false b c e = refl
+    module _ (some : 0 < left) where
+      -- the bytes from the entry on, as the code lends them
+      abbrev p : List ℕ
+      p = take (length d - at) (drop at d)
 
-    -- cut, or with a word that does not exceed the one before
-    pub new-low : (whole newKind entryBody p && leb least (entryFrom p .word)) ≡ false → scan (started kept) k first ≡ At at
-    new-low f = h .scanned ∙ scan-here newRecords (newAllowedBy old kept) filled state left at p some (not-both (whole newKind entryBody p) _ _ f)
+      abbrev state : Filled
+      state = record { least = least; base = base }
 
-    module _ (t : (whole newKind entryBody p && leb least (entryFrom p .word)) ≡ true) (a : Ascending old) (b : Ascending kept) (w : ℕ) (q : w ≡ entryFrom p .word) where
-      abbrev e : Entry
-      e = record { word = w; plan = entryFrom p .plan }
+      unfit : fits newRecords (newAllowedBy O K) state (drop at d) ≡ false → E.At at ≡ edited (scan (started K) k first) (enterAll (news k first) K)
+      unfit f = edited-at _ _ (h .scanned ∙ scan-here newRecords (newAllowedBy O K) filled state left at (drop at d) some f)
 
-      same : e ≡ entryFrom p
-      same = ap (λ (v : ℕ). record { word = v; plan = entryFrom p .plan }) q
+      not-both : (a b c : Bool) → (a && b) ≡ false → (a && (b && c)) ≡ false
+      not-both true true c e = absurd (true≢false e)
+      not-both true false c e = refl
+      not-both false b c e = refl
 
-      least-le : least ≤ w
-      least-le = let l = leb-true least (entryFrom p .word) (both (whole newKind entryBody p) _ t .1) in omega (arith, q)
+      -- cut, or with a word that does not exceed the one before
+      pub new-low : {x : Bool} → x ≡ (whole newKind entryBody p && leb least (entryFrom p .word)) → not x ≡ true → E.At at ≡ edited (scan (started K) k first) (enterAll (news k first) K)
+      new-low e f = unfit (not-both (whole newKind entryBody (drop at d)) _ _ (rw (rest at d) at (refused _ e f)))
 
-      abbrev there : Bool
-      there = isFirst w (drop (sought w i kept) kept)
+      module _ {x : Bool} (c : x ≡ (whole newKind entryBody p && leb least (entryFrom p .word))) (t : not x ≡ false) where
+        there-is : (whole newKind entryBody (drop at d) ≡ true) × (leb least (entryFrom (drop at d) .word) ≡ true)
+        there-is = both (whole newKind entryBody (drop at d)) _ (rw (rest at d) at (Scan.passed x c t))
 
-      abbrev was : Bool
-      was = isFirst w (drop (sought w o old) old)
+        pub new-room : at + newLength ≤ length d
+        new-room = whole-next newKind entryBody at d (there-is .0)
 
-      abbrev count : ℕ
-      count = length new + (length kept - i)
+        -- the word w is sought in both lists
+        module _ (a : Ascending O) (b : Ascending K) {w j o₁ : ℕ} (q : w ≡ entryFrom p .word) (s : j ≡ sought w i K) (r : o₁ ≡ sought w o O) where
+          abbrev e : Entry
+          e = record { word = w; plan = getD p entryBody 0 }
 
-      low-new : Low w new
-      low-new = low-up least w least-le new (h .low)
+          same : e ≡ entryFrom (drop at d)
+          same = ap (λ (v : ℕ). record { word = v; plan = getD p entryBody 0 }) q ∙ ap entryFrom (rest at d)
 
-      base-length : length base ≡ count
-      base-length = length-append new (drop i kept) ∙ ap (λ (n : ℕ). length new + n) (length-drop i kept)
+          least-le : least ≤ w
+          least-le = let l = leb-true least (entryFrom (drop at d) .word) (there-is .1) in omega (arith, ap (λ (x : Entry). x .word) same)
 
-      there-base : isThere (find w base) ≡ there
-      there-base =
-          ap isThere (find-low w new (drop i kept) low-new) ∙ there-first w (drop i kept) (ascending-drop i kept b)
-          ∙ ap (isFirst w) (drop-drop (below w (drop i kept)) i kept)
+          abbrev there : Bool
+          there = isFirst w (drop j K)
 
-      entered-length : length (enter e base) ≡ cond there count (suc count)
-      entered-length = enter-length e base ∙ ap₂ (λ (x : Bool) (n : ℕ). cond x n (suc n)) there-base base-length
+          abbrev was : Bool
+          was = isFirst w (drop o₁ O)
 
-      test : (not (isThere (find w old) && not (isThere (find w kept))) && leb (length (enter e base)) baseLimit) ≡ taken there was count
-      test =
-          ap₂ (λ (g f : Bool). not (g && not f) && leb (length (enter e base)) baseLimit)
-          (there-sought w o old a (low-up least w least-le (take o old) (h .low-old)))
-          (there-sought w i kept b (low-up least w least-le (take i kept) (h .low-kept)))
-          ∙ ap (λ (n : ℕ). not (was && not there) && leb n baseLimit) entered-length
-          ∙ taken-is there was count (h .few)
+          low-new : Low w (pairsFrom l new)
+          low-new = low-up least w least-le (pairsFrom l new) (h .low)
 
-      fits-is : (x : Bool) → taken there was count ≡ x → (whole newKind entryBody p && newAllowedBy old kept state (entryFrom p)) ≡ x
-      fits-is x f =
-          let c = both (whole newKind entryBody p) _ t in
-          ap₂ (λ (y z : Bool). y && (z && (not (isThere (find (entryFrom p .word) old) && not (isThere (find (entryFrom p .word) kept))) && leb (length (enter (entryFrom p) base)) baseLimit))) (c .0) (c .1)
-          ∙ ap (λ (x : Entry). not (isThere (find (x .word) old) && not (isThere (find (x .word) kept))) && leb (length (enter x base)) baseLimit) (sym same)
-          ∙ test ∙ f
+          there-kept : isThere (find w K) ≡ there
+          there-kept = rw s (seek-there w i K (low-up least w least-le (take i K) (h .low-kept)) b)
 
-      abbrev grown : List Entry
-      grown = (new ++ take (below w (drop i kept)) (drop i kept)) ++ e ∷ []
+          was-old : isThere (find w O) ≡ was
+          was-old = rw r (seek-there w o O (low-up least w least-le (take o O) (h .low-old)) a)
 
-      abbrev after : ℕ
-      after = sought w i kept + passed there
+          there-base : isThere (find w base) ≡ there
+          there-base = rw (find-low w (pairsFrom l new) (drop i K) low-new, s) (there-first w (drop i K) (ascending-drop i K b) ∙ ap (isFirst w) (drop-drop (below w (drop i K)) i K))
 
-      grown-is : enter e base ≡ grown ++ drop after kept
-      grown-is = enter-sought e i kept new low-new b
+          base-length : length base ≡ l + (m - i)
+          base-length = rw (length-append, length-drop, length-pairsFrom l new, length-pairsFrom m kept)
 
-      module _ (u : taken there was count ≡ true) where
-        fits : (whole newKind entryBody p && newAllowedBy old kept state (entryFrom p)) ≡ true
-        fits = fits-is true u
+          test : (not (isThere (find w O) && not (isThere (find w K))) && leb (length (enter e base)) baseLimit) ≡ taken there was (l + (m - i))
+          test = rw (enter-length e base, there-base, base-length, was-old, there-kept) (taken-is there was (l + (m - i)) (h .few))
 
-        few-left : length grown + (length kept - after) ≤ baseLimit
-        few-left =
-            let l = leb-true (length (enter e base)) baseLimit (both (not (isThere (find w old) && not (isThere (find w kept)))) _ (test ∙ u) .1) in
-            let m = ap length grown-is ∙ length-append grown (drop after kept) in
-            omega (arith, m, length-drop after kept)
+          fits-is : (x : Bool) → taken there was (l + (m - i)) ≡ x → fits newRecords (newAllowedBy O K) state (drop at d) ≡ x
+          fits-is x f =
+              rw (there-is .0, there-is .1)
+              (ap (λ (x : Entry). not (isThere (find (x .word) O) && not (isThere (find (x .word) K))) && leb (length (enter x base)) baseLimit) (sym same) ∙ test ∙ f)
 
-        stepped : Entering (suc w) (at + newLength) (left - 1) (sought w o old) after grown
-        stepped = record {
-          room = whole-next newKind entryBody at d (both (whole newKind entryBody p) _ t .0);
-          scanned = h .scanned ∙ scan-step newRecords (newAllowedBy old kept) filled state left at d some fits
-              ∙ ap (λ (x : Entry). scan (filled state x) (left - 1) (at + newLength)) (sym same)
-              ∙ ap (λ (es : List Entry). scan (record { least = suc w; base = es }) (left - 1) (at + newLength)) grown-is;
-          entered = h .entered ∙ ap (λ (es : List Entry). enterAll es base) (read-step newLength entryFrom left at d some)
-              ∙ ap (λ (x : Entry). enterAll (news (left - 1) (at + newLength)) (enter x base)) (sym same)
-              ∙ ap (enterAll (news (left - 1) (at + newLength))) grown-is;
-          low = every-append (λ x. x .word < suc w) (new ++ take (below w (drop i kept)) (drop i kept)) (e ∷ [])
-              (low-up w (suc w) (omega arith) (new ++ take (below w (drop i kept)) (drop i kept)) (low-front w new (drop i kept) low-new)) (omega arith, tt);
-          low-old = low-up w (suc w) (omega arith) (take (sought w o old) old) (low-sought w o old (low-up least w least-le (take o old) (h .low-old)));
-          low-kept = low-passed w i kept (low-up least w least-le (take i kept) (h .low-kept));
-          few = few-left;
-        }
+          -- gone, or the 65th
+          pub new-unfit : {y : Bool} → y ≡ taken there was (l + (m - i)) → not y ≡ true → E.At at ≡ edited (scan (started K) k first) (enterAll (news k first) K)
+          new-unfit v f = unfit (fits-is false (refused _ v f))
 
-      module _ (j o₁ n : ℕ) (s : j ≡ sought w i kept) (r : o₁ ≡ sought w o old) (c : n ≡ count) where
-        at-sought : (x : Bool) → taken (isFirst w (drop j kept)) (isFirst w (drop o₁ old)) n ≡ x → taken there was count ≡ x
-        at-sought x f = rw (← s, ← r, ← c) f
+          module _ {v : Bool} (v-is : v ≡ taken there was (l + (m - i))) (v-true : not v ≡ false) where
+            u : taken there was (l + (m - i)) ≡ true
+            u = Scan.passed v v-is v-true
 
-        -- gone, or the 65th
-        pub new-unfit : taken (isFirst w (drop j kept)) (isFirst w (drop o₁ old)) n ≡ false → scan (started kept) k first ≡ At at
-        new-unfit f = h .scanned ∙ scan-here newRecords (newAllowedBy old kept) filled state left at p some (fits-is false (at-sought false f))
+            one-more : (f g : Bool) (x : ℕ) → taken f g x ≡ true → f ≡ false → x < baseLimit
+            one-more true g x t f = absurd (true≢false f)
+            one-more false true x t f = absurd (true≢false (sym t))
+            one-more false false x t f = ltb-true x baseLimit t
 
-        pub entering-step : (i₁ : ℕ) (new₁ : List Entry) → taken (isFirst w (drop j kept)) (isFirst w (drop o₁ old)) n ≡ true
-            → i₁ ≡ j + passed (isFirst w (drop j kept)) → new₁ ≡ (new ++ take (j - i) (drop i kept)) ++ e ∷ []
-            → Entering (suc w) (at + newLength) (left - 1) o₁ i₁ new₁
-        entering-step i₁ new₁ f q m =
-            let u = stepped (at-sought true f) in
-            let l : j - i ≡ below w (drop i kept) = omega (arith, s) in
-            rw (m, q, l, s, r) u
+            -- where it is entered, and the room for it
+            pub within : (i ≤ j) × (j ≤ m) × (l + (j - i) + 1 ≤ baseLimit)
+            within =
+                let k = sought-le i m w j kept (h .in-kept) s in
+                let f = h .few in (
+                  omega (arith, s),
+                  k,
+                  cases there (λ y. let x = found-lt m w j kept y in omega (arith, s)) (λ z. let x = one-more there was (l + (m - i)) u z in omega (arith, s)),
+                )
 
--- ---- the room that the numbers have
-
-module _ (w j m : ℕ) (xs : List ℕ) (h : j ≤ m) where
-  pub passed-le : j + passed (isFirst w (drop j (pairsFrom m xs))) ≤ m
-  passed-le =
-      by-test (λ (n : ℕ). j + n ≤ m) (isFirst w (drop j (pairsFrom m xs))) (λ t. let l = found-lt m w j xs t in omega arith) (λ f. omega arith)
-
-  pub taken-room : (i l : ℕ) (was : Bool) → i ≤ j → l + (m - i) ≤ baseLimit → taken (isFirst w (drop j (pairsFrom m xs))) was (l + (m - i)) ≡ true → l + (j - i) + 1 ≤ baseLimit
-  taken-room i l was k n t =
-      cases (isFirst w (drop j (pairsFrom m xs)))
-      (λ f. let b = found-lt m w j xs f in omega arith)
-      (λ f. let b = ltb-true (l + (m - i)) baseLimit (one-more was (l + (m - i)) (sym (ap (λ (x : Bool). taken x was (l + (m - i))) f) ∙ t)) in omega arith)
-    where
-      one-more : (g : Bool) (n : ℕ) → taken false g n ≡ true → ltb n baseLimit ≡ true
-      one-more true n e = absurd (true≢false (sym e))
-      one-more false n e = e
+            pub entering-step : (i₁ l₁ : ℕ) (new₁ : List ℕ) → i₁ ≡ j + passed there → pairsFrom l₁ new₁ ≡ (pairsFrom l new ++ pairsFrom (j - i) (drop (2 * i) kept)) ++ e ∷ []
+                → Entering (leastAfter (ltb (left - 1) k) w) (at + newLength) (left - 1) o₁ i₁ l₁ new₁
+            entering-step i₁ l₁ new₁ y z =
+                let x : j - i ≡ below w (drop i K) = omega (arith, s) in
+                let front : List Entry = pairsFrom l new ++ take (below w (drop i K)) (drop i K) in
+                let grown : pairsFrom l₁ new₁ ≡ front ++ e ∷ [] = z ∙ rw (pairs-part i (j - i) m kept (omega (arith, within)), x) in
+                let is : enter e base ≡ pairsFrom l₁ new₁ ++ drop i₁ K = rw (grown, y, s) (enter-sought e i K (pairsFrom l new) low-new b) in
+                rw (lt-ltb (left - 1) k (let v = h .left-of in omega arith))
+                (record {
+                  left-of = let v = h .left-of in omega arith;
+                  room = new-room;
+                  in-old = sought-le o n w o₁ old (h .in-old) r;
+                  in-kept = rw y (by-test (λ (x : ℕ). j + x ≤ m) there (λ t. let v = found-lt m w j kept t in omega arith) (λ f. omega (arith, within)));
+                  few = let v = leb-true (length (enter e base)) baseLimit (both (not (isThere (find w O) && not (isThere (find w K)))) _ (test ∙ u) .1) in
+                      omega (arith, ap length is ∙ length-append (pairsFrom l₁ new₁) (drop i₁ K), length-drop i₁ K, length-pairsFrom l₁ new₁, length-pairsFrom m kept);
+                  scanned = h .scanned ∙ scan-step newRecords (newAllowedBy O K) filled state left at d some (fits-is true u)
+                      ∙ ap (λ (x : Entry). scan (filled state x) (left - 1) (at + newLength)) (sym same)
+                      ∙ ap (λ (es : List Entry). scan (record { least = suc w; base = es }) (left - 1) (at + newLength)) is;
+                  entered = h .entered ∙ ap (λ (es : List Entry). enterAll es base) (read-step newLength entryFrom left at d some)
+                      ∙ ap (λ (x : Entry). enterAll (news (left - 1) (at + newLength)) (enter x base)) (sym same)
+                      ∙ ap (enterAll (news (left - 1) (at + newLength))) is;
+                  low = rw grown (every-append (λ x. x .word < suc w) front (e ∷ []) (low-up w (suc w) (omega arith) front (low-front w (pairsFrom l new) (drop i K) low-new)) (omega arith, tt));
+                  low-old = rw r (low-up w (suc w) (omega arith) (take (sought w o O) O) (seek-low w o O (low-up least w least-le (take o O) (h .low-old))));
+                  low-kept = rw (y, s) (low-passed w i K (low-up least w least-le (take i K) (h .low-kept)));
+                })

@@ -23,23 +23,22 @@ use Rattle.plane.specs.declared.Wrong.the-variants.{Nowhere}
 use Rattle.plane.specs.Record.{Format, bytesOf, readAll, headerRecord, PlaneBucket, bucketBody, bucketLength, bucketBytes, bucketRecord, bucketRecords, bucketFrom, entryLength, entryRecord, endRecord}
 use Rattle.plane.specs.Plane.{Plane, planeBytes, planeFrom, wrongAt, buckets1, buckets2, bucketCount, bucketsAt, entriesAt, endAt, planeLength, allAllowed}
 use Rattle.plane.specs.Fits.{FitsBucket, FitsEntry, Fits}
-use Rattle.plane.proofs.Scan.{both}
+use Rattle.plane.proofs.Scan.{both, whole-length}
 use Rattle.plane.proofs.Scan as scan
-use Rattle.plane.proofs.Read.{length-readAll}
 use Rattle.plane.proofs.Round.{Sized, length-bytes, bucket-back, entry-back, plane-length}
 use Rattle.plane.proofs.Exact.{AllBytes, bytes-drop, bucket-body, length1, length2, read-written, read-fits}
 use Rattle.plane_write.specs.Steps.{pairFrom}
 use Rattle.plane_write.proofs.Through.{pairs-read, each}
-use Rattle.patch.specs.Record.{OwnKind, Change, changeLength, changeFrom}
+use Rattle.patch.specs.Record.{sumsKind, sumsBody, Change, changeLength, changeFrom}
 use Rattle.patch.specs.Patch.{Patch, bucketsOf, setAll, patched}
-use Rattle.patch.specs.Wrong.{changeAllowed, nextIndex, allowed, changesAt, changesIn, patchFrom, patchWrongAt}
+use Rattle.patch.specs.Wrong.{changeAllowed, nextIndex, changesAt, changesIn, patchFrom, patchWrongAt}
 use Rattle.patch.specs.Calls.{applied}
 use Rattle.patch.specs.Fits.{FitsChange, FitsPatch}
 use Rattle.patch.proofs.Steps.{written-past, set-bytes}
-use Rattle.patch.proofs.Applied.{every-set, patched-length1, patched-length2, patched-fits}
-use Rattle.patch.proofs.Round.{patch-bytes-length}
-use Rattle.patch.proofs.Exact.{patch-written, patch-fits}
+use Rattle.patch.proofs.Applied.{every-set, set-all-fit, set-all-length, allowed-each, patched-length1, patched-length2, patched-fits}
+use Rattle.patch.proofs.Exact.{parts, patch-fits}
 use Rattle.patch_apply.specs.Steps.{changed}
+use Rattle.patch_apply.proofs.Checked.{buckets-count, gone-start}
 
 -- ---- one change more
 
@@ -111,12 +110,8 @@ module _ (F : Format) (n : ℕ) where
       let k = both (changeAllowed n least c) (allAllowed (changeAllowed n) nextIndex (suc i) cs) a in
       let low : i < n = ltb-true i n (both (ltb i n) _ (both (leb least i) _ (k .0) .1) .0) in
       let at : bucketsAt + i * bucketLength F + 1 ≡ length head + (i * bucketLength F + 1) = omega (arith, l) in
-      let one : written (bucketsAt + i * bucketLength F + 1) (bucketBytes (c .bucket)) (head ++ (bytesOf (bucketRecord F) bs ++ q)) ≡ head ++ (bytesOf (bucketRecord F) (set bs i (c .bucket)) ++ q) =
-      ap (λ (j : ℕ). written j (bucketBytes (c .bucket)) (head ++ (bytesOf (bucketRecord F) bs ++ q))) at
-      ∙ written-past head (i * bucketLength F + 1) (bucketBytes (c .bucket)) (bytesOf (bucketRecord F) bs ++ q)
-      ∙ ap (λ (x : List ℕ). head ++ x) (set-bytes (bucketRecords F) bs i (c .bucket) q (sized F bs f) (bucket-back F (c .bucket) (g .0) .0) (omega (arith, m, low))) in
-      ap (changed F cs) one
-      ∙ changed-bytes (suc i) cs (set bs i (c .bucket)) head q l (length-set bs i (c .bucket) ∙ m) (every-set (FitsBucket F) bs i (c .bucket) f (g .0)) (g .1) (k .1)
+      rw (at, written-past head (i * bucketLength F + 1) (bucketBytes (c .bucket)) (bytesOf (bucketRecord F) bs ++ q), set-bytes (bucketRecords F) bs i (c .bucket) q (sized F bs f) (bucket-back F (c .bucket) (g .0) .0) (omega (arith, m, low)))
+      (changed-bytes (suc i) cs (set bs i (c .bucket)) head q l (length-set bs i (c .bucket) ∙ m) (every-set (FitsBucket F) bs i (c .bucket) f (g .0)) (g .1) (k .1))
 
 -- ---- the new plane
 
@@ -156,11 +151,8 @@ module _ (F : Format) (p d : List ℕ) (bp : AllBytes p) (bd : AllBytes d) (ep :
   new-fits : Fits F Q
   new-fits = patched-fits P D F fp fd
 
-  count : length (bucketsOf P) ≡ bucketCount p
-  count = length-append (P .level1) (P .level2) ∙ ap₂ _+_ (length1 F p ep bp) (length2 F p ep bp)
-
   B-long : length B ≡ bucketCount p * bucketLength F
-  B-long = length-bytes (bucketRecord F) (bucketLength F) (bucketsOf P) (sized F (bucketsOf P) (fp .buckets)) ∙ ap (λ (m : ℕ). m * bucketLength F) count
+  B-long = length-bytes (bucketRecord F) (bucketLength F) (bucketsOf P) (sized F (bucketsOf P) (fp .buckets)) ∙ ap (λ (m : ℕ). m * bucketLength F) (buckets-count F p d)
 
   -- the old plane up to its entries
   front : take (entriesAt F (bucketCount p)) p ≡ head (length (P .base)) ++ B
@@ -179,36 +171,26 @@ module _ (F : Format) (p d : List ℕ) (bp : AllBytes p) (bd : AllBytes d) (ep :
   unfolding patched
   levels = take-append-drop (length (P .level1)) (setAll (D .changes) (bucketsOf P))
 
-  new-count : length (Q .level1) + length (Q .level2) ≡ bucketCount p
-  new-count = ap₂ _+_ (patched-length1 P D ∙ length1 F p ep bp) (patched-length2 P D ∙ length2 F p ep bp)
-
   C-long : length C ≡ bucketCount p * bucketLength F
   C-long =
-      ap (λ (bs : List PlaneBucket). length (bytesOf (bucketRecord F) bs)) (sym levels)
-      ∙ length-bytes (bucketRecord F) (bucketLength F) (Q .level1 ++ Q .level2) (sized F (Q .level1 ++ Q .level2) (new-fits .buckets))
-      ∙ ap (λ (m : ℕ). m * bucketLength F) (length-append (Q .level1) (Q .level2) ∙ new-count)
-
-  allows : allAllowed (changeAllowed (length (bucketsOf P))) nextIndex 0 (D .changes) ≡ true
-  unfolding allowed
-  allows = both (allAllowed (changeAllowed (length (bucketsOf P))) nextIndex 0 (D .changes)) _ (fd .allows) .0
+      length-bytes (bucketRecord F) (bucketLength F) (setAll (D .changes) (bucketsOf P)) (sized F (setAll (D .changes) (bucketsOf P)) (set-all-fit F (D .changes) (bucketsOf P) (fd .sized .changes) (fp .buckets)))
+      ∙ ap (λ (m : ℕ). m * bucketLength F) (set-all-length (D .changes) (bucketsOf P) ∙ buckets-count F p d)
 
   new-bytes : applied F p d ≡ head (length (Q .base)) ++ (C ++ (bytesOf entryRecord (Q .base) ++ endRecord))
   unfolding planeBytes
   new-bytes = rw (patched-length1 P D, patched-length2 P D, length1 F p ep bp, length2 F p ep bp, levels)
 
   new-length : length (applied F p d) ≡ planeLength F (bucketCount p) (length (Q .base))
-  new-length = plane-length F Q new-fits ∙ ap (λ (m : ℕ). planeLength F m (length (Q .base))) new-count
+  new-length = plane-length F Q new-fits ∙ rw (patched-length1 P D, patched-length2 P D, length1 F p ep bp, length2 F p ep bp)
 
-  changes-there : OwnKind F → changesAt + changesIn F d * changeLength F ≤ length d
-  unfolding patchFrom
-  changes-there own =
-      let n : length (D .changes) ≡ changesIn F d = length-readAll (changeLength F) (changeFrom F) (changesIn F d) (drop changesAt d) in
-      let l = ap length (sym (patch-written F P d ed bd)) ∙ patch-bytes-length F own D (fd .sized) in
-      let c : length (D .changes) * changeLength F ≡ changesIn F d * changeLength F = ap (λ (m : ℕ). m * changeLength F) n in
-      omega (arith, l, c)
+  changes-there : changesAt + changesIn F d * changeLength F ≤ length d
+  unfolding changesIn
+  changes-there =
+      let s = parts F P d ed bd in
+      gone-start F p d (changesIn F d) refl (omega (arith, whole-length sumsKind sumsBody d (s .sums))) (s .changes)
 
-  pub known : OwnKind F → (pairs : List ℕ) (k : ℕ) → pairsFrom k pairs ≡ Q .base → Known F p d pairs k
-  known own pairs k b =
+  pub known : (pairs : List ℕ) (k : ℕ) → pairsFrom k pairs ≡ Q .base → Known F p d pairs k
+  known pairs k b =
       let o = scan.known F p ep in
       let n : k ≡ length (Q .base) = sym (length-pairsFrom k pairs) ∙ ap length b in
       record {
@@ -216,7 +198,7 @@ module _ (F : Format) (p d : List ℕ) (bp : AllBytes p) (bd : AllBytes d) (ep :
         most1 = o .header .most1;
         most2 = o .header .most2;
         old = omega (arith, o .whole);
-        changes = changes-there own;
+        changes = changes-there;
         few = rw n (new-fits .few);
         plans = λ i l. each FitsEntry 2 pairFrom k pairs (rw (← pairs-read k pairs, b) (new-fits .entries)) i l .plan;
         long = ap (planeLength F (bucketCount p)) n ∙ sym new-length;
@@ -240,7 +222,7 @@ module _ (F : Format) (p d : List ℕ) (bp : AllBytes p) (bd : AllBytes d) (ep :
         let at : 0 + length (head k ++ C) ≡ entriesAt F (bucketCount p) = omega (arith, C-long) in
         let put : o2 ≡ head (length (P .base)) ++ (C ++ q) =
         e2 ∙ ap₂ (λ (m : ℕ) (o : List ℕ). changed F (changesFrom F m (drop changesAt d)) o) all old-there
-        ∙ changed-bytes F (length (bucketsOf P)) 0 (D .changes) (bucketsOf P) (head (length (P .base))) q refl refl (fp .buckets) (fd .sized .changes) allows in
+        ∙ changed-bytes F (length (bucketsOf P)) 0 (D .changes) (bucketsOf P) (head (length (P .base))) q refl refl (fp .buckets) (fd .sized .changes) (allowed-each P D (fd .allows) .0) in
         e3 ∙ ap (written 0 (head k)) put ∙ sym (written-fits 0 (head k ++ C) new (omega (arith, at)) ∙ ap (λ (n : ℕ). (head k ++ C) ++ drop n new) at)
 
     pub built : (pairs o4 o5 : List ℕ) → pairsFrom k pairs ≡ Q .base → o4 ≡ written (entriesAt F (bucketCount p)) (bytesOf entryRecord (readAll 2 pairFrom k pairs)) o3

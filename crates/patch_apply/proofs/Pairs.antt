@@ -6,8 +6,8 @@ use native.Mathlib.Omega.{arith}
 use mathlib.Core.Path.{_≡_, refl, sym, ap, ap₂, _∙_}
 use mathlib.Core.Bool.{true, true≢false}
 use mathlib.Core.List.{List, [], _∷_, _++_}
-use lib.ListN.{length, getD, take, drop, set, length-drop, take-append-drop}
-use lib.Seq.{length-take-le, drop-drop, drop-at}
+use lib.ListN.{length, take, drop, set, length-drop, take-append-drop}
+use lib.Seq.{length-take-le, drop-drop, take-at, drop-at}
 use borrow.Author.Tests.{ltb-true, ltb-false}
 use lib.Dec.{ltb}
 use Rattle.lists.specs.Entries.{Entry}
@@ -19,28 +19,23 @@ use Rattle.table.proofs.Numbers.{back-pairs, length-pairsFrom, length-pairs}
 use Rattle.patch.specs.Cursor.{below, isFirst}
 use Rattle.patch.proofs.Cursor.{below-length, first-end}
 
-pub pairs-add : (m b : ℕ) (xs : List ℕ) → pairsFrom (m + b) xs ≡ pairsFrom m xs ++ pairsFrom b (drop (2 * m) xs)
+pairs-add : (m b : ℕ) (xs : List ℕ) → pairsFrom (m + b) xs ≡ pairsFrom m xs ++ pairsFrom b (drop (2 * m) xs)
 pairs-add zero b xs = rw zero-add
 pairs-add (suc m) b xs =
     let two : 2 + 2 * m ≡ 2 * suc m = omega arith in
     rw (suc-add m b, pairs-add m b (drop 2 xs), drop-drop (2 * m) 2 xs, two)
 
-pub drop-pairs : (i n : ℕ) (xs : List ℕ) → drop i (pairsFrom n xs) ≡ pairsFrom (n - i) (drop (2 * i) xs)
-drop-pairs zero n xs = let e : n ≡ n - 0 = omega arith in ap (λ (k : ℕ). pairsFrom k xs) e
-drop-pairs (suc i) zero xs = let e : 0 ≡ 0 - suc i = omega arith in ap (λ (k : ℕ). pairsFrom k (drop (2 * suc i) xs)) e
-drop-pairs (suc i) (suc n) xs =
-    let e : n - i ≡ suc n - suc i = omega arith in
-    let two : 2 + 2 * i ≡ 2 * suc i = omega arith in
-    drop-pairs i n (drop 2 xs) ∙ ap₂ pairsFrom e (drop-drop (2 * i) 2 xs ∙ ap (λ (k : ℕ). drop k xs) two)
+-- the first i of n, and the others
+pairs-split : (i n : ℕ) (xs : List ℕ) → i ≤ n → pairsFrom n xs ≡ pairsFrom i xs ++ pairsFrom (n - i) (drop (2 * i) xs)
+pairs-split i n xs h = let e : n ≡ i + (n - i) = omega arith in ap (λ (k : ℕ). pairsFrom k xs) e ∙ pairs-add i (n - i) xs
 
-take-pairs : (b k : ℕ) (xs : List ℕ) → b ≤ k → take b (pairsFrom k xs) ≡ pairsFrom b xs
-take-pairs zero k xs h = refl
-take-pairs (suc b) zero xs h = absurd (omega arith)
-take-pairs (suc b) (suc k) xs h = ap {B = List Entry} (λ l. record { word = getD xs 0 0; plan = getD xs 1 0 } ∷ l) (take-pairs b k (drop 2 xs) (omega arith))
+pub drop-pairs : (i n : ℕ) (xs : List ℕ) → i ≤ n → drop i (pairsFrom n xs) ≡ pairsFrom (n - i) (drop (2 * i) xs)
+drop-pairs i n xs h = ap (drop i) (pairs-split i n xs h) ∙ drop-at (pairsFrom i xs) _ i (length-pairsFrom i xs)
 
 -- a stretch of them
 pub pairs-part : (i b n : ℕ) (xs : List ℕ) → i + b ≤ n → pairsFrom b (drop (2 * i) xs) ≡ take b (drop i (pairsFrom n xs))
-pairs-part i b n xs h = sym (ap (take b) (drop-pairs i n xs) ∙ take-pairs b (n - i) (drop (2 * i) xs) (omega arith))
+pairs-part i b n xs h =
+    sym (ap (take b) (drop-pairs i n xs (omega arith) ∙ pairs-split b (n - i) (drop (2 * i) xs) (omega arith)) ∙ take-at (pairsFrom b (drop (2 * i) xs)) _ b (length-pairsFrom b (drop (2 * i) xs)))
 
 -- only the first numbers count
 pairs-front : (b : ℕ) (p rest : List ℕ) → 2 * b ≤ length p → pairsFrom b (p ++ rest) ≡ pairsFrom b p
@@ -49,12 +44,12 @@ pairs-front (suc b) [] rest h = absurd (omega arith)
 pairs-front (suc b) (x ∷ []) rest h = absurd (omega arith)
 pairs-front (suc b) (x ∷ y ∷ p) rest h = ap {B = List Entry} (λ l. record { word = x; plan = y } ∷ l) (pairs-front b p rest (omega arith))
 
-pub pairs-taken : (b : ℕ) (xs : List ℕ) → 2 * b ≤ length xs → pairsFrom b (take (2 * b) xs) ≡ pairsFrom b xs
+pairs-taken : (b : ℕ) (xs : List ℕ) → 2 * b ≤ length xs → pairsFrom b (take (2 * b) xs) ≡ pairsFrom b xs
 pairs-taken b xs h =
     sym (pairs-front b (take (2 * b) xs) (drop (2 * b) xs) (omega (arith, length-take-le (2 * b) xs h))) ∙ ap (pairsFrom b) (take-append-drop (2 * b) xs)
 
 -- b entries written behind m
-pub pairs-written : (m b : ℕ) (p t : List ℕ) → length p ≡ 2 * b → 2 * (m + b) ≤ length t → pairsFrom (m + b) (written (2 * m) p t) ≡ pairsFrom m t ++ pairsFrom b p
+pairs-written : (m b : ℕ) (p t : List ℕ) → length p ≡ 2 * b → 2 * (m + b) ≤ length t → pairsFrom (m + b) (written (2 * m) p t) ≡ pairsFrom m t ++ pairsFrom b p
 pairs-written m b p t e h =
     ap (pairsFrom (m + b)) (written-fits (2 * m) p t (omega arith))
     ∙ pairs-add m b (take (2 * m) t ++ tail)

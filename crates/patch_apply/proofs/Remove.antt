@@ -1,28 +1,36 @@
 -- What the loop over the words gone asks for: a word that is found at the cursor, one that is not, and none left.
 -- Assumes nothing.
-use Prim.Native.Nat.{ℕ, zero, suc, _+_, _-_, _≤_, _<_}
+use Prim.Native.Nat.{ℕ, zero, suc, _+_, _-_, _*_, _≤_, _<_}
+use native.Mathlib.Nat.{add-zero}
 use native.Mathlib.Numerals.{sub-one}
 use native.Mathlib.Omega.{arith}
 use mathlib.Core.Path.{_≡_, refl, sym, ap, ap₂, _∙_}
-use mathlib.Core.Bool.{Bool, true, false, _&&_}
+use mathlib.Core.Bool.{Bool, true, false, not, _&&_}
 use mathlib.Core.List.{List, [], _∷_, _++_}
 use lib.Dec.{leb}
 use lib.ListN.{length, take, drop}
 use lib.Seq.{drop-drop}
 use borrow.Author.Tests.{leb-false, leb-true}
-use Rattle.lists.specs.Entries.{Entry, find, remove, Ascending}
+use Rattle.lists.specs.Entries.{Entry, remove, Ascending}
 use Rattle.lists.proofs.Tests.{cases}
+use Rattle.lists.proofs.Parts.{rest}
+use Rattle.table.specs.Layout.{pairsFrom}
+use Rattle.table.proofs.Numbers.{length-pairsFrom}
 use Rattle.plane.specs.declared.Wrong.{Wrong}
-use Rattle.plane.specs.declared.Wrong.the-variants.{Nowhere, At}
+use Rattle.plane.specs.declared.Wrong.the-variants.{At}
 use Rattle.plane.specs.Record.{readAll, wordBytes}
-use Rattle.plane.specs.Plane.{whole, wrongIn}
-use Rattle.plane.proofs.Scan.{both, whole-next, scan-step, scan-here}
-use Rattle.patch.specs.Base.{isThere, removeAll}
+use Rattle.plane.specs.Plane.{whole, fits, wrongIn}
+use Rattle.plane.proofs.Scan.{both, refused, passed, whole-next, scan-step, scan-here}
+use Rattle.patch.specs.Base.{removeAll}
 use Rattle.patch.specs.Cursor.{below, isFirst}
 use Rattle.patch.specs.Record.{goneKind, goneLength, goneFrom, goneRecords}
 use Rattle.patch.specs.Wrong.{goneAllowed, nextWord}
-use Rattle.patch.proofs.Cursor.{Low, low-up, low-front, ascending-drop}
-use Rattle.patch_apply.proofs.Cursor.{below-zero, below-lower, first-lower, below-past, sought, low-past, there-sought, remove-sought}
+use Rattle.patch.proofs.Cursor.{Low, low-up, low-front, ascending-drop, seek-there}
+use Rattle.patch_apply.specs.declared.Edited.the-variants as E
+use Rattle.patch_apply.specs.Steps.{edited}
+use Rattle.patch_apply.proofs.Answers.{edited-at, edited-entries}
+use Rattle.patch_apply.proofs.Pairs.{drop-pairs, pairs-part, found-lt}
+use Rattle.patch_apply.proofs.Cursor.{below-zero, below-lower, below-past, sought, low-passed, remove-sought}
 
 -- ---- one more record is read
 
@@ -38,94 +46,98 @@ module _ {A : Type 0} (size : ℕ) (read : List ℕ → A) where
 
 -- ---- the test of a word at the cursor i
 
-pub gone-test : (least w i : ℕ) (old : List Entry) → Ascending old → Low least (take i old) → below least (drop i old) ≡ 0
+gone-test : (least w i : ℕ) (old : List Entry) → Ascending old → Low least (take i old) → below least (drop i old) ≡ 0
     → goneAllowed old least w ≡ isFirst w (drop (i + below w (drop i old)) old)
 gone-test least w i old a l z =
     cases (leb least w)
-    (λ t. ap (λ (b : Bool). b && isThere (find w old)) t ∙ there-sought w i old a (low-up least w (leb-true least w t) (take i old) l))
-    (λ f. let lower = leb-false least w f in
-    let here : i + below w (drop i old) ≡ i = rw (below-lower lower (drop i old) z) (omega arith) in
-    ap (λ (b : Bool). b && isThere (find w old)) f ∙ sym (ap (λ (j : ℕ). isFirst w (drop j old)) here ∙ first-lower lower (drop i old) z))
+    (λ t. rw t (seek-there w i old (low-up least w (leb-true least w t) (take i old) l) a))
+    (λ f. let lower = below-lower (leb-false least w f) (drop i old) z in rw (f, lower .0, add-zero) (sym (lower .1)))
 
-module _ (d : List ℕ) (first k : ℕ) (old : List Entry) where
+-- old are the numbers of n entries
+module _ (d : List ℕ) (first k : ℕ) (old : List ℕ) (n : ℕ) where
+  abbrev O : List Entry
+  O = pairsFrom n old
+
   abbrev scan : ℕ → ℕ → ℕ → Wrong
-  scan least left at = wrongIn goneRecords (goneAllowed old) nextWord least left at (drop at d)
+  scan least left at = wrongIn goneRecords (goneAllowed O) nextWord least left at (drop at d)
 
   abbrev words : ℕ → ℕ → List ℕ
   words left at = readAll goneLength goneFrom left (drop at d)
 
-  -- the words before the offset `at` fit, and `kept` is what they leave of the first i entries
-  pub record Removing (at left i : ℕ) (kept : List Entry) : Type 0 where
+  -- the words before the offset `at` fit, and the first m entries of `kept` are what they leave of the first i
+  pub record Removing (at left i m : ℕ) (kept : List ℕ) : Type 0 where
     pub least : ℕ
     pub room : at ≤ length d
+    pub in-old : i ≤ n
+    pub fewer : m ≤ i
     pub scanned : scan 0 k first ≡ scan least left at
-    pub removed : removeAll (words k first) old ≡ removeAll (words left at) (kept ++ drop i old)
-    pub low : Low least kept
-    pub behind : Low least (take i old)
-    pub ahead : below least (drop i old) ≡ 0
+    pub removed : removeAll (words k first) O ≡ removeAll (words left at) (pairsFrom m kept ++ drop i O)
+    pub low : Low least (pairsFrom m kept)
+    pub behind : Low least (take i O)
+    pub ahead : below least (drop i O) ≡ 0
 
-  pub removing-starts : first ≤ length d → Removing first k 0 []
-  removing-starts h = record {
-    least = 0;
-    room = h;
-    scanned = refl;
-    removed = refl;
-    low = tt;
-    behind = tt;
-    ahead = below-zero old;
-  }
+  pub removing-starts : (kept : List ℕ) → first ≤ length d → Removing first k 0 0 kept
+  removing-starts kept h = record { least = 0; room = h; in-old = omega arith; fewer = omega arith; scanned = refl; removed = refl; low = tt; behind = tt; ahead = below-zero O }
 
-  pub removing-ends : (at left i : ℕ) (kept : List Entry) → left ≡ 0 → Removing at left i kept → (scan 0 k first ≡ Nowhere) × (removeAll (words k first) old ≡ kept ++ drop i old)
-  removing-ends at left i kept z h = (
-    h .scanned ∙ ap (λ (n : ℕ). scan (h .least) n at) z,
-    h .removed ∙ ap (λ (n : ℕ). removeAll (words n at) (kept ++ drop i old)) z ∙ ap (λ (ws : List ℕ). removeAll ws (kept ++ drop i old)) (read-none goneLength goneFrom (drop at d)),
-  )
+  module _ (at left i m : ℕ) (kept : List ℕ) (h : Removing at left i m kept) where
+    -- none is left, and the other entries are copied
+    pub removing-ends : left ≡ 0 → (xs : List ℕ) → pairsFrom (m + (n - i)) xs ≡ pairsFrom m kept ++ pairsFrom (n - i) (drop (2 * i) old)
+        → (E.Entries (m + (n - i)) ≡ edited (scan 0 k first) (removeAll (words k first) O)) × (pairsFrom (m + (n - i)) xs ≡ removeAll (words k first) O)
+    removing-ends z xs e =
+        let lies : pairsFrom (m + (n - i)) xs ≡ removeAll (words k first) O =
+        e ∙ ap (λ (x : List Entry). pairsFrom m kept ++ x) (sym (drop-pairs i n old (h .in-old))) ∙ sym (h .removed ∙ rw (z, read-none goneLength goneFrom (drop at d))) in
+        (edited-entries _ _ (h .scanned ∙ rw z) (sym (length-pairsFrom (m + (n - i)) xs) ∙ ap length lies), lies)
 
-  module _ (at left i : ℕ) (kept : List Entry) (some : 0 < left) (h : Removing at left i kept) where
-    abbrev p : List ℕ
-    p = drop at d
+    module _ (some : 0 < left) where
+      -- the bytes from the word on, as the code lends them
+      abbrev p : List ℕ
+      p = take (length d - at) (drop at d)
 
-    pub gone-cut : whole goneKind wordBytes p ≡ false → scan 0 k first ≡ At at
-    gone-cut f = h .scanned ∙ scan-here goneRecords (goneAllowed old) nextWord (h .least) left at p some (ap (λ (b : Bool). b && goneAllowed old (h .least) (goneFrom p)) f)
+      unfit : fits goneRecords (goneAllowed O) (h .least) (drop at d) ≡ false → E.At at ≡ edited (scan 0 k first) (removeAll (words k first) O)
+      unfit f = edited-at _ _ (h .scanned ∙ scan-here goneRecords (goneAllowed O) nextWord (h .least) left at (drop at d) some f)
 
-    module _ (a : Ascending old) (w : ℕ) (e : w ≡ goneFrom p) (there : whole goneKind wordBytes p ≡ true) where
-      abbrev at-word : ℕ
-      at-word = sought w i old
+      pub gone-cut : {x : Bool} → x ≡ whole goneKind wordBytes p → not x ≡ true → E.At at ≡ edited (scan 0 k first) (removeAll (words k first) O)
+      gone-cut e f = unfit (ap (λ (b : Bool). b && goneAllowed O (h .least) (goneFrom (drop at d))) (rw (rest at d) at (refused _ e f)))
 
-      test : (b : Bool) → isFirst w (drop at-word old) ≡ b → goneAllowed old (h .least) w ≡ b
-      test b f = gone-test (h .least) w i old a (h .behind) (h .ahead) ∙ f
+      -- the word w is sought
+      module _ {x : Bool} (c : x ≡ whole goneKind wordBytes p) (t : not x ≡ false) (a : Ascending O) {w j : ℕ} (e : w ≡ goneFrom p) (s : j ≡ sought w i O) where
+        word-is : w ≡ goneFrom (drop at d)
+        word-is = e ∙ ap goneFrom (rest at d)
 
-      fits-is : (b : Bool) → isFirst w (drop at-word old) ≡ b → (whole goneKind wordBytes p && goneAllowed old (h .least) (goneFrom p)) ≡ b
-      fits-is b f = ap₂ (λ (x : Bool) (v : ℕ). x && goneAllowed old (h .least) v) there (sym e) ∙ test b f
+        there : whole goneKind wordBytes (drop at d) ≡ true
+        there = rw (rest at d) at (passed x c t)
 
-      module _ (t : isFirst w (drop at-word old) ≡ true) where
-        not-lower : h .least ≤ w
-        not-lower = leb-true (h .least) w (both (leb (h .least) w) _ (test true t) .0)
+        test : (b : Bool) → isFirst w (drop j O) ≡ b → goneAllowed O (h .least) w ≡ b
+        test b f = gone-test (h .least) w i O a (h .behind) (h .ahead) ∙ (rw s at f)
 
-        low-kept : Low w kept
-        low-kept = low-up (h .least) w not-lower kept (h .low)
+        fits-is : (b : Bool) → isFirst w (drop j O) ≡ b → fits goneRecords (goneAllowed O) (h .least) (drop at d) ≡ b
+        fits-is b f = ap₂ (λ (x : Bool) (v : ℕ). x && goneAllowed O (h .least) v) there (sym word-is) ∙ test b f
 
-        stepped : Removing (at + goneLength) (left - 1) (at-word + 1) (kept ++ take (below w (drop i old)) (drop i old))
-        stepped = record {
-          least = suc w;
-          room = whole-next goneKind wordBytes at d there;
-          scanned = h .scanned ∙ scan-step goneRecords (goneAllowed old) nextWord (h .least) left at d some (fits-is true t)
-              ∙ ap (λ (v : ℕ). scan (suc v) (left - 1) (at + goneLength)) (sym e);
-          removed = h .removed ∙ ap (λ (ws : List ℕ). removeAll ws (kept ++ drop i old)) (read-step goneLength goneFrom left at d some)
-              ∙ ap (λ (v : ℕ). removeAll (words (left - 1) (at + goneLength)) (remove v (kept ++ drop i old))) (sym e)
-              ∙ ap (removeAll (words (left - 1) (at + goneLength))) (remove-sought w i old kept low-kept t);
-          low = low-up w (suc w) (omega arith) (kept ++ take (below w (drop i old)) (drop i old)) (low-front w kept (drop i old) low-kept);
-          behind = low-past w i old (low-up (h .least) w not-lower (take i old) (h .behind)) t;
-          ahead = ap (below (suc w)) (sym (drop-drop 1 at-word old)) ∙ below-past w (drop at-word old) (ascending-drop at-word old a) t;
-        }
+        pub gone-absent : {y : Bool} → y ≡ isFirst w (drop j O) → not y ≡ true → E.At at ≡ edited (scan 0 k first) (removeAll (words k first) O)
+        gone-absent v f = unfit (fits-is false (refused _ v f))
 
-      pub gone-absent : (j : ℕ) → j ≡ at-word → isFirst w (drop j old) ≡ false → scan 0 k first ≡ At at
-      gone-absent j s f =
-          h .scanned
-          ∙ scan-here goneRecords (goneAllowed old) nextWord (h .least) left at p some (fits-is false (ap (λ (n : ℕ). isFirst w (drop n old)) (sym s) ∙ f))
-
-      pub removing-step : (j : ℕ) → j ≡ at-word → isFirst w (drop j old) ≡ true → Removing (at + goneLength) (left - 1) (j + 1) (kept ++ take (j - i) (drop i old))
-      removing-step j s t =
-          let q : j - i ≡ below w (drop i old) = omega (arith, s) in
-          let u = stepped (ap (λ (n : ℕ). isFirst w (drop n old)) (sym s) ∙ t) in
-          rw (q, s) u
+        pub removing-step : {y : Bool} → y ≡ isFirst w (drop j O) → not y ≡ false → (kept₁ : List ℕ) → pairsFrom (m + (j - i)) kept₁ ≡ pairsFrom m kept ++ pairsFrom (j - i) (drop (2 * i) old)
+            → Removing (at + goneLength) (left - 1) (j + 1) (m + (j - i)) kept₁
+        removing-step v u kept₁ y =
+            let f = passed _ v u in
+            let before = found-lt n w j old f in
+            let x : j - i ≡ below w (drop i O) = omega (arith, s) in
+            let not-lower : h .least ≤ w = leb-true (h .least) w (both (leb (h .least) w) _ (test true f) .0) in
+            let low-kept : Low w (pairsFrom m kept) = low-up (h .least) w not-lower (pairsFrom m kept) (h .low) in
+            let front : List Entry = pairsFrom m kept ++ take (below w (drop i O)) (drop i O) in
+            let grown : pairsFrom (m + (j - i)) kept₁ ≡ front = y ∙ rw (pairs-part i (j - i) n old (omega (arith, s)), x) in
+            let is : remove w (pairsFrom m kept ++ drop i O) ≡ pairsFrom (m + (j - i)) kept₁ ++ drop (j + 1) O = rw (grown, s) (remove-sought w i O (pairsFrom m kept) low-kept (rw s at f)) in
+            record {
+              least = suc w;
+              room = whole-next goneKind wordBytes at d there;
+              in-old = omega arith;
+              fewer = let v = h .fewer in omega (arith, s);
+              scanned = h .scanned ∙ scan-step goneRecords (goneAllowed O) nextWord (h .least) left at d some (fits-is true f)
+                  ∙ ap (λ (v : ℕ). scan (suc v) (left - 1) (at + goneLength)) (sym word-is);
+              removed = h .removed ∙ ap (λ (ws : List ℕ). removeAll ws (pairsFrom m kept ++ drop i O)) (read-step goneLength goneFrom left at d some)
+                  ∙ ap (λ (v : ℕ). removeAll (words (left - 1) (at + goneLength)) (remove v (pairsFrom m kept ++ drop i O))) (sym word-is)
+                  ∙ ap (removeAll (words (left - 1) (at + goneLength))) is;
+              low = rw grown (low-up w (suc w) (omega arith) front (low-front w (pairsFrom m kept) (drop i O) low-kept));
+              behind = rw s (rw (rw s at f) at (low-passed w i O (low-up (h .least) w not-lower (take i O) (h .behind))));
+              ahead = ap (below (suc w)) (sym (drop-drop 1 j O)) ∙ below-past w (drop j O) (ascending-drop j O a) f;
+            }

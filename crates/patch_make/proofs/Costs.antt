@@ -1,35 +1,33 @@
 -- "Changing one plan costs at most 89 bytes, and 22 if the plan was that already": for any sound table and any accepted change.
 -- Assumes nothing.
-use Prim.Native.Nat.{ℕ, suc, suc-le-suc, _+_, _*_, _/_, _^_, _≤_, _<_}
+use Prim.Native.Nat.{ℕ, suc, suc-le-suc, _+_, _*_, _/_, _≤_, _<_}
 use native.Mathlib.Nat.{mod-lt, zero-lt-suc}
 use native.Mathlib.Omega.{arith}
-use mathlib.Core.Path.{_≡_, refl, sym, ap, ap₂, _∙_, subst, subst⁻¹}
-use mathlib.Core.Bool.{Bool, true, false, cond, not}
+use mathlib.Core.Path.{_≡_, refl, sym, ap, ap₂, _∙_}
+use mathlib.Core.Bool.{Bool, true, false, cond}
 use mathlib.Core.Option.{Option, none, some}
 use mathlib.Core.List.{List, [], _∷_, _++_, map}
 use lib.Bits.{xor-self}
-use lib.Dec.{ltb}
 use lib.ListN.{length, getD, set, length-map}
 use lib.Seq.{set-append-left, map-set-same}
 use Rattle.lists.specs.Lists.{Every}
 use Rattle.lists.specs.Entries.{Entry, planLimit, find, update, Ascending}
-use Rattle.lists.proofs.Tests.{cases, by-test, cond-true, cond-false}
+use Rattle.lists.proofs.Tests.{cases, by-test}
 use Rattle.lists.proofs.Keep.{map-set}
-use Rattle.lists.proofs.Entries.{update-length}
-use Rattle.gf2.specs.Vectors.{solStep}
+use Rattle.gf2.proofs.Solutions.{solStep-none}
 use Rattle.hash.specs.Mix.{mixOf}
 use Rattle.hash.specs.Fnv.{fnvOf}
 use Rattle.hash.proofs.FnvLaws.{fnv-lt}
-use Rattle.answer.specs.declared.Answer.{Answer}
+use Rattle.answer.specs.Numbers.{numberOf}
 use Rattle.answer.specs.declared.Answer.the-variants.{Accepted}
 use Rattle.identifier.specs.Place.{thresholds}
-use Rattle.identifier.specs.Identifier.{sized, firstRefused, readOf}
+use Rattle.identifier.specs.Identifier.{readOf}
 use Rattle.identifier.specs.declared.Read.{Read}
 use Rattle.identifier.specs.declared.Read.the-variants.{Word, Refused}
-use Rattle.identifier.proofs.Causes.{read-word}
-use Rattle.identifier.proofs.Words.{word-lt}
 use Rattle.model.specs.Model.{change}
+use Rattle.model.specs.Request.{ask}
 use Rattle.model.specs.Machine.{after}
+use Rattle.model.proofs.Requests.{Reads, reads}
 use Rattle.bucket.specs.declared.Bucket.{Bucket}
 use Rattle.bucket.specs.Bucket as B
 use Rattle.bucket_settle.specs.Settle.{SoundBucket, planOf}
@@ -37,17 +35,18 @@ use Rattle.table.specs.Table as C
 use Rattle.table.specs.Table.{Table}
 use Rattle.table.specs.Layout.{numbersOf}
 use Rattle.table.specs.Calls.{rows, solutions, tableOf, planIn, shaped, sound, FlatSound, Outcome, replaced, served, callRead, call}
-use Rattle.table.specs.History.{Put, tables, Opened}
+use Rattle.table.specs.History.{Put, tables, Opened, flatState}
 use Rattle.table.proofs.Numbers.{back}
-use Rattle.table.proofs.Statements.{sound-exactly, causes-else, served-sound, always-sound}
+use Rattle.table.proofs.Calls.{call-match}
+use Rattle.table.proofs.Statements.{sound-exactly, causes-else, sound-stands, stands-sound, always-sound}
 use Rattle.plane.specs.Record.{format1, PlaneBucket, endLength}
 use Rattle.plane.specs.Plane.{Plane, planeBytes}
 use Rattle.plane.specs.Fits.{Fits}
 use Rattle.plane.proofs.Round.{written-read}
 use Rattle.plane_write.specs.Write.{seenOf, planeOf}
-use Rattle.plane_write.proofs.Shown.{Words, Narrow, Sols, narrow}
+use Rattle.plane_write.proofs.Shown.{live-plan, Words, Narrow, Sols, narrow}
 use Rattle.plane_write.proofs.Accepted.{fits}
-use Rattle.plane_write.proofs.Bounded.{Bounded, BoundedTable, changed, touched, read-back, level-sols, after-sols}
+use Rattle.plane_write.proofs.Bounded.{Bounded, BoundedTable, read-back, changed-bounded, request-bounded, bounded-sols, after-sols}
 use Rattle.patch.specs.Base.{goneOf, newsOf}
 use Rattle.patch.specs.Record.{changeLength, goneLength, newLength}
 use Rattle.patch.specs.Wrong.{changesAt}
@@ -59,20 +58,13 @@ use Rattle.patch_make.proofs.Small.{changes-none, changes-one, set-seco
 
 -- ---- one bucket
 
-step-none : (u : ℕ) (ss : List ℕ) → solStep u 0 ss ≡ ss
-step-none u [] = refl
-step-none u (s ∷ ss) = ap (λ (l : List ℕ). s ∷ l) (step-none u ss)
-
-some-inj : {a b : ℕ} → _≡_ {A = Option ℕ} (some a) (some b) → a ≡ b
-some-inj e = cc
-
 -- a change to the plan that the vector has shows nothing new
 seen-same : (n v p : ℕ) (b : Bucket) → planOf n v b ≡ some p → seenOf (B.change n v p b .bucket) ≡ seenOf b
 unfolding B.change B.changeAt
 seen-same n v p b e =
     cases (B.live n v b)
-    (λ t. let q : B.lookup b v ≡ p = some-inj (sym (cond-true (some (B.lookup b v)) none t) ∙ e) in
-    rw (t, q, xor-self p) (ap (λ (l : List ℕ). record { bound = b .bound; sols = l }) (step-none (getD (b .cols) (B.rowOf n v b) 0) (b .sols))))
+    (λ t. let q : B.lookup b v ≡ p = live-plan (B.live n v b) (B.lookup b v) p e in
+    rw (t, q, xor-self p) (ap (λ (l : List ℕ). record { bound = b .bound; sols = l }) (solStep-none (getD (b .cols) (B.rowOf n v b) 0) (b .sols))))
     (λ f. rw f refl)
 
 -- ---- the plane of a table in which the live word w, of the plan q, gets the plan p
@@ -82,30 +74,29 @@ abbrev recordsLength : Plane → Plane → ℕ
 recordsLength P Q =
     length (changesOf 0 (bucketsOf P) (bucketsOf Q)) * changeLength format1 + length (goneOf (P .base) (Q .base)) * goneLength + length (newsOf (P .base) (Q .base)) * newLength
 
-module _ (n r : ℕ) (S : ℕ → ℕ) (T : Table) (asc : Ascending (T .base)) (some1 : 0 < length (T .level1)) (some2 : 0 < length (T .level2)) (w q : ℕ) (live : C.planIn n r S T w ≡ some q) where
-  abbrev h1 : Bool
-  h1 = C.holds n r S (T .level1) w
+-- a choice by two tests, where the plan chosen by them is some q
+choice : (P : Table → Type 0) (a b : Bool) (x y z : Option ℕ) {T1 T2 T3 : Table} (q : ℕ) → cond a x (cond b y z) ≡ some q → (x ≡ some q → P T1) → (y ≡ some q → P T2) → (z ≡ some q → P T3)
+    → P (cond a T1 (cond b T2 T3))
+choice P true b x y z q e f g h = f e
+choice P false true x y z q e f g h = g e
+choice P false false x y z q e f g h = h e
 
+module _ (n r : ℕ) (S : ℕ → ℕ) (T : Table) (asc : Ascending (T .base)) (some1 : 0 < length (T .level1)) (w q : ℕ) (live : C.planIn n r S T w ≡ some q) where
   abbrev v : ℕ
   v = C.second S w
 
-  abbrev h2 : Bool
-  h2 = C.holds n r S (T .level2) v
+  abbrev i1 : ℕ
+  i1 = C.index S (length (T .level1)) w
 
-  abbrev b1 : Bucket
-  b1 = C.bucketOf n r S (T .level1) w
+  abbrev i2 : ℕ
+  i2 = C.index S (length (T .level2)) v
 
-  abbrev b2 : Bucket
-  b2 = C.bucketOf n r S (T .level2) v
+  -- its bucket at each level, after the change to p
+  abbrev c1 : ℕ → Bucket
+  c1 p = B.change n w p (C.bucketOf n r S (T .level1) w) .bucket
 
-  live1 : h1 ≡ true → planOf n w b1 ≡ some q
-  live1 t = sym (cond-true (planOf n w b1) (cond h2 (planOf n v b2) (find v (T .base))) t) ∙ live
-
-  live2 : h1 ≡ false → h2 ≡ true → planOf n v b2 ≡ some q
-  live2 f t = sym (cond-true (planOf n v b2) (find v (T .base)) t) ∙ sym (cond-false (planOf n w b1) (cond h2 (planOf n v b2) (find v (T .base))) f) ∙ live
-
-  live3 : h1 ≡ false → h2 ≡ false → find v (T .base) ≡ some q
-  live3 f g = sym (cond-false (planOf n v b2) (find v (T .base)) g) ∙ sym (cond-false (planOf n w b1) (cond h2 (planOf n v b2) (find v (T .base))) f) ∙ live
+  abbrev c2 : ℕ → Bucket
+  c2 p = B.change n v p (C.bucketOf n r S (T .level2) v) .bucket
 
   abbrev A : List PlaneBucket
   A = map seenOf (T .level1)
@@ -113,43 +104,36 @@ module _ (n r : ℕ) (S : ℕ → ℕ) (T : Table) (asc : Ascending (T .base)) (
   abbrev Z : List PlaneBucket
   Z = map seenOf (T .level2)
 
-  -- one record at most, to the table U's plane
-  abbrev Cheap : Table → Type 0
-  Cheap U = recordsLength (planeOf T) (planeOf U) ≤ changeLength format1
+  by-level : (P : Table → Type 0) {T1 T2 T3 : Table} → (planOf n w (C.bucketOf n r S (T .level1) w) ≡ some q → P T1) → (planOf n v (C.bucketOf n r S (T .level2) v) ≡ some q → P T2)
+      → (find v (T .base) ≡ some q → P T3) → P (cond (C.holds n r S (T .level1) w) T1 (cond (C.holds n r S (T .level2) v) T2 T3))
+  by-level P = choice P (C.holds n r S (T .level1) w) (C.holds n r S (T .level2) v) _ _ _ q live
 
   -- one bucket set
-  one-bucket : (i : ℕ) (c : PlaneBucket) (bs : List PlaneBucket) → bs ≡ set (A ++ Z) i c
-      → length (changesOf 0 (A ++ Z) bs) * changeLength format1 + length (goneOf (T .base) (T .base)) * goneLength + length (newsOf (T .base) (T .base)) * newLength ≤ changeLength format1
-  one-bucket i c bs e =
+  one-bucket : (i : ℕ) (c : PlaneBucket) (Q : Plane) → bucketsOf Q ≡ set (A ++ Z) i c → Q .base ≡ T .base → recordsLength (planeOf T) Q ≤ changeLength format1
+  one-bucket i c Q e f =
       let l : length (changesOf 0 (A ++ Z) (set (A ++ Z) i c)) ≤ 1 = changes-one 0 (A ++ Z) i c in
-      rw (e, gone-same (T .base) asc, news-same (T .base) asc) (omega arith)
+      rw (e, f, gone-same (T .base) asc, news-same (T .base) asc) (omega arith)
 
-  pub change-cheap : (p : ℕ) → Cheap (C.changedIn n r S T w p)
+  -- one record at most
+  pub change-cheap : (p : ℕ) → recordsLength (planeOf T) (planeOf (C.changedIn n r S T w p)) ≤ changeLength format1
   change-cheap p =
-      by-test Cheap h1
-      (λ t. let i : ℕ = C.index S (length (T .level1)) w in
-      let c : Bucket = B.change n w p b1 .bucket in
-      one-bucket i (seenOf c) (map seenOf (set (T .level1) i c) ++ Z)
-      (ap (λ (l : List PlaneBucket). l ++ Z) (map-set seenOf (T .level1) i c) ∙ sym (set-append-left A Z i (seenOf c) (rw (length-map (T .level1) seenOf) (mod-lt (S w / thresholds) some1)))))
-      (λ f. by-test Cheap h2
-      (λ t. let i : ℕ = C.index S (length (T .level2)) v in
-      let c : Bucket = B.change n v p b2 .bucket in
-      one-bucket (length A + i) (seenOf c) (A ++ map seenOf (set (T .level2) i c))
-      (ap (λ (l : List PlaneBucket). A ++ l) (map-set seenOf (T .level2) i c) ∙ sym (set-second A Z i (seenOf c))))
-      (λ g. let e : Entry = record { word = v; plan = p } in
+      let e : Entry = record { word = v; plan = p } in
       let l : length (newsOf (T .base) (update e (T .base))) ≤ 1 = news-update (T .base) asc e in
-      rw (changes-none 0 (A ++ Z), gone-update (T .base) asc e q (live3 f g)) (omega arith)))
+      by-level (λ (U : Table). recordsLength (planeOf T) (planeOf U) ≤ changeLength format1)
+      (λ _. one-bucket i1 (seenOf (c1 p)) (planeOf (C.withFirst T (set (T .level1) i1 (c1 p))))
+      (ap (λ (l : List PlaneBucket). l ++ Z) (map-set seenOf (T .level1) i1 (c1 p))
+      ∙ sym (set-append-left A Z i1 (seenOf (c1 p)) (rw (length-map (T .level1) seenOf) (mod-lt (S w / thresholds) some1)))) refl)
+      (λ _. one-bucket (length A + i2) (seenOf (c2 p)) (planeOf (C.withSecond T (set (T .level2) i2 (c2 p))))
+      (ap (λ (l : List PlaneBucket). A ++ l) (map-set seenOf (T .level2) i2 (c2 p)) ∙ sym (set-second A Z i2 (seenOf (c2 p)))) refl)
+      (λ f. rw (changes-none 0 (A ++ Z), gone-update (T .base) asc e q f) (omega arith))
 
   -- to the plan that it has
   pub change-same : planeOf (C.changedIn n r S T w q) ≡ planeOf T
   change-same =
-      by-test (λ (U : Table). planeOf U ≡ planeOf T) h1
-      (λ t. ap (λ (l : List PlaneBucket). record { level1 = l; level2 = Z; base = T .base })
-      (map-set-same seenOf (T .level1) (C.index S (length (T .level1)) w) (B.change n w q b1 .bucket) (B.emptyBucket n r) (seen-same n w q b1 (live1 t))))
-      (λ f. by-test (λ (U : Table). planeOf U ≡ planeOf T) h2
-      (λ t. ap (λ (l : List PlaneBucket). record { level1 = A; level2 = l; base = T .base })
-      (map-set-same seenOf (T .level2) (C.index S (length (T .level2)) v) (B.change n v q b2 .bucket) (B.emptyBucket n r) (seen-same n v q b2 (live2 f t))))
-      (λ g. ap (λ (l : List Entry). record { level1 = A; level2 = Z; base = l }) (update-same (T .base) asc (record { word = v; plan = q }) (live3 f g))))
+      by-level (λ (U : Table). planeOf U ≡ planeOf T)
+      (λ e. ap (λ (l : List PlaneBucket). record { level1 = l; level2 = Z; base = T .base }) (map-set-same seenOf (T .level1) i1 (c1 q) (B.emptyBucket n r) (seen-same n w q _ e)))
+      (λ e. ap (λ (l : List PlaneBucket). record { level1 = A; level2 = l; base = T .base }) (map-set-same seenOf (T .level2) i2 (c2 q) (B.emptyBucket n r) (seen-same n v q _ e)))
+      (λ e. ap (λ (l : List Entry). record { level1 = A; level2 = Z; base = l }) (update-same (T .base) asc (record { word = v; plan = q }) e))
 
 -- ---- the numbers of a table
 
@@ -161,15 +145,6 @@ level-bounded (b ∷ bs) s w =
       level-bounded bs (λ i l. s (suc i) (suc-le-suc l)) (w .1),
     )
 
--- a refusal is no acceptance
-refused-not : (id : List ℕ) (a : Answer) (q : ℕ) → readOf id ≡ Refused a → a ≡ Accepted q → ⊥
-unfolding readOf
-refused-not id a q =
-    by-test (λ (x : Read). x ≡ Refused a → a ≡ Accepted q → ⊥) (not (sized (length id)))
-    (λ _ e f. let z : _≡_ {A = ℕ} 0 1 = cc in omega arith)
-    (λ _. by-test (λ (x : Read). x ≡ Refused a → a ≡ Accepted q → ⊥) (ltb (firstRefused id) (length id))
-    (λ _ e f. let z : _≡_ {A = ℕ} 0 1 = cc in omega arith) (λ _ e f. let z : _≡_ {A = ℕ} 0 1 = cc in omega arith))
-
 -- an accepted change: its word, of the plan q, is live in a sound table
 record Was (t id : List ℕ) (p q : ℕ) : Type 0 where
   pub word : ℕ
@@ -180,20 +155,20 @@ record Was (t id : List ℕ) (p q : ℕ) : Type 0 where
 
 was : (t id : List ℕ) (p q : ℕ) → call t (change id p) .answer ≡ Accepted q → Was t id p q
 unfolding call served
-was t id p q e = go (readOf id) refl e
+was t id p q e = go (readOf id) refl (reads (change id p)) e
   where
-    found : (w : ℕ) (T : Table) (o : Option ℕ) → replaced t T o .answer ≡ Accepted q → o ≡ some q
-    found w T (some x) f = let z : x ≡ q = cc in ap some z
-    found w T none f = let z : _≡_ {A = ℕ} 0 1 = cc in absurd (omega arith)
+    found : (T : Table) (o : Option ℕ) → replaced t T o .answer ≡ Accepted q → o ≡ some q
+    found T (some x) f = cc
+    found T none f = cc
 
-    go : (x : Read) → readOf id ≡ x → callRead t (change id p) x .answer ≡ Accepted q → Was t id p q
-    go (Refused a) i = λ f. absurd (refused-not id a q i f)
-    go (Word w) i =
+    go : (x : Read) → readOf id ≡ x → Reads (change id p) x → callRead t (change id p) x .answer ≡ Accepted q → Was t id p q
+    go (Refused a) i k = λ f. absurd (omega (arith, ap numberOf f))
+    go (Word w) i k =
         by-test (λ (o : Outcome). o .answer ≡ Accepted q → Was t id p q) (shaped t)
         (λ k. by-test (λ (o : Outcome). o .answer ≡ Accepted q → Was t id p q) (sound t)
-        (λ s f. record { word = w; read = i; shape = k; tested = s; live = found w (C.changedIn rows solutions mixOf (tableOf t) w p) (planIn t w) f })
-        (λ _ f. let z : _≡_ {A = ℕ} 0 1 = cc in absurd (omega arith)))
-        (λ _ f. let z : _≡_ {A = ℕ} 0 1 = cc in absurd (omega arith))
+        (λ s f. record { word = w; read = i; shape = k; tested = s; live = found (C.changedIn rows solutions mixOf (tableOf t) w p) (planIn t w) f })
+        (λ _ f. absurd (omega (arith, ap numberOf f))))
+        (λ _ f. absurd (omega (arith, ap numberOf f)))
 
 module _ (t : List ℕ) (flat : FlatSound t) (sols : Sols (tableOf t)) (id : List ℕ) (p q : ℕ) (byte : p < planLimit) (e : call t (change id p) .answer ≡ Accepted q) where
   -- the table after the change
@@ -209,26 +184,15 @@ module _ (t : List ℕ) (flat : FlatSound t) (sols : Sols (tableOf t)) (id : Lis
   abbrev U : Table
   U = C.changedIn rows solutions mixOf T (h .word) p
 
-  word-is : h .word < 2 ^ 64
-  word-is = rw (read-word id (h .word) .0 (h .read) .2) (word-lt id)
-
-  served-is : served t (h .word) (change id p) ≡ record { answer = Accepted q; table = numbersOf U }
-  unfolding served
-  served-is = ap (replaced t U) (h .live)
-
   then : u ≡ numbersOf U
-  then = ap (λ (o : Outcome). o .table) (causes-else t (change id p) (h .word) (h .read) (h .shape) (h .tested) ∙ served-is)
+  unfolding served
+  then = ap (λ (o : Outcome). o .table) (causes-else t (change id p) (h .word) (h .read) (h .shape) (h .tested) ∙ ap (replaced t U) (h .live))
 
   bounded : BoundedTable rows solutions T
   bounded = record { level1 = level-bounded (T .level1) (flat .table .level1 .buckets) (sols .0); level2 = level-bounded (T .level2) (flat .table .level2 .buckets) (sols .1); fits = flat .table .fits }
 
-  bounded-after : BoundedTable rows solutions U
-  bounded-after =
-      touched rows solutions mixOf T bounded (h .word) (λ v b. B.change rows v p b .bucket) (λ v es. update (record { word = v; plan = p }) es) (λ v b k. changed rows solutions b k v p)
-      (λ v. let l = update-length (record { word = v; plan = p }) (T .base) in omega arith)
-
   table-after : tableOf u ≡ U
-  table-after = ap tableOf then ∙ back rows solutions U (read-back rows solutions U bounded-after)
+  table-after = ap tableOf then ∙ back rows solutions U (read-back rows solutions U (changed-bounded t bounded (h .word) p))
 
   -- the planes before and after
   abbrev P : Plane
@@ -240,14 +204,10 @@ module _ (t : List ℕ) (flat : FlatSound t) (sols : Sols (tableOf t)) (id : Lis
   fits-before : Fits format1 P
   fits-before = fits t sols (h .shape) flat
 
-  sound-after : (shaped u ≡ true) × FlatSound u
-  sound-after =
-      subst (λ (x : List ℕ). (shaped x ≡ true) × FlatSound x) (ap (λ (o : Outcome). o .table) served-is ∙ sym then)
-      (served-sound t (h .shape) flat (h .word) word-is (change id p) byte)
-
   fits-after : Fits format1 Q
   fits-after =
-      fits u (subst⁻¹ Sols table-after (level-sols (U .level1) (bounded-after .level1), level-sols (U .level2) (bounded-after .level2))) (sound-after .0) (sound-after .1)
+      let k = stands-sound u _ (call-match t (flatState t) (sound-stands t (h .shape) flat) (change id p) byte .stands) in
+      fits u (bounded-sols u (request-bounded t bounded (ask (change id p)))) (k .0) (k .2)
 
   -- the patch from the plane before to the plane after
   abbrev D : Patch
@@ -266,14 +226,14 @@ module _ (t : List ℕ) (flat : FlatSound t) (sols : Sols (tableOf t)) (id : Lis
 
   at-most : length (patchBytes format1 D) ≤ 89
   at-most =
-      let c = change-cheap rows solutions mixOf T (flat .table .ascending) (flat .table .level1 .some) (flat .table .level2 .some) (h .word) q (h .live) p in
+      let c = change-cheap rows solutions mixOf T (flat .table .ascending) (flat .table .level1 .some) (h .word) q (h .live) p in
       rw (size-is, table-after) (omega (arith, c))
 
   if-same : p ≡ q → length (patchBytes format1 D) ≡ 22
   if-same i =
       let s : planeOf U ≡ P =
       ap (λ (x : ℕ). planeOf (C.changedIn rows solutions mixOf T (h .word) x)) i
-      ∙ change-same rows solutions mixOf T (flat .table .ascending) (flat .table .level1 .some) (flat .table .level2 .some) (h .word) q (h .live) in
+      ∙ change-same rows solutions mixOf T (flat .table .ascending) (flat .table .level1 .some) (h .word) q (h .live) in
       let k : Q ≡ P = ap planeOf table-after ∙ s in
       size-is
       ∙ ap (λ (X : Plane). changesAt + recordsLength P X + endLength) k

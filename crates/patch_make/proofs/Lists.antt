@@ -12,15 +12,13 @@ use borrow.Author.Tests.{eq-eqb}
 use Rattle.answer.specs.declared.Answer.the-variants.{Accepted}
 use Rattle.identifier.specs.Identifier.{readOf}
 use Rattle.identifier.specs.declared.Read.the-variants.{Word}
-use Rattle.identifier.proofs.Causes.{read-word}
-use Rattle.identifier.proofs.Words.{word-lt}
 use Rattle.model.specs.Model.{Size}
 use Rattle.model.specs.Machine.{after}
 use Rattle.model.specs.History.{told}
 use Rattle.table.specs.Table.{Table}
-use Rattle.table.specs.Calls.{rows, solutions, tableOf}
+use Rattle.table.specs.Calls.{tableOf}
 use Rattle.table.specs.History.{Put, tables, Opened, acceptedCalls, flatState}
-use Rattle.table.proofs.Statements.{list-size, always-sound, plan}
+use Rattle.table.proofs.Statements.{list-size, always-sound}
 use Rattle.plane.specs.declared.Wrong.the-variants.{Nowhere}
 use Rattle.plane.specs.Record.{format1}
 use Rattle.plane.specs.Plane.{planeBytes, wrongAt}
@@ -29,10 +27,10 @@ use Rattle.plane.specs.Fits.{Fits}
 use Rattle.plane.proofs.Round.{written-right}
 use Rattle.plane.proofs.Exact.{AllBytes}
 use Rattle.plane.proofs.Octets.{plane-octets}
-use Rattle.plane_write.specs.Write.{seenOf, planeOf, Written, putFront, shownTo}
-use Rattle.plane_write.proofs.Shown.{live-shown}
+use Rattle.plane_write.specs.Write.{seenOf, planeOf, Written, putFront}
 use Rattle.plane_write.proofs.Accepted.{fits, shows}
 use Rattle.plane_write.proofs.Bounded.{after-sols}
+use Rattle.plane_write.proofs.Statements.{told-shown}
 use Rattle.patch.specs.Patch.{patchBytes, patchOf}
 use Rattle.patch.specs.Calls.{alike, makeCall, applyCall}
 use Rattle.patch_make.specs.After.{planeAfter}
@@ -86,7 +84,4 @@ module _ (t : List ℕ) (o : Opened t) where
 
   -- the plane gives every live identifier its word's last accepted plan
   pub plane-tells : (ps : List Put) (id : List ℕ) (v p : ℕ) → readOf id ≡ Word v → told v (acceptedCalls t ps) ≡ some p → lookupCall id (planeAfter t ps) ≡ Accepted p
-  plane-tells ps id v p i h =
-      let k = always-sound t o ps in
-      shows (after tables t ps) (after-sols t o ps) (k .0) (k .2) id ∙ ap (shownTo (tableOf (after tables t ps))) i
-      ∙ ap Accepted (live-shown rows solutions (tableOf (after tables t ps)) v p (plan t o ps v (rw (read-word id v .0 i .2) (word-lt id)) ∙ h))
+  plane-tells ps id v p i h = let k = always-sound t o ps in shows (after tables t ps) (after-sols t o ps) (k .0) (k .2) id ∙ told-shown t o ps id v p i h

@@ -7,17 +7,17 @@ use native.Mathlib.Numerals.{add-one}
 use native.Mathlib.Omega.{arith}
 use mathlib.Core.Path.{_≡_, refl, sym, ap, ap₂, _∙_, subst}
 use mathlib.Core.Bool.{Bool, true, false, cond, not, true≢false}
-use mathlib.Core.List.{List, [], _∷_, _++_, map}
+use mathlib.Core.List.{List, [], _∷_, _++_}
 use lib.Dec.{eqb, ltb}
-use lib.ListN.{length, getD, set, take, drop, length-append, length-drop, drop-of-length-le}
-use lib.Seq.{drop-drop, take-at}
+use lib.ListN.{length, getD, take, drop, length-append, length-drop, drop-of-length-le}
+use lib.Seq.{drop-drop}
 use borrow.Author.Tests.{eq-eqb, ne-eqb, eqb-true, eqb-false, ltb-true, ltb-false}
-use Rattle.codec.specs.Bytes.{toBytes, eqList}
+use Rattle.codec.specs.Bytes.{eqList}
 use Rattle.codec.specs.Parts.{written}
-use Rattle.codec.proofs.Part.{length-written, written-none, written-append, written-more, written-cons}
+use Rattle.codec.proofs.Part.{length-written, written-none, written-append}
 use Rattle.codec.proofs.Round.{length-toBytes}
 use Rattle.lists.specs.Lists.{keep, Every}
-use Rattle.lists.specs.Entries.{Entry, planLimit, find, Above, Ascending}
+use Rattle.lists.specs.Entries.{Entry, planLimit, find, words, Above, Ascending}
 use Rattle.lists.proofs.Tests.{cases}
 use Rattle.lists.proofs.Parts.{stretch, length-stretch}
 use Rattle.lists.proofs.Every.{mem-every, every-at}
@@ -25,15 +25,15 @@ use Rattle.lists.proofs.Entries.{above-mem}
 use Rattle.table.specs.Layout.{mostBuckets1, mostBuckets2, pairsFrom}
 use Rattle.table.proofs.Numbers.{length-pairsFrom, read-pair}
 use Rattle.plane.specs.declared.Wrong.the-variants.{Nowhere}
-use Rattle.plane.specs.Record.{Format, wordBytes, entryBody, bytesOf, PlaneBucket, bucketBody, bucketLength, bucketBytes, bucketFrom}
+use Rattle.plane.specs.Record.{Format, wordBytes, bytesOf, PlaneBucket, bucketBody, bucketLength, bucketBytes, bucketFrom}
 use Rattle.plane.specs.Plane.{planeFrom, wrongAt, buckets1, buckets2, bucketCount, bucketsAt, entriesAt}
 use Rattle.plane.specs.Fits.{FitsEntry}
 use Rattle.plane.proofs.Scan.{both, known}
-use Rattle.plane.proofs.Read.{length-readAll, getD-readAll}
-use Rattle.plane.proofs.Exact.{AllBytes, bytes-drop, bucket-body, buckets-read}
+use Rattle.plane.proofs.Read.{getD-readAll}
+use Rattle.plane.proofs.Exact.{AllBytes, bytes-drop, bucket-taken, buckets-read, buckets-length}
 use Rattle.patch.specs.Base.{isThere, has, goneOf, newsOf}
 use Rattle.patch.specs.Cursor.{below, isFirst}
-use Rattle.patch.specs.Record.{changeLength, changeRecord, goneLength, goneRecord, newKind, newLength, newRecord}
+use Rattle.patch.specs.Record.{Change, changeLength, changeRecord, goneLength, goneRecord, newLength, newRecord}
 use Rattle.patch.specs.Patch.{changesOf, bucketsOf}
 use Rattle.patch.specs.Calls.{alike}
 use Rattle.patch.proofs.Steps.{changes-step}
@@ -47,39 +47,29 @@ pub record Left (whole : List ℕ) (first : ℕ) (out₀ left : List ℕ) (at : 
   pub bytes : written at left out ≡ written first whole out₀
   pub end : at + length left ≡ first + length whole
 
-pub left-all : (whole : List ℕ) (first : ℕ) (out : List ℕ) → Left whole first out whole first out
-left-all whole first out = record { bytes = refl; end = refl }
+pub left-all : {whole : List ℕ} {first : ℕ} {out : List ℕ} → Left whole first out whole first out
+left-all = record { bytes = refl; end = refl }
 
-module _ (whole : List ℕ) (first : ℕ) (out₀ : List ℕ) where
+module _ {whole : List ℕ} {first : ℕ} {out₀ left : List ℕ} {at : ℕ} {out : List ℕ} (h : Left whole first out₀ left at out) where
   -- the part p is written
-  pub left-less : (left p rest : List ℕ) (at r : ℕ) (out o : List ℕ) → Left whole first out₀ left at out → left ≡ p ++ rest → r ≡ at + length p → o ≡ written at p out
-      → Left whole first out₀ rest r o
-  left-less left p rest at r out o h e n f = record {
+  pub left-less : (p : List ℕ) {rest : List ℕ} {r : ℕ} {o : List ℕ} → left ≡ p ++ rest → r ≡ at + length p → o ≡ written at p out → Left whole first out₀ rest r o
+  left-less p {rest} e n f = record {
     bytes = rw (n, f) (sym (written-append at p rest out) ∙ ap (λ (l : List ℕ). written at l out) (sym e) ∙ h .bytes);
     end = rw n (omega (arith, ap length e ∙ length-append p rest, h .end));
   }
 
   -- nothing is left
-  pub left-none : (left : List ℕ) (at : ℕ) (out : List ℕ) → Left whole first out₀ left at out → left ≡ []
-      → (at ≡ first + length whole) × (out ≡ written first whole out₀)
-  left-none left at out h e =
-      (omega (arith, ap length e, h .end), sym (written-none at out) ∙ ap (λ (l : List ℕ). written at l out) (sym e) ∙ h .bytes)
+  pub left-none : left ≡ [] → (at ≡ first + length whole) × (out ≡ written first whole out₀)
+  left-none e = (omega (arith, ap length e, h .end), sym (written-none at out) ∙ ap (λ (l : List ℕ). written at l out) (sym e) ∙ h .bytes)
 
-  pub left-length : (left : List ℕ) (at : ℕ) (out : List ℕ) → Left whole first out₀ left at out → length out ≡ length out₀
-  left-length left at out h = sym (length-written at left out) ∙ ap length (h .bytes) ∙ length-written first whole out₀
+  pub left-length : length out ≡ length out₀
+  left-length = sym (length-written at left out) ∙ ap length (h .bytes) ∙ length-written first whole out₀
 
 -- ---- a record, or none
 
 pub unless-less : (same : Bool) (p : List ℕ) → length (unless same p) ≤ length p
 unless-less true p = omega arith
 unless-less false p = omega arith
-
-module _ (same : Bool) (p : List ℕ) (at : ℕ) (out : List ℕ) where
-  pub put-none : same ≡ true → (at ≡ at + length (unless same p)) × (out ≡ written at (unless same p) out)
-  put-none t = rw t (omega arith, sym (written-none at out))
-
-  pub put-one : (n : ℕ) (o : List ℕ) → same ≡ false → length p ≡ n → o ≡ written at p out → (at + n ≡ at + length (unless same p)) × (o ≡ written at (unless same p) out)
-  put-one n o f l e = rw f (ap (λ (k : ℕ). at + k) (sym l), e)
 
 -- at most a record more
 pub change-less : (F : Format) (at i r : ℕ) (a b : List ℕ) → length b ≡ bucketBody F → r ≡ at + length (changePart F i a b) → r ≤ at + changeLength F
@@ -91,29 +81,15 @@ gone-size w = omega (arith, length-toBytes wordBytes w)
 pub new-size : (e : Entry) → length (newRecord e) ≡ newLength
 new-size e = rw length-append (omega (arith, length-toBytes wordBytes (e .word)))
 
--- the record of an entry, once the byte of its kind and its word are there
-pub new-put : (a w plan : ℕ) (t l : List ℕ) → l ≡ written (a + 1) (toBytes wordBytes w) (set t a newKind)
-    → set l (a + entryBody) plan ≡ written a (newRecord (record { word = w; plan = plan })) t
-new-put a w plan t l e =
-    let n : a + entryBody ≡ a + 1 + length (toBytes wordBytes w) = omega (arith, length-toBytes wordBytes w) in
-    rw (e, n) (sym (written-more (a + 1) plan (toBytes wordBytes w) (set t a newKind)) ∙ written-cons a newKind (toBytes wordBytes w ++ (plan ∷ [])) t)
+-- one element kept, or not, where it is p in front of the bytes
+module _ {E : Type 0} (bytes : List E → List ℕ) (p : List ℕ) (x : E) (xs : List E) (e : bytes (x ∷ xs) ≡ p ++ bytes xs) where
+  unless-bytes : (b : Bool) → bytes (cond b xs (x ∷ xs)) ≡ unless b p ++ bytes xs
+  unless-bytes true = refl
+  unless-bytes false = e
 
-module _ {A : Type 0} (f : A → List ℕ) where
-  unless-bytes : (b : Bool) (x : A) (xs : List A) → bytesOf f (cond b xs (x ∷ xs)) ≡ unless b (f x) ++ bytesOf f xs
-  unfolding bytesOf
-  unless-bytes true x xs = refl
-  unless-bytes false x xs = refl
-
-  -- one element kept, or not; of the kept ones, what g gives
-  kept-bytes : (b : Bool) (x : A) (xs : List A) → bytesOf f (cond (not b) (x ∷ xs) xs) ≡ unless b (f x) ++ bytesOf f xs
-  unfolding bytesOf
-  kept-bytes true x xs = refl
-  kept-bytes false x xs = refl
-
-  kept-map : {E : Type 0} (g : E → A) (b : Bool) (x : E) (xs : List E) → bytesOf f (map g (cond (not b) (x ∷ xs) xs)) ≡ unless b (f (g x)) ++ bytesOf f (map g xs)
-  unfolding bytesOf
-  kept-map g true x xs = refl
-  kept-map g false x xs = refl
+  kept-bytes : (b : Bool) → bytes (cond (not b) (x ∷ xs) xs) ≡ unless b p ++ bytes xs
+  kept-bytes true = refl
+  kept-bytes false = e
 
 -- ---- one more bucket
 
@@ -124,11 +100,11 @@ module _ (F : Format) (bs cs : List PlaneBucket) where
 
   pub changes-next : (i : ℕ) (z : PlaneBucket) → i < length bs → i < length cs
       → changesLeft i ≡ changePart F i (bucketBytes (getD bs i z)) (bucketBytes (getD cs i z)) ++ changesLeft (i + 1)
+  unfolding bytesOf
   changes-next i z hb hc =
-      let n : suc i ≡ i + 1 = omega arith in
-      ap (bytesOf (changeRecord F)) (changes-step i bs cs z hb hc)
-      ∙ unless-bytes (changeRecord F) (eqList (bucketBytes (getD bs i z)) (bucketBytes (getD cs i z))) (record { index = i; bucket = getD cs i z }) (changesOf (suc i) (drop (suc i) bs) (drop (suc i) cs))
-      ∙ ap (λ (j : ℕ). changePart F i (bucketBytes (getD bs i z)) (bucketBytes (getD cs i z)) ++ changesLeft j) n
+      let c : Change = record { index = i; bucket = getD cs i z } in
+      rw (changes-step i bs cs z hb hc, ← add-one i)
+      (unless-bytes (bytesOf (changeRecord F)) (changeRecord F c) c (changesOf (i + 1) (drop (i + 1) bs) (drop (i + 1) cs)) refl (eqList (bucketBytes (getD bs i z)) (bucketBytes (getD cs i z))))
 
 -- ---- the cursor j in a base list R
 
@@ -235,15 +211,17 @@ module _ (n : ℕ) (xs : List ℕ) (R : List Entry) where
     past-next = rw s (passed-next w j R (drop (i + 1) L) (seek-low w j R low) above)
 
     pub gone-next : (kept : Bool) → kept ≡ isFirst w (drop k R) → goneLeft i ≡ unless kept (goneRecord w) ++ goneLeft (i + 1)
+    unfolding bytesOf
     gone-next kept q =
         ap (λ (l : List Entry). bytesOf goneRecord (goneOf l R)) here
-        ∙ kept-map goneRecord (λ (x : Entry). x .word) (isThere (find w R)) e (keep (λ x. not (isThere (find (x .word) R))) (drop (i + 1) L))
+        ∙ kept-bytes (λ (l : List Entry). bytesOf goneRecord (words l)) (goneRecord w) e (keep (λ x. not (isThere (find (x .word) R))) (drop (i + 1) L)) refl (isThere (find w R))
         ∙ ap (λ (c : Bool). unless c (goneRecord w) ++ goneLeft (i + 1)) (seek-there w j R low ar ∙ ap (λ (x : ℕ). isFirst w (drop x R)) (sym s) ∙ sym q)
 
     pub news-next : (same : Bool) → same ≡ sameFirst w plan (drop k R) → newsLeft i ≡ unless same (newRecord e) ++ newsLeft (i + 1)
+    unfolding bytesOf
     news-next same q =
         ap (λ (l : List Entry). bytesOf newRecord (newsOf R l)) here
-        ∙ kept-bytes newRecord (has plan (find w R)) e (keep (λ x. not (has (x .plan) (find (x .word) R))) (drop (i + 1) L))
+        ∙ kept-bytes (bytesOf newRecord) (newRecord e) e (keep (λ x. not (has (x .plan) (find (x .word) R))) (drop (i + 1) L)) refl (has plan (find w R))
         ∙ ap (λ (c : Bool). unless c (newRecord e) ++ newsLeft (i + 1)) (has-at w j R ar low plan ∙ ap (λ (x : ℕ). sameFirst w plan (drop x R)) (sym s) ∙ sym q)
 
 -- ---- the buckets of a right plane
@@ -251,9 +229,6 @@ module _ (n : ℕ) (xs : List ℕ) (R : List Entry) where
 module _ (F : Format) (p : List ℕ) (e : wrongAt F p ≡ Nowhere) (b : AllBytes p) where
   abbrev s : ℕ
   s = bucketLength F
-
-  pub buckets-length : length (bucketsOf (planeFrom F p)) ≡ bucketCount p
-  buckets-length = ap length (buckets-read F p e b) ∙ length-readAll s (bucketFrom F) (bucketCount p) (drop bucketsAt p)
 
   -- where the record of bucket i starts
   abbrev at : ℕ → ℕ
@@ -265,15 +240,8 @@ module _ (F : Format) (p : List ℕ) (e : wrongAt F p ≡ Nowhere) (b : AllBytes
       let long : entriesAt F (bucketCount p) ≤ length p = rw (known F p e .whole) (omega arith) in
       let more : suc i * s ≤ bucketCount p * s = mul-le-mul-right s h in
       let room : bucketBody F < length (drop (at i) p) = rw length-drop (omega (arith, suc-mul i s)) in
-      let own : List ℕ = bucketBytes (bucketFrom F (drop (at i) p)) in
-      let q : own ++ drop s (drop (at i) p) ≡ drop 1 (drop (at i) p) = bucket-body F (drop (at i) p) room (bytes-drop (at i) p b) in
-      let n : length own ≡ bucketBody F =
-      omega (arith, sym (length-append own (drop s (drop (at i) p))) ∙ ap length q ∙ length-drop 1 (drop (at i) p), length-drop s (drop (at i) p)) in
-      let here : getD (bucketsOf (planeFrom F p)) i z ≡ bucketFrom F (drop (at i) p) =
-      ap (λ (l : List PlaneBucket). getD l i z) (buckets-read F p e b) ∙ getD-readAll s (bucketFrom F) (bucketCount p) i (drop bucketsAt p) z h ∙ ap (bucketFrom F) (drop-drop (i * s) bucketsAt p) in
-      ap bucketBytes here
-      ∙ sym (take-at own (drop s (drop (at i) p)) (bucketBody F) n)
-      ∙ ap (take (bucketBody F)) (q ∙ drop-drop 1 (at i) p)
+      rw (buckets-read F p e b, getD-readAll s (bucketFrom F) (bucketCount p) i (drop bucketsAt p) z h, drop-drop (i * s) bucketsAt p)
+      (rw (bucket-taken F (drop (at i) p) room (bytes-drop (at i) p b), drop-drop 1 (at i) p))
 
 -- ---- two right planes of equal bucket numbers
 
@@ -307,7 +275,7 @@ planes-alike F p q ep eq a bp bq =
       newRoom = rw (known F q eq .whole, e1, e2) (omega arith);
     }
 
-module _ (F : Format) (p q : List ℕ) (h : Alike F p q) where
+module _ {F : Format} {p q : List ℕ} (h : Alike F p q) where
   abbrev bs : List PlaneBucket
   bs = bucketsOf (planeFrom F p)
 

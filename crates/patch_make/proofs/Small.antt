@@ -19,7 +19,7 @@ use Rattle.plane.specs.Record.{PlaneBucket, bucketBytes}
 use Rattle.patch.specs.Base.{isThere, has, goneOf, newsOf}
 use Rattle.patch.specs.Record.{Change}
 use Rattle.patch.specs.Patch.{changesOf}
-use Rattle.patch.proofs.Base.{by-word}
+use Rattle.lists.proofs.Sorts.{by-word}
 
 -- ---- buckets
 

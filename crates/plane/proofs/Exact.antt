@@ -8,8 +8,8 @@ use native.Mathlib.Nat.{zero-mul}
 use native.Mathlib.Omega.{arith}
 use borrow.Author.Tests.{leb-true, eqb-true}
 use lib.Dec.{leb, eqb}
-use lib.ListN.{length, getD, take, drop, length-drop, take-append-drop}
-use lib.Seq.{drop-cons, drop-drop, getD-take, getD-drop, length-take-le, take-all}
+use lib.ListN.{length, getD, take, drop, length-append, length-drop, take-append-drop}
+use lib.Seq.{drop-cons, drop-drop, getD-take, getD-drop, length-take-le, take-all, take-at}
 use Rattle.lists.specs.Entries.{Entry, Above, Ascending}
 use Rattle.lists.proofs.Parts.{drop-more}
 use Rattle.lists.specs.Lists.{Every}
@@ -90,6 +90,12 @@ module _ (F : Format) (p : List ℕ) (there : bucketBody F < length p) (b : AllB
   bucket-body =
       let n : bucketLength F ≡ 2 + F .words * wordBytes = omega arith in
       rw (n, ← drop-drop (F .words * wordBytes) 2 p, words-bytes (F .words) (drop 2 p) room (bytes-drop 2 p b)) (sym (drop-cons p 1 0 (omega arith)))
+
+  -- so its bytes stand there
+  pub bucket-taken : bucketBytes (bucketFrom F p) ≡ take (bucketBody F) (drop 1 p)
+  bucket-taken =
+      let n = ap length bucket-body ∙ length-drop 1 p in
+      sym (take-at (bucketBytes (bucketFrom F p)) (drop (bucketLength F) p) (bucketBody F) (omega (arith, simp (length-append, length-drop) at n))) ∙ ap (take (bucketBody F)) bucket-body
 
   pub bucket-fit : leb (getD p 1 0) largestBound ≡ true → FitsBucket F (bucketFrom F p)
   bucket-fit e = record {
@@ -211,6 +217,9 @@ module _ (F : Format) (p : List ℕ) (e : wrongAt F p ≡ Nowhere) (b : AllBytes
   pub buckets-read : planeFrom F p .level1 ++ planeFrom F p .level2 ≡ readAll s (bucketFrom F) (bucketCount p) (drop bucketsAt p)
   unfolding planeFrom
   buckets-read = sym (read-add s (bucketFrom F) (buckets1 p) (buckets2 p) (drop bucketsAt p) ∙ rw drop-drop refl)
+
+  pub buckets-length : length (planeFrom F p .level1 ++ planeFrom F p .level2) ≡ bucketCount p
+  buckets-length = ap length buckets-read ∙ length-readAll s (bucketFrom F) (bucketCount p) (drop bucketsAt p)
 
   base-bytes : bytesOf entryRecord (planeFrom F p .base) ++ endRecord ≡ drop (entriesIn F p) p
   unfolding planeFrom

@@ -10,7 +10,7 @@ use lib.Dec.{leb, lit<}
 use lib.ListN.{length}
 use Rattle.lists.specs.Lists.{Every}
 use Rattle.lists.specs.Entries.{Entry}
-use Rattle.lists.proofs.Every.{every}
+use Rattle.lists.proofs.Every.{every, mem-every}
 use Rattle.codec.specs.Bytes.{toBytes}
 use Rattle.bucket.specs.Bucket.{largestBound}
 use Rattle.model.specs.Model.{baseLimit}
@@ -42,11 +42,6 @@ unfolding toBytes
 octets-number zero x = octets-nil
 octets-number (suc n) x = octets-cons (x % 256) (toBytes n (x / 256)) (mod-lt x (lit< tt)) (octets-number n (x / 256))
 
--- any numbers have bytes that are
-all-numbers : (n : ℕ) (xs : List ℕ) → Every (λ x. AllBytes (toBytes n x)) xs
-all-numbers n [] = tt
-all-numbers n (x ∷ xs) = (octets-number n x, all-numbers n xs)
-
 -- a few numbers
 few : (p : List ℕ) → Every (λ x. x < 256) p → AllBytes p
 few [] h = octets-nil
@@ -56,7 +51,7 @@ octets-bucket : (F : Format) → F .bucketKind < 256 → (b : PlaneBucket) → F
 octets-bucket F k b h =
     let l : b .bound ≤ largestBound = h .low in
     octets-append (F .bucketKind ∷ b .bound ∷ []) (bytesOf (toBytes wordBytes) (b .sols)) (few (F .bucketKind ∷ b .bound ∷ []) (k, (omega arith, tt)))
-    (octets-of (toBytes wordBytes) (b .sols) (all-numbers wordBytes (b .sols)))
+    (octets-of (toBytes wordBytes) (b .sols) (mem-every _ (b .sols) (λ x m. octets-number wordBytes x)))
 
 octets-entry : (e : Entry) → FitsEntry e → AllBytes (entryRecord e)
 octets-entry e h =

@@ -6,7 +6,7 @@ use mathlib.Core.List.{List}
 use mathlib.Core.Option.{some}
 use Prim.Native.Nat.{ℕ, _+_, _≤_}
 use native.Mathlib.Omega.{arith}
-use borrow.Author.Tests.{leb-true, eqb-true}
+use borrow.Author.Tests.{leb-true}
 use lib.Dec.{leb, ltb, lit≤}
 use lib.ListN.{length, getD, take, drop, length-map}
 use lib.Seq.{take-at}
@@ -17,9 +17,9 @@ use Rattle.identifier.specs.Identifier.{readOf}
 use Rattle.identifier.specs.declared.Read.{Read}
 use Rattle.identifier.specs.declared.Read.the-variants.{Word, Refused}
 use Rattle.model.specs.Model.{baseLimit}
-use Rattle.table.specs.Test.{shapeTest}
-use Rattle.table.specs.Layout.{buckets1At, buckets2At, baseCountAt, mostBuckets1, mostBuckets2, inRange, header, lengthOf}
+use Rattle.table.specs.Layout.{buckets1At, buckets2At, baseCountAt, mostBuckets1, mostBuckets2, lengthOf}
 use Rattle.table.specs.Calls.{rows, solutions, tableOf, shaped, sound, FlatSound}
+use Rattle.table.proofs.Calls.{shape-range, shape-size}
 use Rattle.table.proofs.Statements.{sound-exactly, header-read}
 use Rattle.plane.specs.Record.{format1}
 use Rattle.plane.specs.Plane.{planeBytes, planeLength}
@@ -31,12 +31,8 @@ use Rattle.plane.proofs.Round.{plane-length, written-right, written-read}
 use Rattle.plane_write.proofs.Shown.{Words, Sols, narrow, plane-fits, shown}
 
 module _ (t : List ℕ) (w : Sols (tableOf t)) (k : shaped t ≡ true) (h : FlatSound t) where
-  in-range : inRange (getD t buckets1At 0) (getD t buckets2At 0) ≡ true
-  unfolding shapeTest
-  in-range = both (inRange (getD t buckets1At 0) (getD t buckets2At 0)) _ (both (leb header (length t)) _ k .1) .0
-
   pub fits : Fits format1 (planeOf (tableOf t))
-  fits = plane-fits rows format1 t w unmixOf (lit≤ tt) in-range (h .table)
+  fits = plane-fits rows format1 t w unmixOf (lit≤ tt) (shape-range rows solutions t k) (h .table)
 
   -- the plane of a sound table, read again, gives for each identifier, live or not, the answer of the table's own XOR words or base list
   pub shows : (id : List ℕ) → lookupCall id (planeBytes format1 (planeOf (tableOf t))) ≡ shownTo (tableOf t) (readOf id)
@@ -59,15 +55,13 @@ pub record Known (t : List ℕ) : Type 0 where
   pub long : length (planeBytes format1 (planeOf (tableOf t))) ≡ planeLength format1 (getD t buckets1At 0 + getD t buckets2At 0) (getD t baseCountAt 0)
 
 pub known : (t : List ℕ) → Words t → shaped t ≡ true → sound t ≡ true → Known t
-unfolding shapeTest
 known t w k q =
     let h : FlatSound t = sound-exactly t k w .0 q in
     let f : Fits format1 (planeOf (tableOf t)) = fits t (narrow rows format1 t w) k h in
     let r = header-read t in
-    let c = both (inRange (getD t buckets1At 0) (getD t buckets2At 0)) _ (both (leb header (length t)) _ k .1) in
-    let d = both (leb 1 (getD t buckets1At 0) && leb (getD t buckets1At 0) mostBuckets1) _ (c .0) in
+    let d = both (leb 1 (getD t buckets1At 0) && leb (getD t buckets1At 0) mostBuckets1) _ (shape-range rows solutions t k) in
     record {
-      size = eqb-true (length t) (lengthOf rows solutions (getD t buckets1At 0) (getD t buckets2At 0)) (c .1);
+      size = shape-size rows solutions t k;
       most1 = leb-true (getD t buckets1At 0) mostBuckets1 (both (leb 1 (getD t buckets1At 0)) _ (d .0) .1);
       most2 = leb-true (getD t buckets2At 0) mostBuckets2 (both (leb 1 (getD t buckets2At 0)) _ (d .1) .1);
       few = rw (r .2) at (h .table .fits);

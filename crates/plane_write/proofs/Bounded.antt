@@ -9,13 +9,14 @@ use mathlib.Core.List.{List, [], _∷_, map}
 use mathlib.Core.Option.{Option, none, some}
 use lib.Bits.{bitXor}
 use lib.Count.{trailingZeros}
-use lib.Dec.{eqb, ltb}
+use lib.Dec.{ltb}
 use lib.ListN.{length, getD, set, replicate, length-set}
 use lib.Pow.{pow-pos}
 use borrow.Author.Tests.{ltb-false}
 use Rattle.lists.specs.Entries.{Entry, update, remove, words}
 use Rattle.lists.proofs.Tests.{by-test}
-use Rattle.lists.proofs.Entries.{update-length}
+use Rattle.lists.proofs.Keep.{length-sub}
+use Rattle.lists.proofs.Entries.{remove-sub, update-length}
 use Rattle.lists.proofs.Every.{every}
 use Rattle.lists.specs.Lists.{Every}
 use Rattle.gf2.specs.Vectors.{colStep, solStep}
@@ -40,7 +41,7 @@ use Rattle.table.specs.Calls.{rows, solutions, tableOf, planIn, shaped, sound, 
 use Rattle.table.specs.History.{Put, request, tables, Opened}
 use Rattle.table.proofs.Numbers.{ShapedTable, back}
 use Rattle.table.proofs.History.{open-cases}
-use Rattle.plane_write.proofs.Shown.{Narrow, Sols}
+use Rattle.plane_write.proofs.Shown.{Sols}
 
 -- a thing again and again
 copies : {A : Type 0} (P : A → Type 0) (x : A) (k : ℕ) → P x → Every P (replicate k x)
@@ -78,7 +79,7 @@ module _ (n r : ℕ) where
         let cs = colStep-lt n (getD (b .cols) i 0) (bitXor k (2 ^ i)) (b .cols) (h .cols i) (h .cols) in
         tried (ltb i n) (record { shape = record { cols = length-colStep _ _ (b .cols) ∙ h .shape .cols; sols = length-solStep _ _ (b .sols) ∙ h .shape .sols }; cols = cs; sols = stepped _ _ (b .sols) (cs i) (h .sols) }) h
 
-    pub changed : (k p : ℕ) → Bounded (B.change n k p b .bucket)
+    changed : (k p : ℕ) → Bounded (B.change n k p b .bucket)
     unfolding B.change B.changeAt
     changed k p =
         tried (B.live n k b) (record { shape = record { cols = h .shape .cols; sols = length-solStep _ _ (b .sols) ∙ h .shape .sols }; cols = h .cols; sols = stepped _ _ (b .sols) (h .cols (B.rowOf n k b)) (h .sols) }) h
@@ -142,7 +143,7 @@ module _ (n r : ℕ) where
     pub fits : length (T .base) ≤ baseLimit
 
   module _ (S : ℕ → ℕ) (T : Table) (h : BoundedTable T) where
-    pub touched : (w : ℕ) (f : ℕ → Bucket → Bucket) (g : ℕ → List Entry → List Entry) → ((v : ℕ) (b : Bucket) → Bounded b → Bounded (f v b))
+    touched : (w : ℕ) (f : ℕ → Bucket → Bucket) (g : ℕ → List Entry → List Entry) → ((v : ℕ) (b : Bucket) → Bounded b → Bounded (f v b))
         → ((v : ℕ) → length (g v (T .base)) ≤ length (T .base)) → BoundedTable (C.touch n r S T w f g)
     touched w f g k l =
         by-test BoundedTable (C.holds n r S (T .level1) w) (λ _. record { level1 = put (T .level1) _ (h .level1) (k _ _ (one (T .level1) _ (h .level1))); level2 = h .level2; fits = h .fits })
@@ -160,10 +161,6 @@ module _ (n r : ℕ) where
   pub read-back : (T : Table) → BoundedTable T → ShapedTable n r T
   read-back T h = record { first = λ i l. one (T .level1) i (h .level1) .shape; second = λ i l. one (T .level2) i (h .level2) .shape; fits = h .fits }
 
-remove-le : (v : ℕ) (es : List Entry) → length (remove v es) ≤ length es
-remove-le v [] = omega arith
-remove-le v (x ∷ es) = by-test (λ (l : List Entry). length l ≤ suc (length es)) (eqb v (x .word)) (λ _. omega arith) (λ _. let k = remove-le v es in omega arith)
-
 -- ---- the calls
 
 abbrev pub BoundedNumbers : List ℕ → Type 0
@@ -180,6 +177,11 @@ module _ (t : List ℕ) (h : BoundedNumbers t) where
   replaced-bounded T k (some p) = numbers T k
   replaced-bounded T k none = h
 
+  pub changed-bounded : (w p : ℕ) → BoundedTable rows solutions (C.changedIn rows solutions mixOf (tableOf t) w p)
+  changed-bounded w p =
+      touched rows solutions mixOf (tableOf t) h w (λ v b. B.change rows v p b .bucket) (λ v es. update (record { word = v; plan = p }) es) (λ v b k. changed rows solutions b k v p)
+      (λ v. let l = update-length (record { word = v; plan = p }) (tableOf t .base) in omega arith)
+
   served-bounded : (w : ℕ) (c : Call Token) → Kept (served t w c)
   unfolding served
   served-bounded w (add i p) = go (planIn t w)
@@ -190,21 +192,18 @@ module _ (t : List ℕ) (h : BoundedNumbers t) where
       go : (o : Option ℕ) → Kept (joined t T o)
       go (some q) = h
       go none = by-test Kept (ltb baseLimit (length (T .base))) (λ _. h) (λ b. numbers T (joined-levels rows solutions mixOf (tableOf t) h (record { word = w; plan = p }) (ltb-false baseLimit _ b)))
-  served-bounded w (change i p) =
-      replaced-bounded (C.changedIn rows solutions mixOf (tableOf t) w p)
-      (touched rows solutions mixOf (tableOf t) h w (λ v b. B.change rows v p b .bucket) (λ v es. update (record { word = v; plan = p }) es) (λ v b k. changed rows solutions b k v p)
-      (λ v. let l = update-length (record { word = v; plan = p }) (tableOf t .base) in omega arith))
-      (planIn t w)
+  served-bounded w (change i p) = replaced-bounded (C.changedIn rows solutions mixOf (tableOf t) w p) (changed-bounded w p) (planIn t w)
   served-bounded w (withdraw i) =
       replaced-bounded (C.withdrawnFrom rows solutions mixOf (tableOf t) w)
-      (recounted rows solutions _ (touched rows solutions mixOf (tableOf t) h w (λ v b. B.withdraw rows v b .bucket) remove (λ v b k. withdrawn rows solutions b k v) (λ v. remove-le v (tableOf t .base))) _) (planIn t w)
+      (recounted rows solutions _ (touched rows solutions mixOf (tableOf t) h w (λ v b. B.withdraw rows v b .bucket) remove (λ v b k. withdrawn rows solutions b k v) (λ v. length-sub (remove-sub v (tableOf t .base)))) _)
+      (planIn t w)
   served-bounded w (query i) = go (planIn t w)
     where
       go : (o : Option ℕ) → Kept (queried t o)
       go (some q) = h
       go none = h
 
-  request-bounded : (q : Request) → Kept (request t q)
+  pub request-bounded : (q : Request) → Kept (request t q)
   unfolding call
   request-bounded (ask c) = go (wordFor c)
     where
@@ -224,11 +223,8 @@ after-bounded t o =
     (subst BoundedNumbers (sym (k .1) ∙ ap (λ (x : Outcome). x .table) (o .accepted))
     (numbers (C.openTable rows solutions (o .size .buckets1) (o .size .buckets2)) (record { level1 = copies _ _ (o .size .buckets1) (empty rows solutions); level2 = copies _ _ (o .size .buckets2) (empty rows solutions); fits = omega arith })))
 
-pub level-sols : (bs : List Bucket) → Every (Bounded rows solutions) bs → Every Narrow bs
-level-sols = every (λ b h. h .sols)
+pub bounded-sols : (t : List ℕ) → BoundedNumbers t → Sols (tableOf t)
+bounded-sols t h = (every (λ b k. k .sols) (tableOf t .level1) (h .level1), every (λ b k. k .sols) (tableOf t .level2) (h .level2))
 
 pub after-sols : (t : List ℕ) → Opened t → (ps : List Put) → Sols (tableOf (after tables t ps))
-after-sols t o ps =
-    let T : Table = tableOf (after tables t ps) in
-    let h = after-bounded t o ps in
-    (level-sols (T .level1) (h .level1), level-sols (T .level2) (h .level2))
+after-sols t o ps = bounded-sols (after tables t ps) (after-bounded t o ps)

@@ -19,18 +19,18 @@ use Rattle.codec.proofs.Round.{length-toBytes}
 use Rattle.bucket_words.specs.Words.{bucketWords, bucketFrom}
 use Rattle.table.specs.Layout.{header, bucketPlace}
 use Rattle.table.proofs.Numbers.{from-part}
-use Rattle.plane.specs.Record.{Format, bytesOf, readAll, wordBytes, bucketRecord, entryKind, entryBody, entryRecord, endRecord, bucketLength, entryLength}
+use Rattle.plane.specs.Record.{Format, bytesOf, readAll, wordBytes, bucketRecord, entryBody, entryBytes, entryRecord, endRecord, bucketLength, entryLength}
 use Rattle.plane.specs.Plane.{bucketsAt, entriesAt, endAt}
 use Rattle.plane.proofs.Read.{length-readAll, read-add}
 use Rattle.plane_write.specs.Steps.{seenFrom, pairFrom, recordsOf}
 use Rattle.plane.proofs.Round.{Sized, bytes-append, length-bytes}
 
 -- the record of a base entry, once the byte of its kind and its word are there
-pub entry-put : (a w plan : ℕ) (t l : List ℕ) → l ≡ written (a + 1) (toBytes wordBytes w) (set t a entryKind)
-    → set l (a + entryBody) plan ≡ written a (entryRecord (record { word = w; plan = plan })) t
-entry-put a w plan t l e =
+pub entry-put : (kind a w plan : ℕ) (t l : List ℕ) → l ≡ written (a + 1) (toBytes wordBytes w) (set t a kind)
+    → set l (a + entryBody) plan ≡ written a (kind ∷ entryBytes (record { word = w; plan = plan })) t
+entry-put kind a w plan t l e =
     let n : a + entryBody ≡ a + 1 + length (toBytes wordBytes w) = omega (arith, length-toBytes wordBytes w) in
-    rw (e, n) (sym (written-more (a + 1) plan (toBytes wordBytes w) (set t a entryKind)) ∙ written-cons a entryKind (toBytes wordBytes w ++ (plan ∷ [])) t)
+    rw (e, n) (sym (written-more (a + 1) plan (toBytes wordBytes w) (set t a kind)) ∙ written-cons a kind (toBytes wordBytes w ++ (plan ∷ [])) t)
 
 -- one more thing after xs
 module _ {A : Type 0} (f : A → List ℕ) (size : ℕ) where

@@ -6,9 +6,10 @@ use mathlib.Core.Bool.{Bool, true, false, cond}
 use mathlib.Core.List.{List, [], _∷_, map}
 use mathlib.Core.Option.{Option, none, some}
 use Prim.Native.Nat.{ℕ, zero, suc, suc-le-suc, _+_, _/_, _^_, _≤_, _<_}
-use native.Mathlib.Nat.{mod-lt, zero-lt-suc, lt-of-lt-of-le, not-suc-le-zero, le-of-suc-le-suc}
+use native.Mathlib.Nat.{mod-lt, zero-lt-suc, lt-of-lt-of-le}
 use lib.Seq.{getD-drop}
 use lib.ListN.{length, getD, take, drop, length-map}
+use Rattle.lists.proofs.Keep.{getD-map-in}
 use Rattle.lists.proofs.Entries.{none≢some}
 use Rattle.lists.specs.Lists.{Every}
 use Rattle.lists.proofs.Every.{every-append, mem-every}
@@ -24,17 +25,12 @@ use Rattle.table.specs.Layout.{buckets1At, buckets2At, inRange, levelFrom, buck
 use Rattle.table.specs.Sound.{SoundTable}
 use Rattle.table.proofs.Numbers.{header-read}
 use Rattle.plane.specs.declared.Held.the-variants.{Plan, Passed}
-use Rattle.plane.specs.Record.{Format, wordBytes, PlaneBucket}
+use Rattle.plane.specs.Record.{Format, wordBytes}
 use Rattle.plane.specs.Lookup.{bucketOf, levelPlan, orElse, orStranger, secondPlan, planFrom}
 use Rattle.plane.specs.Fits.{Below, FitsBucket, FitsEntry, Fits}
 use Rattle.plane_write.specs.Write.{seenOf, planeOf, shownPlan}
 
 -- ---- the plan of a word
-
-getD-seen : (bs : List Bucket) (i : ℕ) (d : PlaneBucket) (e : Bucket) → i < length bs → getD (map seenOf bs) i d ≡ seenOf (getD bs i e)
-getD-seen [] i d e h = absurd (not-suc-le-zero h)
-getD-seen (b ∷ bs) zero d e h = refl
-getD-seen (b ∷ bs) (suc i) d e h = getD-seen bs i d e (le-of-suc-le-suc h)
 
 or-held : (b : Bool) (p q : ℕ) → orElse (cond b (Plan p) Passed) q ≡ cond b p q
 or-held true p q = refl
@@ -45,14 +41,14 @@ picked : (b : Bool) (x y : Option ℕ) (u v p : ℕ) → (x ≡ some p → u ≡
 picked true x y u v p f g = f
 picked false x y u v p f g = g
 
-live-plan : (l : Bool) (a p : ℕ) → cond l (some a) none ≡ some p → a ≡ p
+pub live-plan : (l : Bool) (a p : ℕ) → cond l (some a) none ≡ some p → a ≡ p
 live-plan true a p e = cc
 live-plan false a p e = absurd (none≢some e)
 
 module _ (n r : ℕ) where
   -- the bucket of v in the plane is that of the table
   seen-bucket : (bs : List Bucket) (v : ℕ) → 0 < length bs → bucketOf (map seenOf bs) v ≡ seenOf (C.bucketOf n r mixOf bs v)
-  seen-bucket bs v h = rw (length-map bs seenOf) (getD-seen bs (bucketAt (length bs) (mixOf v)) _ _ (mod-lt (mixOf v / thresholds) h))
+  seen-bucket bs v h = rw (length-map bs seenOf) (getD-map-in seenOf bs (bucketAt (length bs) (mixOf v)) _ _ (mod-lt (mixOf v / thresholds) h))
 
   seen-plan : (bs : List Bucket) (v q : ℕ) → 0 < length bs → orElse (levelPlan (map seenOf bs) v) q ≡ cond (C.holds n r mixOf bs v) (lookup (C.bucketOf n r mixOf bs v) v) q
   unfolding levelPlan

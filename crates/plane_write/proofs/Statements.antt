@@ -123,15 +123,18 @@ module _ (t out : List ℕ) (n : ℕ) (e : writeCall t out .answer ≡ Accepted 
     live-plan id v p i h = statement-2 id ∙ ap (shownTo (tableOf t)) i ∙ ap Accepted (live-shown rows solutions (tableOf t) v p h)
 
 -- after any list of calls
+pub told-shown : (t : List ℕ) → Opened t → (ps : List Put) (id : List ℕ) (v p : ℕ) → readOf id ≡ Word v → told v (acceptedCalls t ps) ≡ some p
+    → shownTo (tableOf (after tables t ps)) (readOf id) ≡ Accepted p
+told-shown t o ps id v p i h =
+    ap (shownTo (tableOf (after tables t ps))) i ∙ ap Accepted (live-shown rows solutions (tableOf (after tables t ps)) v p (plan t o ps v (rw (read-word id v .0 i .2) (word-lt id)) ∙ h))
+
 module _ (t : List ℕ) (o : Opened t) (ps : List Put) (out : List ℕ) (n : ℕ) (e : writeCall (after tables t ps) out .answer ≡ Accepted n) where
   pub list-gives : (id : List ℕ) → lookupCall id (take n (writeCall (after tables t ps) out .output)) ≡ shownTo (tableOf (after tables t ps)) (readOf id)
   list-gives = gives (after tables t ps) out n e (after-sols t o ps) (always-sound t o ps .2)
 
   -- every live identifier gets its word's last accepted plan from the plane
   pub last-plan : (id : List ℕ) (v p : ℕ) → readOf id ≡ Word v → told v (acceptedCalls t ps) ≡ some p → lookupCall id (take n (writeCall (after tables t ps) out .output)) ≡ Accepted p
-  last-plan id v p i h =
-      list-gives id ∙ ap (shownTo (tableOf (after tables t ps))) i
-      ∙ ap Accepted (live-shown rows solutions (tableOf (after tables t ps)) v p (plan t o ps v (rw (read-word id v .0 i .2) (word-lt id)) ∙ h))
+  last-plan id v p i h = list-gives id ∙ told-shown t o ps id v p i h
 
 -- in a list of calls the writer meets no cause but 9
 pub list-writes : (t : List ℕ) → Opened t → (ps : List Put) (out : List ℕ)

@@ -3,7 +3,7 @@
 use Prim.Native.Nat.{ℕ, suc, _+_, _%_, _^_, _≤_, _<_}
 use native.Mathlib.Numerals.{add-one}
 use native.Mathlib.Omega.{arith}
-use mathlib.Core.Path.{_≡_, refl, sym, ap, _∙_, subst⁻¹}
+use mathlib.Core.Path.{_≡_, refl, sym, ap, _∙_, subst, subst⁻¹}
 use mathlib.Core.Bool.{Bool, true, false, true≢false, cond}
 use mathlib.Core.List.{List, []}
 use lib.Dec.{eqb}
@@ -52,15 +52,13 @@ module _ (t₀ ws t : List ℕ) (i : ℕ) (h : Filling t₀ ws t i) where
         })
 
     pub filling-stops : accepted (addOf t w .answer) ≡ false → Gives (takenFrom 0 t₀ ws) i u
-    filling-stops n =
-        let e = sym (cond-false _ _ n) ∙ here in
-        (ap (λ (p : Probed). p .number) e, q ∙ ap (λ (p : Probed). p .words) e)
+    filling-stops n = subst (λ (p : Probed). Gives p i u) (sym (cond-false _ _ n) ∙ here) (refl, q)
 
   pub filling-ends : length ws ≤ i → Gives (takenFrom 0 t₀ ws) i t
   unfolding takenFrom
   filling-ends l =
       let e : takenFrom i t [] ≡ takenFrom 0 t₀ ws = ap (takenFrom i t) (sym (drop-of-length-le ws l)) ∙ h .same in
-      (ap (λ (p : Probed). p .number) e, ap (λ (p : Probed). p .words) e)
+      subst (λ (p : Probed). Gives p i t) e (refl, refl)
 
 module _ (b1 b2 : ℕ) (t ws u : List ℕ) (q : u ≡ openCall b1 b2 t .table) where
   opened : accepted (openCall b1 b2 t .answer) ≡ true → openCall b1 b2 t ≡ record { answer = Accepted 0; table = openCall b1 b2 t .table }
@@ -79,12 +77,8 @@ module _ (b1 b2 : ℕ) (t ws u : List ℕ) (q : u ≡ openCall b1 b2 t .table) w
 
   pub filled-some : accepted (openCall b1 b2 t .answer) ≡ true → (n : ℕ) (v : List ℕ) → Gives (takenFrom 0 u ws) n v → Gives (filled b1 b2 t ws) n v
   unfolding filled
-  filled-some y n v g =
-      let e = ap (λ (x : List ℕ). takenFrom 0 x ws) q ∙ sym (cond-true _ _ y) in
-      (g .0 ∙ ap (λ (p : Probed). p .number) e, g .1 ∙ ap (λ (p : Probed). p .words) e)
+  filled-some y n v = subst (λ (p : Probed). Gives p n v) (ap (λ (x : List ℕ). takenFrom 0 x ws) q ∙ sym (cond-true _ _ y))
 
   pub filled-none : accepted (openCall b1 b2 t .answer) ≡ false → Gives (filled b1 b2 t ws) 0 u
   unfolding filled
-  filled-none n =
-      let e = sym (cond-false _ _ n) in
-      (ap (λ (p : Probed). p .number) e, q ∙ ap (λ (p : Probed). p .words) e)
+  filled-none n = subst (λ (p : Probed). Gives p 0 u) (sym (cond-false _ _ n)) (refl, q)

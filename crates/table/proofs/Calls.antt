@@ -71,13 +71,13 @@ match-test : (b : Bool) {o p : Outcome} {m q : M.Outcome} → (b ≡ true → Ma
 match-test true f g = f refl
 match-test false f g = g refl
 
-shape-range : (t : List ℕ) → shaped t ≡ true → inRange (getD t buckets1At 0) (getD t buckets2At 0) ≡ true
+pub shape-range : (n r : ℕ) (t : List ℕ) → shapeTest n r t ≡ true → inRange (getD t buckets1At 0) (getD t buckets2At 0) ≡ true
 unfolding shapeTest
-shape-range t h = and-one (inRange (getD t buckets1At 0) (getD t buckets2At 0)) _ (and-two (leb leading (length t)) _ h)
+shape-range n r t h = and-one (inRange (getD t buckets1At 0) (getD t buckets2At 0)) _ (and-two (leb leading (length t)) _ h)
 
-shape-size : (t : List ℕ) → shaped t ≡ true → length t ≡ lengthOf rows solutions (getD t buckets1At 0) (getD t buckets2At 0)
+pub shape-size : (n r : ℕ) (t : List ℕ) → shapeTest n r t ≡ true → length t ≡ lengthOf n r (getD t buckets1At 0) (getD t buckets2At 0)
 unfolding shapeTest
-shape-size t h = eqb-true _ _ (and-two (inRange (getD t buckets1At 0) (getD t buckets2At 0)) _ (and-two (leb leading (length t)) _ h))
+shape-size n r t h = eqb-true _ _ (and-two (inRange (getD t buckets1At 0) (getD t buckets2At 0)) _ (and-two (leb leading (length t)) _ h))
 
 size-shape : (t : List ℕ) → inRange (getD t buckets1At 0) (getD t buckets2At 0) ≡ true → length t ≡ lengthOf rows solutions (getD t buckets1At 0) (getD t buckets2At 0) → shaped t ≡ true
 unfolding shapeTest
@@ -102,7 +102,7 @@ module _ (t : List ℕ) (s : State) (h : FlatStands t s) where
   range : inRange (s .size .buckets1) (s .size .buckets2) ≡ true
   range =
       let k = header-read rows solutions t in
-      ap₂ inRange (sym (h .stands .level1 .count) ∙ k .0) (sym (h .stands .level2 .count) ∙ k .1) ∙ shape-range t (h .shape)
+      ap₂ inRange (sym (h .stands .level1 .count) ∙ k .0) (sym (h .stands .level2 .count) ∙ k .1) ∙ shape-range rows solutions t (h .shape)
 
   pub stands-flat : FlatSound t
   stands-flat = record { table = stands-sound rows solutions mixOf unmixOf keeps keepsU unmix-mix mix-unmix refl T₀ s (h .stands); unused = h .unused }
@@ -196,7 +196,7 @@ sound-stands-flat t k h = record { shape = k; unused = h .unused; stands = sound
 
 pub sound-laid : (t : List ℕ) → shaped t ≡ true → FlatSound t → Laid rows solutions t
 sound-laid t k h = record {
-  size = shape-size t k;
+  size = shape-size rows solutions t k;
   fits = subst (λ (c : ℕ). c ≤ baseLimit) (header-read rows solutions t .2) (h .table .fits);
   unused = h .unused;
 }
@@ -204,5 +204,5 @@ sound-laid t k h = record {
 -- the test says true exactly of sound tables
 pub sound-exactly : (t : List ℕ) → shaped t ≡ true → ((i : ℕ) → getD t i 0 < 2 ^ rows) → (sound t ≡ true) ↔ FlatSound t
 sound-exactly t k b =
-    let g = range-some (getD t buckets1At 0) (getD t buckets2At 0) (shape-range t k) in
-    (test-sound rows solutions mixOf unmixOf t (shape-size t k) b (g .0) (g .1), sound-test rows solutions mixOf unmixOf t)
+    let g = range-some (getD t buckets1At 0) (getD t buckets2At 0) (shape-range rows solutions t k) in
+    (test-sound rows solutions mixOf unmixOf t (shape-size rows solutions t k) b (g .0) (g .1), sound-test rows solutions mixOf unmixOf t)

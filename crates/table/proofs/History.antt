@@ -1,41 +1,34 @@
 -- Lists of requests put to the numbers of a table: they refine the model, so its laws hold of them. The two rules for adds, of every sound table.
 -- Assumes nothing.
-use Prim.Native.Nat.{ℕ, _+_, _^_, _<_}
+use Prim.Native.Nat.{ℕ, _<_}
 use native.Mathlib.Omega.{arith}
-use mathlib.Core.Path.{_≡_, refl, sym, ap, _∙_, subst, subst⁻¹}
+use mathlib.Core.Path.{_≡_, refl, sym, ap, _∙_, subst}
 use mathlib.Core.Bool.{true, false, true≢false}
-use mathlib.Core.Logic.{⊎-elim, _↔_}
+use mathlib.Core.Logic.{⊎-elim}
 use mathlib.Core.Option.{Option, none, some}
-use mathlib.Core.List.{List, [], _∷_, List·Permᴰ}
+use mathlib.Core.List.{List, [], _∷_}
 use lib.Dec.{eqb, ltb}
-use lib.ListN.{length, getD}
-use Rattle.lists.specs.Entries.{Entry, planLimit, words, find}
-use Rattle.lists.proofs.Tests.{by-test, cond-true}
-use Rattle.gf2.specs.Bound.{Largest}
-use Rattle.hash.specs.Mix.{mixOf, unmixOf}
-use Rattle.answer.specs.declared.Answer.{Answer}
-use Rattle.answer.specs.declared.Answer.the-variants.{Accepted, Full}
-use Rattle.answer.specs.Numbers.{numberOf}
+use lib.ListN.{length}
+use Rattle.lists.specs.Entries.{planLimit}
+use Rattle.lists.proofs.Tests.{by-test}
+use Rattle.hash.specs.Mix.{mixOf}
+use Rattle.answer.specs.declared.Answer.the-variants.{Accepted}
 use Rattle.identifier.specs.Identifier.{wordOf}
 use Rattle.identifier.specs.declared.Read.{Read}
 use Rattle.identifier.specs.declared.Read.the-variants.{Word, Refused}
-use Rattle.model.specs.Levels.{firstLevel, secondLevel, passed, due}
+use Rattle.model.specs.Levels.{firstLevel, secondLevel}
 use Rattle.model.specs.Model as M
-use Rattle.model.specs.Model.{baseLimit, State, Call, add, change, withdraw, query, opened, wouldLeave, base, step}
-use Rattle.model.specs.Request.{Token, wordFor, serveRead, serve, Request, ask, respond}
+use Rattle.model.specs.Model.{baseLimit, State, Call, add, change, withdraw, query, opened, base, step}
+use Rattle.model.specs.Request.{Token, wordFor, serve, Request, ask, respond}
 use Rattle.model.specs.Machine.{accepted, after, acceptedOf, Refines, Compares}
-use Rattle.model.specs.History.{callsIn, addsIn, withdrawalsIn, told}
-use Rattle.model.proofs.Valid.{valid-opened}
-use Rattle.model.proofs.Refine.{stands-after, accepted-after}
-use Rattle.model.proofs.Calls.{StandsFor, count-after, told-after}
-use Rattle.model.proofs.Requests.{word-small, serve-each, stands-for, respond-never, respond-size}
-use Rattle.model.proofs.Statements as Model
+use Rattle.model.specs.History.{callsIn}
+use Rattle.model.proofs.Calls.{StandsFor, stands-after, accepted-after}
+use Rattle.model.proofs.Requests.{serve-each, stands-for, respond-size}
 use Rattle.table.specs.Table.{Table, openTable, changedIn, withdrawnFrom, addedTo}
-use Rattle.table.specs.Layout.{liveCountAt, inRange, numbersOf, tableFrom, lengthOf}
-use Rattle.table.specs.Content.{entriesOf}
+use Rattle.table.specs.Layout.{inRange, numbersOf, lengthOf}
 use Rattle.table.specs.Calls.{rows, solutions, tableOf, planIn, shaped, sound, FlatSound, Outcome, openCall, joined, replaced, queried, served, callRead, call}
 use Rattle.table.specs.History.{Put, request, tables, states, callsOf, Opened, acceptedCalls, flatState, Same}
-use Rattle.table.proofs.Calls.{FlatStands, Match, stands-test, stands-shows, stands-look, call-match, request-match, open-stands-flat, sound-stands-flat, stands-flat, stands-entries}
+use Rattle.table.proofs.Calls.{FlatStands, Match, stands-shows, call-match, request-match, open-stands-flat, sound-stands-flat}
 
 -- ---- the table refines the model
 
@@ -68,12 +61,7 @@ open-refused b1 b2 t =
     (λ r. by-test (λ (o : Outcome). accepted (o .answer) ≡ false → o .table ≡ t) (eqb (length t) (lengthOf rows solutions b1 b2)) (λ q a. absurd (true≢false a)) (λ q a. refl))
     (λ r a. refl)
 
--- ---- what each call leaves where it is refused, and which causes it can give
-
--- a call that meets none of 1, 2, 4 and 5
-pub by-word : (t : List ℕ) (c : Call Token) (w : ℕ) → wordFor c ≡ Word w → shaped t ≡ true → sound t ≡ true → call t c ≡ served t w c
-unfolding call
-by-word t c w e k h = ap (callRead t c) e ∙ cond-true _ _ k ∙ cond-true _ _ h
+-- ---- what each call leaves where it is refused
 
 module _ (t : List ℕ) where
   -- refused calls keep every number
@@ -107,10 +95,10 @@ module _ (t : List ℕ) where
 
 -- ---- after any list of requests since an accepted opening
 
-each-stands : StandsFor firstLevel secondLevel states callsOf
+pub each-stands : StandsFor firstLevel secondLevel states callsOf
 each-stands = record { keeps = λ s p. stands-for .keeps s (p .request); each = λ s p. stands-for .each s (p .request) }
 
-size-after : (s : State) (ps : List Put) → after states s ps .size ≡ s .size
+pub size-after : (s : State) (ps : List Put) → after states s ps .size ≡ s .size
 size-after s [] = refl
 size-after s (p ∷ ps) = size-after (respond s (p .request) .after) ps ∙ respond-size s (p .request)
 
@@ -127,31 +115,9 @@ module _ (t : List ℕ) (o : Opened t) (ps : List Put) where
   pub after-stands : FlatStands t₁ s₁
   after-stands = stands-after tables states FlatStands refines t s₀ (opened-stands t o) ps
 
-  -- the size is the opening's
-  pub size-stays : s₁ .size ≡ o .size
-  size-stays = size-after s₀ ps
-
-  -- neither cause 4 nor cause 5
-  pub never : (p : Put) → (numberOf (request t₁ (p .request) .answer) ≡ 4 → ⊥) × (numberOf (request t₁ (p .request) .answer) ≡ 5 → ⊥)
-  never p =
-      subst⁻¹ (λ (a : Answer). (numberOf a ≡ 4 → ⊥) × (numberOf a ≡ 5 → ⊥)) (request-match t₁ s₁ after-stands (p .request) (p .fits) .says) (respond-never s₁ (p .request))
-
   -- the same calls are accepted as by the model
-  same-calls : callsIn callsOf (acceptedOf states s₀ ps) ≡ acceptedCalls t ps
+  pub same-calls : callsIn callsOf (acceptedOf states s₀ ps) ≡ acceptedCalls t ps
   same-calls = ap (callsIn callsOf) (sym (accepted-after tables states FlatStands refines t s₀ (opened-stands t o) ps))
-
-  pub count-after-all : getD t₁ liveCountAt 0 + withdrawalsIn (acceptedCalls t ps) ≡ addsIn (acceptedCalls t ps)
-  unfolding tableFrom
-  count-after-all =
-      let c : getD t₁ liveCountAt 0 ≡ length (s₁ .live) = after-stands .stands .counted in
-      subst (λ (cs : List (Call ℕ)). getD t₁ liveCountAt 0 + withdrawalsIn cs ≡ addsIn cs) same-calls
-      (let h = count-after firstLevel secondLevel states callsOf each-stands s₀ (valid-opened firstLevel secondLevel (o .size)) ps in omega arith)
-
-  pub plan-after : (v : ℕ) → v < 2 ^ rows → planIn t₁ v ≡ told v (acceptedCalls t ps)
-  plan-after v l =
-      stands-look t₁ s₁ after-stands v l
-      ∙ told-after firstLevel secondLevel states callsOf each-stands v s₀ (valid-opened firstLevel secondLevel (o .size)) false 0 refl ps
-      ∙ ap (told v) same-calls
 
 -- ---- a sound table, also one handed in from elsewhere
 
@@ -162,29 +128,11 @@ module _ (t : List ℕ) (k : shaped t ≡ true) (h : FlatSound t) where
   st : FlatStands t s
   st = sound-stands-flat t k h
 
-  -- the three tests find the plan of a live word, and nothing for any other
-  pub sound-look : (w : ℕ) → w < 2 ^ rows → planIn t w ≡ find w (s .live)
-  sound-look = stands-look t s st
-
-  -- the occupied rows and base entries are the live words, and are counted
-  pub sound-entries : List·Permᴰ (entriesOf rows unmixOf (tableOf t)) (s .live)
-  sound-entries = stands-entries t s st
-
-  pub sound-count : getD t liveCountAt 0 ≡ length (s .live)
-  unfolding tableFrom
-  sound-count = st .stands .counted
-
-  -- a query of a live word gives its plan, of any other word cause 7
-  pub query-is : (i : Token) (w : ℕ) → wordFor (query i) ≡ Word w → call t (query i) ≡ queried t (find w (s .live))
-  unfolding served
-  query-is i w e =
-      by-word t (query i) w e k (stands-test t s st) ∙ ap (queried t) (sound-look w (word-small (query i) w e))
-
   module _ (i : Token) (p : ℕ) (l : p < planLimit) where
     abbrev t′ : List ℕ
     t′ = call t (add i p) .table
 
-    m : Match (call t (add i p)) (serve s (add i p))
+    pub m : Match (call t (add i p)) (serve s (add i p))
     m = call-match t s st (add i p) l
 
     module _ (a : accepted (call t (add i p) .answer) ≡ true) where
@@ -192,40 +140,8 @@ module _ (t : List ℕ) (k : shaped t ≡ true) (h : FlatSound t) where
       is-step : serve s (add i p) ≡ step firstLevel secondLevel s (add (wordOf i) p)
       is-step = ⊎-elim (λ x. absurd (true≢false (sym a ∙ ap accepted (m .says) ∙ x .0))) (λ e. e) (serve-each s (add i p))
 
-      took : accepted (step firstLevel secondLevel s (add (wordOf i) p) .answer) ≡ true
+      pub took : accepted (step firstLevel secondLevel s (add (wordOf i) p) .answer) ≡ true
       took = ap (λ (x : M.Outcome). accepted (x .answer)) (sym is-step) ∙ ap accepted (sym (m .says)) ∙ a
 
-      left : flatState t′ ≡ step firstLevel secondLevel s (add (wordOf i) p) .after
+      pub left : flatState t′ ≡ step firstLevel secondLevel s (add (wordOf i) p) .after
       left = stands-shows t′ (serve s (add i p) .after) (m .stands) ∙ ap (λ (x : M.Outcome). x .after) is-step
-
-      abbrev e : Entry
-      e = record { word = wordOf i; plan = p }
-
-      pub rule-first : (j : ℕ) → j < s .size .buckets1
-          → Largest (getD (s .bounds1) j 0) (due firstLevel (s .size .buckets1) (words (flatState t′ .live)) j) (getD (flatState t′ .bounds1) j 0)
-      rule-first j q =
-          subst⁻¹ (λ (u : State). Largest (getD (s .bounds1) j 0) (due firstLevel (s .size .buckets1) (words (u .live)) j) (getD (u .bounds1) j 0)) left
-          (Model.bounds-first firstLevel secondLevel s e took j q)
-
-      pub rule-second : (j : ℕ) → j < s .size .buckets2
-          → Largest (getD (s .bounds2) j 0) (due secondLevel (s .size .buckets2) (passed firstLevel (s .size .buckets1) (flatState t′ .bounds1) (words (flatState t′ .live))) j) (getD (flatState t′ .bounds2) j 0)
-      rule-second j q =
-          subst⁻¹ (λ (u : State). Largest (getD (s .bounds2) j 0) (due secondLevel (s .size .buckets2) (passed firstLevel (s .size .buckets1) (u .bounds1) (words (u .live))) j) (getD (u .bounds2) j 0)) left
-          (Model.bounds-second firstLevel secondLevel s e took j q)
-
-    pub rule-full : (w : ℕ) → wordFor (add i p) ≡ Word w → find w (s .live) ≡ none
-        → (call t (add i p) .answer ≡ Full) ↔ (baseLimit < length (base firstLevel secondLevel (wouldLeave firstLevel secondLevel s (record { word = w; plan = p }))))
-    rule-full w q f =
-        subst⁻¹ (λ (a : Answer). (a ≡ Full) ↔ (baseLimit < length (base firstLevel secondLevel (wouldLeave firstLevel secondLevel s (record { word = w; plan = p })))))
-        (m .says ∙ ap (λ (x : Read). serveRead s (add i p) x .answer) q)
-        (Model.full-exactly firstLevel secondLevel s (record { word = w; plan = p }) f)
-
--- ---- what a query tells after any list of calls
-
-pub query-after : (t : List ℕ) (o : Opened t) (ps : List Put) (i : Token) (w : ℕ) → wordFor (query i) ≡ Word w
-    → call (after tables t ps) (query i) ≡ queried (after tables t ps) (told w (acceptedCalls t ps))
-query-after t o ps i w e =
-    let h = after-stands t o ps in
-    let l : w < 2 ^ rows = word-small (query i) w e in
-    query-is (after tables t ps) (h .shape) (stands-flat (after tables t ps) _ h) i w e
-    ∙ ap (queried (after tables t ps)) (sym (sound-look (after tables t ps) (h .shape) (stands-flat (after tables t ps) _ h) w l) ∙ plan-after t o ps w l)

@@ -1,30 +1,34 @@
--- A level: its buckets hold the words that are due there under their bounds. What an arrival does to a level, and arrivals one after the other.
+-- A level: its buckets hold the words that are due there under their bounds. What an arrival does to a level, and arrivals one after the other;
+-- the level whose word is looked up, changed or withdrawn.
 -- At every number n of rows and r of solution words, and for every mix S.
 -- Assumes nothing.
 use Prim.Native.Nat.{ℕ, _/_, _^_, _<_}
 use native.Mathlib.Nat.{mod-lt}
 use mathlib.Core.Path.{_≡_, refl, sym, ap, ap₂, _∙_, subst, subst⁻¹, subst₂}
-use mathlib.Core.Bool.{Bool, false, not, _&&_, and-comm, and-false}
+use mathlib.Core.Bool.{Bool, true, false, not, _&&_, and-comm, and-false}
+use mathlib.Core.Option.{some}
 use mathlib.Core.List.{List, [], _∷_, _++_, map, map-map, append-assoc, List·Permᴰ, List·Permᴰ·trans, Permᴰ·refl, Permᴰ·symm, Permᴰ·append-right, Permᴰ·append-left, List·Memᴰ, List·Memᴰ·head, List·Memᴰ·tail}
 use lib.Dec.{eqb, ltb}
 use lib.ListN.{length, getD, set, length-set, length-map}
-use lib.Seq.{getD-set-same, getD-set-other}
+use lib.Seq.{getD-set-same, getD-set-other, map-set-same}
 use borrow.Author.Tests.{eqb-true, eqb-false, eq-eqb}
 use Rattle.lists.specs.Lists.{keep, joined}
-use Rattle.lists.specs.Entries.{Entry, words}
-use Rattle.lists.proofs.Tests.{cases, cond-true, cond-false}
+use Rattle.lists.specs.Entries.{Entry, words, find, update, remove, sort, Distinct}
+use Rattle.lists.proofs.Tests.{by-test, cases, cond-true, cond-false}
 use Rattle.lists.proofs.Keep.{keep-perm, keep-keep, keep-map, keep-ext, keep-part, shuffle, map-set, getD-map-in}
+use Rattle.lists.proofs.Edits.{find-keep, remove-in, remove-out, update-in, update-out, remove-renamed, update-renamed, sort-update, sort-remove}
 use Rattle.gf2.specs.Bound.{Due}
 use Rattle.gf2.proofs.Bound.{fall}
 use Rattle.identifier.specs.Place.{thresholds}
 use Rattle.bucket.specs.declared.Bucket.{Bucket}
-use Rattle.bucket.specs.Bucket.{emptyBucket}
-use Rattle.bucket_settle.specs.Settle.{Settlement, settle}
-use Rattle.bucket_settle.proofs.Hold.{Holds, holds-perm}
+use Rattle.bucket.specs.Bucket.{emptyBucket, change, withdraw}
+use Rattle.bucket_settle.specs.Settle.{planOf, Settlement, settle}
+use Rattle.bucket_settle.proofs.Hold.{Holds, holds-perm, holds-find, holds-withdraw, withdraw-bound, holds-change, change-bound}
 use Rattle.bucket_settle.proofs.Fall.{held, over, seen, Settles, settle-law}
-use Rattle.model.specs.Levels.{Level, dueAs, due, holds}
+use Rattle.model.specs.Levels as M
+use Rattle.model.specs.Levels.{Level, dueAs, due}
 use Rattle.model.proofs.Arrivals.{arrive, arrives}
-use Rattle.table.specs.Table.{Placed, bounds, thr, index, second, nth, arriveAt, arriveAll}
+use Rattle.table.specs.Table.{Table, Placed, bounds, thr, index, second, onSecond, nth, bucketOf, put, holds, touch, arriveAt, arriveAll}
 
 pub bounds-length : (bs : List Bucket) → length (bounds bs) ≡ length bs
 unfolding bounds
@@ -56,7 +60,7 @@ module _ (S : ℕ → ℕ) where
 
   -- the vector v is held, in its bucket of m, under these bounds
   abbrev pub within : ℕ → List ℕ → ℕ → Bool
-  within m B v = holds firstLevel m B v
+  within m B v = M.holds firstLevel m B v
 
   -- of the entries es: those due in bucket i of m, and those that the bounds pass on
   abbrev pub dueIn : ℕ → ℕ → List Entry → List Entry
@@ -170,23 +174,19 @@ module _ (n r : ℕ) (S : ℕ → ℕ) where
         (ap (λ (b : Bool). not (ltb (thr S (e .word)) (getD B i 0)) && not b) (eq-eqb i i refl) ∙ and-false (not (ltb (thr S (e .word)) (getD B i 0))))
         ∙ ap (λ (C : List ℕ). away S m i C es) new-bounds ∙ away-set S m i (s .bucket .bound) (bounds bs) es
 
-    leaves-after : List·Permᴰ (s .out ++ pass S m (bounds bs) es) (pass S m (bounds (set bs i (s .bucket))) (e ∷ es))
-    leaves-after =
-        List·Permᴰ·trans (Permᴰ·append-left (s .out) (pass-split S m i (bounds bs) es))
-        (subst (λ (l : List Entry). List·Permᴰ l (pass S m (bounds (set bs i (s .bucket))) (e ∷ es)))
-        (append-assoc (s .out) (over (thr S) (getD (bounds bs) i 0) fs) (away S m i (bounds bs) es))
-        (List·Permᴰ·trans (Permᴰ·append-right (away S m i (bounds bs) es)
-        (subst⁻¹ (λ (t : ℕ). List·Permᴰ (s .out ++ over (thr S) t fs) (over (thr S) (s .bucket .bound) (e ∷ fs))) here-bound (law .leaves)))
-        (subst₂ (λ (l k : List Entry). List·Permᴰ (l ++ k) (pass S m (bounds (set bs i (s .bucket))) (e ∷ es)))
-        (ap₂ (λ (t : ℕ) (l : List Entry). over (thr S) t l) there-bound own-due) away-after
-        (Permᴰ·symm (pass-split S m i (bounds (set bs i (s .bucket))) (e ∷ es))))))
-
     arrive-here : Arrived m bs es e (arriveAt n r S bs e)
     arrive-here = record {
       level = level-set i (s .bucket) l i-lt (subst⁻¹ (λ (l : List Entry). Holds n r (s .bucket) (held (thr S) (s .bucket .bound) l)) own-due (law .holds))
           (λ j f. cond-false (e ∷ dueIn S m j es) (dueIn S m j es) f);
       falls = new-bounds ∙ ap (set (bounds bs) i) (law .falls ∙ ap₂ (λ (t : ℕ) (ds : List Due). fall t (seen (thr S) e) ds) (sym here-bound) (sym (due-in S m i es)));
-      leaves = leaves-after;
+      leaves = List·Permᴰ·trans (Permᴰ·append-left (s .out) (pass-split S m i (bounds bs) es))
+          (subst (λ (l : List Entry). List·Permᴰ l (pass S m (bounds (set bs i (s .bucket))) (e ∷ es)))
+          (append-assoc (s .out) (over (thr S) (getD (bounds bs) i 0) fs) (away S m i (bounds bs) es))
+          (List·Permᴰ·trans (Permᴰ·append-right (away S m i (bounds bs) es)
+          (subst⁻¹ (λ (t : ℕ). List·Permᴰ (s .out ++ over (thr S) t fs) (over (thr S) (s .bucket .bound) (e ∷ fs))) here-bound (law .leaves)))
+          (subst₂ (λ (l k : List Entry). List·Permᴰ (l ++ k) (pass S m (bounds (set bs i (s .bucket))) (e ∷ es)))
+          (ap₂ (λ (t : ℕ) (l : List Entry). over (thr S) t l) there-bound own-due) away-after
+          (Permᴰ·symm (pass-split S m i (bounds (set bs i (s .bucket))) (e ∷ es))))));
     }
 
   pub arrive-law : (m : ℕ) (bs : List Bucket) (es : List Entry) (e : Entry) → 0 < m → Fits n r e → LevelHolds m bs es → Arrived m bs es e (arriveAt n r S bs e)
@@ -212,3 +212,114 @@ module _ (n r : ℕ) (S : ℕ → ℕ) where
         falls = b .falls ∙ ap (λ (t : List ℕ). arrives (firstLevel S) m t (e .word ∷ words es) (words new)) (a .falls);
         leaves = List·Permᴰ·trans (shuffle (p .out) (q .out) (pass S m (bounds bs) es)) (List·Permᴰ·trans (Permᴰ·append-left (q .out) (a .leaves)) (b .leaves));
       }
+
+-- ---- a level whose word is looked up, changed or withdrawn
+
+module _ (n r : ℕ) (S : ℕ → ℕ) where
+  -- the test of a level, by its bounds
+  pub holds-test : (m : ℕ) (bs : List Bucket) → length bs ≡ m → 0 < m → (v : ℕ) → holds n r S bs v ≡ within S m (bounds bs) v
+  holds-test m bs c pos v =
+      subst (λ (k : ℕ). 0 < k → holds n r S bs v ≡ within S k (bounds bs) v) c (λ p. ap (ltb (thr S v)) (sym (bound-at n r bs (index S (length bs) v) (mod-lt (S v / thresholds) p)))) pos
+
+  -- wherever the word is, the live count stays
+  pub touch-keeps : (T : Table) (w : ℕ) (f : ℕ → Bucket → Bucket) (g : ℕ → List Entry → List Entry) → touch n r S T w f g .count ≡ T .count
+  touch-keeps T w f g =
+      let Kept : Table → Type 0 = λ (U : Table). U .count ≡ T .count in
+      by-test Kept (holds n r S (T .level1) w) (λ _. refl) (λ _. by-test Kept (holds n r S (T .level2) (second S w)) (λ _. refl) (λ _. refl))
+
+  -- ---- an edit of one word's entry: f in a bucket is g on its entries
+
+  pub record Edit (f : ℕ → Bucket → Bucket) (g : ℕ → List Entry → List Entry) : Type 0 where
+    pub inside : (P : ℕ → Bool) (v : ℕ) (es : List Entry) → P v ≡ true → keep (λ e. P (e .word)) (g v es) ≡ g v (keep (λ e. P (e .word)) es)
+    pub outside : (P : ℕ → Bool) (v : ℕ) (es : List Entry) → P v ≡ false → keep (λ e. P (e .word)) (g v es) ≡ keep (λ e. P (e .word)) es
+    pub twice : (v : ℕ) (es : List Entry) → v < 2 ^ n → ((e : Entry) → List·Memᴰ e es → e .word < 2 ^ n) → map (onSecond S) (g v es) ≡ g (second S v) (map (onSecond S) es)
+    pub bucket : {b : Bucket} {rows : List Entry} → Holds n r b rows → (v q : ℕ) → v < 2 ^ n → find v rows ≡ some q → Holds n r (f v b) (g v rows)
+    pub bound : {b : Bucket} {rows : List Entry} → Holds n r b rows → (v q : ℕ) → v < 2 ^ n → find v rows ≡ some q → f v b .bound ≡ b .bound
+    pub sorted : (v q : ℕ) (es : List Entry) → Distinct es → find v es ≡ some q → g v (sort es) ≡ sort (g v es)
+
+  module _ (inj : (u v : ℕ) → u < 2 ^ n → v < 2 ^ n → second S u ≡ second S v → u ≡ v) where
+    pub withdraw-edit : Edit (λ v b. withdraw n v b .bucket) (λ v es. remove v es)
+    withdraw-edit = record {
+      inside = remove-in;
+      outside = remove-out;
+      twice = λ v es l b. remove-renamed (second S) (2 ^ n) inj v es l b;
+      bucket = λ h v q l f. holds-withdraw h v q l f;
+      bound = λ h v q l f. withdraw-bound h v q l f;
+      sorted = λ v q es d f. sort-remove v q es d f;
+    }
+
+    pub change-edit : (p : ℕ) → p < 2 ^ r → Edit (λ v b. change n v p b .bucket) (λ v es. update (record { word = v; plan = p }) es)
+    change-edit p hp = record {
+      inside = λ P v es t. update-in P (record { word = v; plan = p }) es t;
+      outside = λ P v es t. update-out P (record { word = v; plan = p }) es t;
+      twice = λ v es l b. update-renamed (second S) (2 ^ n) inj (record { word = v; plan = p }) es l b;
+      bucket = λ h v q l f. holds-change h v q l f p hp;
+      bound = λ h v q l f. change-bound h v q l f p hp;
+      sorted = λ v q es d f. sort-update (record { word = v; plan = p }) q es d f;
+    }
+
+  module _ {m : ℕ} {bs : List Bucket} {es : List Entry} (v : ℕ) (pos : 0 < m) (a : LevelHolds n r S m bs es) (l : v < 2 ^ n) where
+    abbrev at : ℕ
+    at = index S m v
+
+    at-lt : at < m
+    at-lt = mod-lt (S v / thresholds) pos
+
+    abbrev b : Bucket
+    b = nth n r bs at
+
+    -- v's bucket, by the number of buckets
+    here : bucketOf n r S bs v ≡ b
+    here = ap (λ (k : ℕ). nth n r bs (index S k v)) (a .count)
+
+    low : {t : Bool} → holds n r S bs v ≡ t → ltb (thr S v) (b .bound) ≡ t
+    low t = ap (λ (c : Bucket). ltb (thr S v) (c .bound)) (sym here) ∙ t
+
+    find-here : holds n r S bs v ≡ true → find v (held (thr S) (b .bound) (dueIn S m at es)) ≡ find v es
+    find-here t =
+        find-keep (λ w. ltb (thr S w) (b .bound)) v (dueIn S m at es) (low t) ∙ find-keep (λ w. eqb (index S m w) at) v es (eq-eqb at at refl)
+
+    pub level-find : holds n r S bs v ≡ true → planOf n v (bucketOf n r S bs v) ≡ find v es
+    level-find t = ap (planOf n v) here ∙ holds-find (a .each at at-lt) v l ∙ find-here t
+
+    module _ (f : ℕ → Bucket → Bucket) (g : ℕ → List Entry → List Entry) (edit : Edit f g) where
+      due-own : dueIn S m at (g v es) ≡ g v (dueIn S m at es)
+      due-own = edit .inside (λ w. eqb (index S m w) at) v es (eq-eqb at at refl)
+
+      due-else : (j : ℕ) → eqb at j ≡ false → dueIn S m j (g v es) ≡ dueIn S m j es
+      due-else j t = edit .outside (λ w. eqb (index S m w) j) v es t
+
+      -- the level does not hold v
+      pub level-past : holds n r S bs v ≡ false → LevelHolds n r S m bs (g v es)
+      level-past off = record {
+        count = a .count;
+        each = λ j h. subst⁻¹ (Holds n r (nth n r bs j))
+            (cases (eqb at j)
+            (λ t. subst (λ (k : ℕ). held (thr S) (nth n r bs k .bound) (dueIn S m k (g v es)) ≡ held (thr S) (nth n r bs k .bound) (dueIn S m k es)) (eqb-true at j t)
+            (ap (held (thr S) (b .bound)) due-own ∙ edit .outside (λ w. ltb (thr S w) (b .bound)) v (dueIn S m at es) (low off)))
+            (λ t. ap (held (thr S) (nth n r bs j .bound)) (due-else j t)))
+            (a .each j h);
+      }
+
+      module _ (q : ℕ) (live : find v es ≡ some q) (on : holds n r S bs v ≡ true) where
+        there : find v (held (thr S) (b .bound) (dueIn S m at es)) ≡ some q
+        there = find-here on ∙ live
+
+        same-bound : f v b .bound ≡ b .bound
+        same-bound = edit .bound (a .each at at-lt) v q l there
+
+        own : HoldsDue n r S m at (g v es) (f v b)
+        own =
+            subst⁻¹ (Holds n r (f v b))
+            (ap₂ (λ (t : ℕ) (ds : List Entry). held (thr S) t ds) same-bound due-own ∙ edit .inside (λ w. ltb (thr S w) (b .bound)) v (dueIn S m at es) (low on))
+            (edit .bucket (a .each at at-lt) v q l there)
+
+        same-put : put S bs v (f v (bucketOf n r S bs v)) ≡ set bs at (f v b)
+        same-put = ap (λ (k : ℕ). set bs (index S k v) (f v (nth n r bs (index S k v)))) (a .count)
+
+        pub level-touch : LevelHolds n r S m (put S bs v (f v (bucketOf n r S bs v))) (g v es)
+        level-touch = subst⁻¹ (λ (cs : List Bucket). LevelHolds n r S m cs (g v es)) same-put (level-set n r S at (f v b) a at-lt own due-else)
+
+        pub touch-bounds : bounds (put S bs v (f v (bucketOf n r S bs v))) ≡ bounds bs
+        unfolding bounds
+        touch-bounds = ap bounds same-put ∙ map-set-same (λ c. c .bound) bs at (f v b) (emptyBucket n r) same-bound

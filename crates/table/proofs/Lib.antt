@@ -1,6 +1,5 @@
 pub mod Numbers
 pub mod Level
-pub mod Touch
 pub mod Stand
 pub mod Content
 pub mod Sound

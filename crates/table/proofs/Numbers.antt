@@ -154,10 +154,6 @@ module _ (n r : ℕ) where
 
   -- ---- the whole table
 
-  -- the header has its length
-  pub length-heads : (T : Table) → length (heads T) ≡ header
-  length-heads T = refl
-
   module _ (T : Table) (h : ShapedTable T) where
     abbrev l1 : List ℕ
     l1 = levelNumbers (T .level1)
@@ -233,7 +229,6 @@ module _ (n r : ℕ) where
     laid = record {
       size = omega (
         arith,
-        length-heads T,
         length-append (heads T) from1,
         length-append l1 from2,
         length-append l2 (basePairs (T .base)),
@@ -320,7 +315,8 @@ module _ (n r : ℕ) where
   unfolding tableFrom
   read-base xs i d l = read-pair (getD xs baseCountAt 0) (drop (bucketPlace n r (getD xs buckets1At 0 + getD xs buckets2At 0)) xs) i d l
 
-  four : (xs : List ℕ) → header ≤ length xs → getD xs buckets1At 0 ∷ getD xs buckets2At 0 ∷ getD xs baseCountAt 0 ∷ getD xs liveCountAt 0 ∷ drop header xs ≡ xs
+  -- the header and the rest
+  pub four : (xs : List ℕ) → header ≤ length xs → getD xs buckets1At 0 ∷ getD xs buckets2At 0 ∷ getD xs baseCountAt 0 ∷ getD xs liveCountAt 0 ∷ drop header xs ≡ xs
   four [] h = absurd (omega arith)
   four (a ∷ []) h = absurd (omega arith)
   four (a ∷ b ∷ []) h = absurd (omega arith)

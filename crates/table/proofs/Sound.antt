@@ -32,8 +32,7 @@ use Rattle.model.proofs.Valid.{Valid}
 use Rattle.table.specs.Table.{Table, bounds, thr, index, onSecond, nth, holds}
 use Rattle.table.specs.Content.{occupied, allRows, backOf, entriesOf, liveOf, stateOf}
 use Rattle.table.specs.Sound.{Row, SoundLevel, SoundTable}
-use Rattle.table.proofs.Level.{Fits, Small, bounds-length, bound-at, firstLevel, secondLevel, within, dueIn, due-in, LevelHolds}
-use Rattle.table.proofs.Touch.{holds-test}
+use Rattle.table.proofs.Level.{Fits, Small, bounds-length, bound-at, firstLevel, secondLevel, within, dueIn, due-in, LevelHolds, holds-test}
 use Rattle.table.proofs.Stand.{passes, later, last, due-map, words-second, last-length, Stands, test1, test2, distinct-later, distinct-last}
 use Rattle.table.proofs.Content.{all-length, entries-length, table-count}
 

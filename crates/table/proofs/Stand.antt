@@ -25,12 +25,10 @@ use Rattle.bucket_settle.proofs.Hold.{Holds, holds-empty}
 use Rattle.model.specs.Levels.{dueAs, due, passed}
 use Rattle.model.specs.Model.{baseLimit, Size, State, opened, withLive, wouldLeave, base}
 use Rattle.model.proofs.Levels.{passed-words}
-use Rattle.model.proofs.Arrivals.{arrive, arrives}
+use Rattle.model.proofs.Arrivals.{arrive, arrives, first, first-settled, second-settled}
 use Rattle.model.proofs.Valid.{Valid, valid-opened, valid-live, valid-settled}
-use Rattle.model.proofs.AddSteps.{first, first-settled, second-settled}
 use Rattle.table.specs.Table.{Table, withCount, Placed, bounds, index, second, onSecond, bucketOf, put, holds, planIn, openTable, touch, changedIn, withdrawnFrom, arriveAt, arriveAll, addedTo}
-use Rattle.table.proofs.Level.{Fits, Small, firstLevel, secondLevel, within, pass, LevelHolds, level-perm, Arrived, arrive-law, ArrivedAll, arrive-all}
-use Rattle.table.proofs.Touch.{Edit, withdraw-edit, change-edit, holds-test, level-find, level-past, level-touch, touch-bounds, touch-keeps}
+use Rattle.table.proofs.Level.{Fits, Small, firstLevel, secondLevel, within, pass, LevelHolds, level-perm, Arrived, arrive-law, ArrivedAll, arrive-all, Edit, withdraw-edit, change-edit, holds-test, level-find, level-past, level-touch, touch-bounds, touch-keeps}
 
 module _ (S : ℕ → ℕ) where
   -- the entries that the first level does not hold

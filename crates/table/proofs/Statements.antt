@@ -2,35 +2,42 @@
 -- t is the list of the table's numbers, `tableOf t` the table that it holds.
 -- Assumes nothing.
 use Prim.Native.Nat.{ℕ, _+_, _*_, _^_, _<_}
-use mathlib.Core.Path.{_≡_, ap, _∙_, sym, subst}
+use native.Mathlib.Omega.{arith}
+use mathlib.Core.Path.{_≡_, refl, ap, _∙_, sym, subst, subst⁻¹}
 use mathlib.Core.Bool.{true, false}
 use mathlib.Core.Logic.{_↔_}
 use mathlib.Core.Option.{none, some}
 use mathlib.Core.List.{List, _∷_, _++_, List·Permᴰ}
 use lib.ListN.{length, getD, set, take, drop}
 use Rattle.lists.specs.Entries.{Entry, words, find}
+use Rattle.lists.proofs.Tests.{cond-true}
 use Rattle.gf2.specs.Bound.{Largest}
 use Rattle.hash.specs.Mix.{mixOf, unmixOf}
+use Rattle.answer.specs.declared.Answer.{Answer}
 use Rattle.answer.specs.declared.Answer.the-variants.{Accepted, NotLive, Full}
 use Rattle.answer.specs.Numbers.{numberOf, valueOf}
 use Rattle.answer.specs.Causes.{Cause, NoneMet, InOrder, Apart, Exactly}
 use Rattle.answer.proofs.Causes.{in-order-apart, number-exactly, accepted-exactly}
+use Rattle.identifier.specs.declared.Read.{Read}
 use Rattle.identifier.specs.declared.Read.the-variants.{Word}
 use Rattle.bucket.specs.declared.Bucket.{Bucket}
 use Rattle.bucket_words.specs.Words.{bucketWords, wordsOf, bucketFrom}
 use Rattle.model.specs.Levels.{firstLevel, secondLevel, passed, due}
 use Rattle.model.specs.Model.{State, Call, add, query, opened, wouldLeave, base}
-use Rattle.model.specs.Request.{Token, wordFor, Request}
+use Rattle.model.specs.Request.{Token, wordFor, serveRead, Request}
 use Rattle.model.specs.Machine.{accepted, after, answers, Alike, Refines}
 use Rattle.model.specs.History.{addsIn, withdrawalsIn, told}
+use Rattle.model.proofs.Valid.{valid-opened}
+use Rattle.model.proofs.Calls.{count-after, told-after}
+use Rattle.model.proofs.Requests.{word-small}
 use Rattle.model.proofs.Statements as Model
 use Rattle.table.specs.Table.{Table, withFirst, withSecond, bounds, nth, addedTo}
-use Rattle.table.specs.Layout.{buckets1At, buckets2At, baseCountAt, liveCountAt, numbersOf, bucketPlace}
+use Rattle.table.specs.Layout.{buckets1At, buckets2At, baseCountAt, liveCountAt, numbersOf, tableFrom, bucketPlace}
 use Rattle.table.specs.Content.{entriesOf}
 use Rattle.table.specs.AtOnce.{addedAtOnce}
 use Rattle.table.specs.Sound.{SoundTable}
-use Rattle.table.specs.Calls.{rows, solutions, tableOf, planIn, shaped, sound, FlatSound, openCall, queried, served, call}
-use Rattle.table.specs.History.{PlanFits, Put, request, tables, states, Opened, acceptedCalls, flatState, Same}
+use Rattle.table.specs.Calls.{rows, solutions, tableOf, planIn, shaped, sound, FlatSound, openCall, queried, served, callRead, call}
+use Rattle.table.specs.History.{PlanFits, Put, request, tables, states, callsOf, Opened, acceptedCalls, flatState, Same}
 use Rattle.table.specs.Causes.{openCauses, openReturns, callCauses, soundCauses, callReturns}
 use Rattle.table.proofs.Numbers as Numbers
 use Rattle.table.proofs.Numbers.{ShapedTable}
@@ -130,7 +137,8 @@ call-order = Causes.call-order
 
 -- a call that meets none of 1, 2, 4 and 5 does what `served` says
 pub causes-else : (t : List ℕ) (c : Call Token) (w : ℕ) → wordFor c ≡ Word w → shaped t ≡ true → sound t ≡ true → call t c ≡ served t w c
-causes-else = History.by-word
+unfolding call
+causes-else t c w e k h = ap (callRead t c) e ∙ cond-true _ _ k ∙ cond-true _ _ h
 
 -- "Kept as it was"
 pub refused-keeps : (t : List ℕ) (q : Request) → accepted (request t q .answer) ≡ false → request t q .table ≡ t
@@ -173,22 +181,27 @@ served-sound t k h w l c f =
 module _ (t : List ℕ) (k : shaped t ≡ true) (h : FlatSound t) where
   -- "In a sound table handed in from elsewhere the live words are those of its occupied rows and base entries"
   pub live-entries : List·Permᴰ (entriesOf rows unmixOf (tableOf t)) (flatState t .live)
-  live-entries = History.sound-entries t k h
+  live-entries = Calls.stands-entries t (flatState t) (sound-stands t k h)
 
   -- the three tests find the plan of a live word, and nothing for any other
   pub live-plans : (w : ℕ) → w < 2 ^ 64 → planIn t w ≡ find w (flatState t .live)
-  live-plans = History.sound-look t k h
+  live-plans = Calls.stands-look t (flatState t) (sound-stands t k h)
 
   -- "live count = occupied rows + base count"
   pub live-count : getD t liveCountAt 0 ≡ length (flatState t .live)
-  live-count = History.sound-count t k h
+  unfolding tableFrom
+  live-count = sound-stands t k h .stands .counted
+
+  query-plan : (i : Token) (w : ℕ) → wordFor (query i) ≡ Word w → call t (query i) ≡ queried t (find w (flatState t .live))
+  unfolding served
+  query-plan i w e = causes-else t (query i) w e k (stands-sound t _ (sound-stands t k h) .1) ∙ ap (queried t) (live-plans w (word-small (query i) w e))
 
   -- "query the plan", and 7 where the word is not live
   pub query-live : (i : Token) (w p : ℕ) → wordFor (query i) ≡ Word w → find w (flatState t .live) ≡ some p → call t (query i) ≡ record { answer = Accepted p; table = t }
-  query-live i w p e f = History.query-is t k h i w e ∙ ap (queried t) f
+  query-live i w p e f = query-plan i w e ∙ ap (queried t) f
 
   pub query-other : (i : Token) (w : ℕ) → wordFor (query i) ≡ Word w → find w (flatState t .live) ≡ none → call t (query i) ≡ record { answer = NotLive; table = t }
-  query-other i w e f = History.query-is t k h i w e ∙ ap (queried t) f
+  query-other i w e f = query-plan i w e ∙ ap (queried t) f
 
   module _ (i : Token) (p : ℕ) (l : p < 256) where
     -- statement 3, the rule of the bounds: after an accepted add each is the largest number, not above the old one, under which no
@@ -197,7 +210,9 @@ module _ (t : List ℕ) (k : shaped t ≡ true) (h : FlatSound t) where
         → Largest (getD (flatState t .bounds1) j 0)
         (due firstLevel (flatState t .size .buckets1) (words (flatState (call t (add i p) .table) .live)) j)
         (getD (flatState (call t (add i p) .table) .bounds1) j 0)
-    bounds-first = History.rule-first t k h i p l
+    bounds-first a j q =
+        subst⁻¹ (λ (u : State). Largest (getD (flatState t .bounds1) j 0) (due firstLevel (flatState t .size .buckets1) (words (u .live)) j) (getD (u .bounds1) j 0))
+        (History.left t k h i p l a) (Model.bounds-first firstLevel secondLevel (flatState t) _ (History.took t k h i p l a) j q)
 
     -- then the second, where the words are due that the first does not hold now
     pub bounds-second : accepted (call t (add i p) .answer) ≡ true → (j : ℕ) → j < flatState t .size .buckets2
@@ -205,13 +220,17 @@ module _ (t : List ℕ) (k : shaped t ≡ true) (h : FlatSound t) where
         (due secondLevel (flatState t .size .buckets2)
         (passed firstLevel (flatState t .size .buckets1) (flatState (call t (add i p) .table) .bounds1) (words (flatState (call t (add i p) .table) .live))) j)
         (getD (flatState (call t (add i p) .table) .bounds2) j 0)
-    bounds-second = History.rule-second t k h i p l
+    bounds-second a j q =
+        subst⁻¹ (λ (u : State). Largest (getD (flatState t .bounds2) j 0) (due secondLevel (flatState t .size .buckets2) (passed firstLevel (flatState t .size .buckets1) (u .bounds1) (words (u .live))) j) (getD (u .bounds2) j 0))
+        (History.left t k h i p l a) (Model.bounds-second firstLevel secondLevel (flatState t) _ (History.took t k h i p l a) j q)
 
     -- statement 3, the rule of the base list: refused as full exactly when more than 64 words would fall to the base list under the bounds
     -- that the add would so leave
     pub full-exactly : (w : ℕ) → wordFor (add i p) ≡ Word w → find w (flatState t .live) ≡ none
         → (call t (add i p) .answer ≡ Full) ↔ (64 < length (base firstLevel secondLevel (wouldLeave firstLevel secondLevel (flatState t) (record { word = w; plan = p }))))
-    full-exactly = History.rule-full t k h i p l
+    full-exactly w q f =
+        subst⁻¹ (λ (a : Answer). (a ≡ Full) ↔ (64 < length (base firstLevel secondLevel (wouldLeave firstLevel secondLevel (flatState t) (record { word = w; plan = p })))))
+        (History.m t k h i p l .says ∙ ap (λ (x : Read). serveRead (flatState t) (add i p) x .answer) q) (Model.full-exactly firstLevel secondLevel (flatState t) _ f)
 
 -- ---- "A list of calls": t is what an accepted opening left, ps any requests, refused ones included
 
@@ -231,14 +250,15 @@ module _ (t : List ℕ) (o : Opened t) (ps : List Put) where
 
   -- an opening fixes the bucket numbers: no call changes them
   pub list-size : flatState (after tables t ps) .size ≡ o .size
-  list-size = ap (λ (s : State). s .size) (settles .1) ∙ History.size-stays t o ps
+  list-size = ap (λ (s : State). s .size) (settles .1) ∙ History.size-after (opened (o .size)) ps
 
   -- "the table itself never gives cause 4 or 5 in a list": it is sound after each call
   pub always-sound : (shaped (after tables t ps) ≡ true) × (sound (after tables t ps) ≡ true) × FlatSound (after tables t ps)
   always-sound = stands-sound (after tables t ps) _ (History.after-stands t o ps)
 
   pub never-4-5 : (p : Put) → (numberOf (request (after tables t ps) (p .request) .answer) ≡ 4 → ⊥) × (numberOf (request (after tables t ps) (p .request) .answer) ≡ 5 → ⊥)
-  never-4-5 = History.never t o ps
+  never-4-5 p =
+      subst⁻¹ (λ (a : Answer). (numberOf a ≡ 4 → ⊥) × (numberOf a ≡ 5 → ⊥)) (refines .says _ _ p (History.after-stands t o ps)) (Model.never-4-5 _ (p .request))
 
   -- so the answer to each further call is that of the first cause met, of 1, 2 and those of its word
   pub list-causes : (c : Call Token) → PlanFits c → Exactly (soundCauses (after tables t ps) c) (callReturns (after tables t ps) c) (call (after tables t ps) c .answer)
@@ -254,13 +274,22 @@ module _ (t : List ℕ) (o : Opened t) (ps : List Put) where
 
   -- "The live count equals accepted adds less accepted withdrawals since opening"
   pub count : getD (after tables t ps) liveCountAt 0 + withdrawalsIn (acceptedCalls t ps) ≡ addsIn (acceptedCalls t ps)
-  count = History.count-after-all t o ps
+  unfolding tableFrom
+  count =
+      let c : getD (after tables t ps) liveCountAt 0 ≡ length (after states (opened (o .size)) ps .live) = History.after-stands t o ps .stands .counted in
+      subst (λ (cs : List (Call ℕ)). getD (after tables t ps) liveCountAt 0 + withdrawalsIn cs ≡ addsIn cs) (History.same-calls t o ps)
+      (let h = count-after firstLevel secondLevel states callsOf History.each-stands (opened (o .size)) (valid-opened firstLevel secondLevel (o .size)) ps in omega arith)
 
   -- statement 2, the table's half: a word is live if, of its accepted adds and withdrawals, the last is an add; its plan is that of its last
   -- accepted add or change; every other word is not live
   pub plan : (v : ℕ) → v < 2 ^ 64 → planIn (after tables t ps) v ≡ told v (acceptedCalls t ps)
-  plan = History.plan-after t o ps
+  plan v l =
+      Calls.stands-look (after tables t ps) _ (History.after-stands t o ps) v l
+      ∙ told-after firstLevel secondLevel states callsOf History.each-stands v (opened (o .size)) (valid-opened firstLevel secondLevel (o .size)) false 0 refl ps
+      ∙ ap (told v) (History.same-calls t o ps)
 
   -- so a query of an identifier gives the last accepted plan of its word (`queried`: Accepted), or says that it is not live
   pub query-tells : (i : Token) (w : ℕ) → wordFor (query i) ≡ Word w → call (after tables t ps) (query i) ≡ queried (after tables t ps) (told w (acceptedCalls t ps))
-  query-tells = History.query-after t o ps
+  unfolding served
+  query-tells i w e =
+      causes-else (after tables t ps) (query i) w e (always-sound .0) (always-sound .1) ∙ ap (queried (after tables t ps)) (plan w (word-small (query i) w e))

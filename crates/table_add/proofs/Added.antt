@@ -7,14 +7,14 @@ use mathlib.Core.Path.{_≡_, refl, sym, ap, ap₂, _∙_, subst, subst⁻¹}
 use mathlib.Core.Bool.{Bool, true, false}
 use mathlib.Core.List.{List, [], _∷_, map}
 use mathlib.Core.Option.{none, some}
-use lib.Dec.{ltb, leb}
+use lib.Dec.{ltb}
 use lib.ListN.{length, getD, set, drop}
 use lib.Count.{ones-le}
 use borrow.Author.Tests.{leb-false, le-ltb, lt-ltb, ltb-false}
 use Rattle.answer.specs.declared.Answer.{Answer}
 use Rattle.answer.specs.declared.Answer.the-variants.{Accepted, Live, Full}
 use Rattle.lists.specs.Entries.{Entry}
-use Rattle.lists.proofs.Tests.{cond-true, cond-false, and-one, and-two}
+use Rattle.lists.proofs.Tests.{cond-true, cond-false}
 use Rattle.hash.specs.Mix.{mixOf}
 use Rattle.bucket.specs.declared.Bucket.{Bucket}
 use Rattle.bucket_words.specs.Words.{bucketWords, bucketFrom}
@@ -23,18 +23,18 @@ use Rattle.bucket_settle.specs.Settle.{SoundBucket, settle}
 use Rattle.bucket_settle.specs.Outgoing.{outgoing, settledOf}
 use Rattle.model.specs.Model.{baseLimit, add}
 use Rattle.table.specs.Table.{Table, withFirst, withCount, thr, index, onSecond, put, nth, bucketOf, holds, arriveAt, addedTo}
-use Rattle.table.specs.Layout.{leading, buckets1At, buckets2At, liveCountAt, inRange, numbersOf, bucketPlace, tableFrom}
+use Rattle.table.specs.Layout.{buckets1At, liveCountAt, inRange, numbersOf, bucketPlace, tableFrom}
 use Rattle.table.specs.Calls.{rows, solutions, tableOf, planIn, Outcome, turnedDown, joined, served}
 use Rattle.table.specs.Content.{occupied}
-use Rattle.table.specs.Test.{shapeTest}
-use Rattle.table.proofs.Numbers.{header-read, write-count, forth}
+use Rattle.table.proofs.Numbers.{header-read, write-count}
+use Rattle.table.proofs.Calls.{shape-range}
+use Rattle.table_layout.proofs.Shape.{first-in, first-here, first-stored, stored-same}
 use Rattle.table_calls.specs.Ready.{Ready}
-use Rattle.table_calls.proofs.Places.{shape-of, laid-of}
+use Rattle.table_calls.proofs.Touched.{flat-of}
 use Rattle.table_arrive.specs.Arrival.{settledAt, storedAt, toSecond, Straight, Passed, Kept, FlatKept}
-use Rattle.table_arrive.proofs.Tables.{numbers-table, numbers-kept}
+use Rattle.table_arrive.proofs.Tables.{flat, first-sound, numbers-table, numbers-kept}
 use Rattle.table_arrive.proofs.Settled.{straightly, straight-is, bucket-is, out-is, out-few}
 use Rattle.table_add.specs.Arrivals.{seconds, allToSecond, entering}
-use Rattle.table_add.proofs.Tables.{first-room, first-here, first-sound, first-stored, stored-same}
 use Rattle.table_add.proofs.Arrivals.{all-law, add-law}
 use Rattle.table_add.proofs.Passing.{pass-none, pass-one}
 
@@ -62,10 +62,10 @@ module _ (n r : ℕ) (S : ℕ → ℕ) (t : List ℕ) (h : FlatKept n r t) (e : 
   D = allToSecond n r S T (seconds S (s .out))
 
   here : bucketFrom n r (drop at t) ≡ bucketOf n r S (T .level1) (e .word)
-  here = first-here n r t h S (e .word) at p
+  here = first-here n r t (flat n r t h .shape) S (e .word) at p
 
   sound : SoundBucket n r (bucketOf n r S (T .level1) (e .word))
-  sound = first-sound n r t h S (e .word) at p
+  sound = first-sound n r t h S (e .word)
 
   pub enter-few : s .out .count ≤ suc n
   enter-few = out-few n r S m (T .level1) e at t s here q small sound
@@ -100,14 +100,14 @@ module _ (n r : ℕ) (S : ℕ → ℕ) (t : List ℕ) (h : FlatKept n r t) (e : 
         (sym (header-read n r t .0) ∙ ap (λ (bs : List Bucket). length bs) (sym first-same) ∙ ap (λ (X : Table). length (X .level1)) (sym table1) ∙ header-read n r t1 .0)
 
     pub enter-room : at + bucketWords n r ≤ length t1
-    enter-room = first-room n r t1 kept1 S (e .word) at place1
+    enter-room = first-in n r t1 (flat n r t1 kept1 .shape) S (e .word) at place1
 
     -- the bucket that is there need not be stored
     pub enter-same : s .bucket ≡ bucketFrom n r (drop at t) → t1 ≡ storedAt n r at (s .bucket) t1
     enter-same k =
-        sym (stored-same n r at t1 enter-room)
+        sym (stored-same n r t1 at enter-room)
         ∙ ap (λ (b : Bucket). storedAt n r at b t1)
-        (first-here n r t1 kept1 S (e .word) at place1 ∙ ap (λ (X : Table). bucketOf n r S (X .level1) (e .word)) table1 ∙ ap (λ (bs : List Bucket). bucketOf n r S bs (e .word)) first-same ∙ sym here ∙ sym k)
+        (first-here n r t1 (flat n r t1 kept1 .shape) S (e .word) at place1 ∙ ap (λ (X : Table). bucketOf n r S (X .level1) (e .word)) table1 ∙ ap (λ (bs : List Bucket). bucketOf n r S bs (e .word)) first-same ∙ sym here ∙ sym k)
 
     module _ (t2 : List ℕ) (w : t2 ≡ storedAt n r at (s .bucket) t1) where
       abbrev E : Table
@@ -115,7 +115,7 @@ module _ (n r : ℕ) (S : ℕ → ℕ) (t : List ℕ) (h : FlatKept n r t) (e : 
 
       t2-is : t2 ≡ numbersOf E
       t2-is =
-          w ∙ first-stored n r t1 kept1 S (e .word) at place1 (s .bucket)
+          w ∙ first-stored n r t1 (flat n r t1 kept1) S (e .word) at place1 (s .bucket)
           ∙ ap (λ (X : Table). numbersOf (withFirst X (put S (X .level1) (e .word) (s .bucket)))) table1
           ∙ ap (λ (bs : List Bucket). numbersOf (withFirst D (put S bs (e .word) (s .bucket)))) first-same
           ∙ ap (λ (bs : List Bucket). numbersOf (withFirst D bs)) (bucket-is n r S m (T .level1) e at t s here q)
@@ -159,7 +159,7 @@ module _ (n r : ℕ) (S : ℕ → ℕ) (t : List ℕ) (h : FlatKept n r t) (e : 
     passing-is =
         ap (settledOf 1)
         (sym (settle-passes n (thr S) e (bucketFrom n r (drop at t)) _
-        (ltb-false (thr S (e .word)) _ (ap (λ (b : Bucket). ltb (thr S (e .word)) (b .bound)) (first-here n r t h S (e .word) at p) ∙ f))))
+        (ltb-false (thr S (e .word)) _ (ap (λ (b : Bucket). ltb (thr S (e .word)) (b .bound)) (first-here n r t (flat n r t h .shape) S (e .word) at p) ∙ f))))
 
     passes : (done : Bool) → Passed n r t (toSecond n r S (tableFrom n r t) (record { word = v; plan = e .plan })) done u → Passed n r t (allToSecond n r S (tableFrom n r t) (seconds S (passing .out))) done u
     unfolding outgoing
@@ -182,22 +182,21 @@ occupied-few n r (b ∷ bs) h =
 
 module _ (t : List ℕ) (h : Ready t) where
   pub ready-kept : FlatKept rows solutions t
-  unfolding shapeTest
   ready-kept = record {
     table = record {
-      range = ap₂ inRange (header-read rows solutions t .0) (header-read rows solutions t .1) ∙ and-one (inRange (getD t buckets1At 0) (getD t buckets2At 0)) _ (and-two (leb leading (length t)) _ (h .shape));
+      range = ap₂ inRange (header-read rows solutions t .0) (header-read rows solutions t .1) ∙ shape-range rows solutions t (h .shape);
       first = h .sound .table .level1 .buckets;
       second = h .sound .table .level2 .buckets;
       short = h .sound .table .fits;
     };
-    numbers = forth rows solutions t (laid-of h);
+    numbers = flat-of h .numbers;
   }
 
   -- there is room for one more in the live count
   live-room : tableOf t .count + 1 < 2 ^ 64
   live-room =
       let k = h .sound .table in
-      let s = shape-of h .range in
+      let s = flat-of h .shape .range in
       omega (
         arith,
         k .counts,

@@ -15,7 +15,7 @@ use Rattle.bucket.specs.declared.Bucket.{Bucket}
 use Rattle.bucket.specs.Bucket.{emptyBucket}
 use Rattle.table.specs.Table.{Table, withFirst, withSecond, withBase, withCount, Placed, index, onSecond, put, nth, bucketOf, arriveAt, arriveAll, addedTo}
 use Rattle.table_arrive.specs.Arrival.{toSecond}
-use Rattle.table_arrive.proofs.Arrival.{insert-all-length}
+use Rattle.table_arrive.proofs.Settled.{insert-all-length}
 use Rattle.table_add.specs.Arrivals.{allToSecond, takeOver}
 
 -- ---- the base list

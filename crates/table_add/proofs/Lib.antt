@@ -1,5 +1,4 @@
 -- The laws of the crate.
-pub mod Tables
 pub mod Arrivals
 pub mod Passing
 pub mod Added

@@ -19,8 +19,9 @@ use Rattle.table.specs.Table.{Table, withSecond, withBase, index, onSecond, put
 use Rattle.table.specs.Layout.{buckets1At, buckets2At, inRange, numbersOf, bucketPlace, tableFrom}
 use Rattle.table.proofs.Numbers.{header-read}
 use Rattle.table_arrive.specs.Arrival.{entriesFrom, entriesOf, storedAt, toSecond, Passed, Kept, FlatKept}
-use Rattle.table_arrive.proofs.Tables.{second-room, second-here, second-sound, second-stored, second-kept, numbers-table, numbers-kept}
-use Rattle.table_arrive.proofs.Arrival.{entries-next, entries-length}
+use Rattle.table_layout.proofs.Shape.{second-in, second-here, second-stored}
+use Rattle.table_arrive.proofs.Tables.{flat, second-sound, second-kept, numbers-table, numbers-kept}
+use Rattle.table_arrive.proofs.Settled.{entries-next, entries-length}
 use Rattle.table_add.specs.Arrivals.{seconds, allToSecond, takeOver, Drafted, SameSize}
 use Rattle.table_add.proofs.Arrivals.{all-law, base-grows, second-length, taken-all}
 
@@ -117,19 +118,19 @@ module _ (n r : ℕ) (S : ℕ → ℕ) where
       there = e ∙ sym (ap₂ (λ (a m : ℕ). bucketPlace n r (a + index S m v)) (h .same-size .buckets1) (h .same-size .buckets2))
 
       pub taking-room : p + bucketWords n r ≤ length t
-      taking-room = second-room n r t (h .same-size .one) S v p there
+      taking-room = second-in n r t (flat n r t (h .same-size .one) .shape) S v p there
 
       module _ (b : Bucket) (u : List ℕ) (q : b ≡ bucketFrom n r (drop p d)) (w : u ≡ storedAt n r p b t) where
         abbrev Y : Table
         Y = withSecond A (put S (A .level2) v (bucketOf n r S (E .level2) v))
 
         kept : Kept n r Y
-        kept = second-kept n r A (h .same-size .one .table) _ _ (second-sound n r d (h .same-size .other) S v p e)
+        kept = second-kept n r A (h .same-size .one .table) _ _ (second-sound n r d (h .same-size .other) S v)
 
         is : u ≡ numbersOf Y
         is =
-            w ∙ second-stored n r t (h .same-size .one) S v p there b
-            ∙ ap (λ (c : Bucket). numbersOf (withSecond A (put S (A .level2) v c))) (q ∙ second-here n r d (h .same-size .other) S v p e)
+            w ∙ second-stored n r t (flat n r t (h .same-size .one)) S v p there b
+            ∙ ap (λ (c : Bucket). numbersOf (withSecond A (put S (A .level2) v c))) (q ∙ second-here n r d (flat n r d (h .same-size .other) .shape) S v p e)
 
         table : tableFrom n r u ≡ Y
         table = numbers-table n r Y kept u is

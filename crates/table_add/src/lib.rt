@@ -1,7 +1,7 @@
 // The call `add`: what leaves level 1 goes to level 2, and what leaves that to the base list. Nothing is written before it is known that
 // the base list has room; then only the stretches of the buckets that changed, the base list and the header are.
 // specs/Arrivals.antt has the words that go on, one after the other, as the code goes about them. Laws: proofs/Arrivals.antt (they lead to
-// the table of the crate table's `addedTo`), proofs/Passing.antt (the loops over them and the draft), proofs/Tables.antt (a bucket of level 1),
+// the table of the crate table's `addedTo`), proofs/Passing.antt (the loops over them and the draft),
 // proofs/Added.antt (what a word that arrives at level 1 leaves is the call's table).
 // Cites table_arrive (the arrival of one word), table_calls (the tests of a call, the query), table, table_layout (places), bucket_settle (the words that leave
 // a bucket), identifier, bucket and table_base. The library, the line program and run_probe build on it.

@@ -1,16 +1,18 @@
--- What the code finds in a settled bucket is what an arrival leaves. At every number n of rows and r of solution words, and for every mix S.
+-- The words that leave a bucket, as the code keeps them; what it finds in a settled bucket is what an arrival leaves. At every number n of rows and r of solution words, and for every mix S.
 -- Assumes nothing.
 use Prim.Native.Nat.{ℕ, zero, suc, _+_, _-_, _^_, _≤_, _<_}
-use native.Mathlib.Nat.{not-suc-le-zero}
+use native.Mathlib.Nat.{not-suc-le-zero, le-of-suc-le-suc}
 use native.Mathlib.Omega.{arith}
 use mathlib.Core.Path.{_≡_, refl, sym, ap, ap₂, _∙_, subst, subst⁻¹}
 use mathlib.Core.Bool.{Bool, true, false, cond, _&&_, true≢false}
-use mathlib.Core.List.{List, [], _++_}
+use mathlib.Core.List.{List, [], _∷_, _++_}
 use lib.Dec.{ltb}
 use lib.ListN.{length, getD, take, drop}
+use lib.Seq.{getD-drop}
 use borrow.Rule.Slice.PartMut.{midOf, putMid, post-is, put-same}
 use borrow.Author.Tests.{le-leb, lt-leb, lt-ltb, le-ltb, ltb-true}
-use Rattle.lists.specs.Entries.{Entry, insertAll}
+use Rattle.lists.specs.Entries.{Entry, words, insertAll}
+use Rattle.lists.proofs.Entries.{insert-length}
 use Rattle.lists.proofs.Tests.{cond-true, cond-false, and-one, and-two, and-both, and-false}
 use Rattle.bucket.specs.declared.Bucket.{Bucket}
 use Rattle.bucket.specs.declared.Tried.{Tried}
@@ -18,15 +20,50 @@ use Rattle.bucket.specs.Bucket.{add}
 use Rattle.bucket_words.specs.Words.{bucketWords, wordsOf, bucketFrom}
 use Rattle.bucket_settle.specs.declared.Settled.{Settled}
 use Rattle.bucket_settle.specs.Settle.{SoundBucket, Settlement, settle}
-use Rattle.bucket_settle.specs.Outgoing.{outgoing, settledOf}
+use Rattle.bucket_settle.specs.Outgoing.{plans, outgoing, settledOf}
 use Rattle.bucket_settle.proofs.Sound.{settle-sound, settle-few}
 use Rattle.model.specs.Model.{baseLimit}
 use Rattle.table.specs.Table.{Table, withSecond, withBase, thr, index, put, bucketOf, arriveAt}
 use Rattle.table.specs.Layout.{buckets1At, buckets2At, baseCountAt, numbersOf, bucketPlace, tableFrom}
-use Rattle.table.proofs.Numbers.{from-part}
-use Rattle.table_arrive.specs.Arrival.{entriesOf, settledAt, storedAt, goesIn, addedIn, toSecond, Straight, Passed, Kept, FlatKept}
-use Rattle.table_arrive.proofs.Tables.{count0, second-here, second-sound, second-stored, second-kept, numbers-table, numbers-kept}
-use Rattle.table_arrive.proofs.Arrival.{entries-back, insert-all-length, to-second-kept}
+use Rattle.table_layout.proofs.Shape.{part-bucket, second-here, second-stored}
+use Rattle.table_arrive.specs.Arrival.{entriesFrom, entriesOf, settledAt, storedAt, goesIn, addedIn, toSecond, Straight, Passed, Kept, FlatKept}
+use Rattle.table_arrive.proofs.Tables.{count0, flat, second-sound, second-kept, base-kept, numbers-table, numbers-kept}
+
+-- ---- the words that leave a bucket, as the code keeps them
+
+pub entries-next : (k : ℕ) (vs ps : List ℕ) (i : ℕ) → i < k → drop i (entriesFrom k vs ps) ≡ record { word = getD vs i 0; plan = getD ps i 0 } ∷ drop (suc i) (entriesFrom k vs ps)
+entries-next zero vs ps i h = absurd (not-suc-le-zero h)
+entries-next (suc k) vs ps zero h = refl
+entries-next (suc k) vs ps (suc i) h =
+    let e : 1 + i ≡ suc i = omega arith in
+    let at : (xs : List ℕ) → getD (drop 1 xs) i 0 ≡ getD xs (suc i) 0 = (λ xs. getD-drop 1 xs i 0 ∙ ap (λ (j : ℕ). getD xs j 0) e) in
+    entries-next k (drop 1 vs) (drop 1 ps) i (le-of-suc-le-suc h)
+    ∙ ap₂ {C = List Entry} (λ v p. record { word = v; plan = p } ∷ drop (suc i) (entriesFrom k (drop 1 vs) (drop 1 ps))) (at vs) (at ps)
+
+pub entries-length : (k : ℕ) (vs ps : List ℕ) → length (entriesFrom k vs ps) ≡ k
+entries-length zero vs ps = refl
+entries-length (suc k) vs ps = ap suc (entries-length k (drop 1 vs) (drop 1 ps))
+
+entries-front : (es : List Entry) (xs ys : List ℕ) → entriesFrom (length es) (words es ++ xs) (plans es ++ ys) ≡ es
+entries-front [] xs ys = refl
+entries-front (e ∷ es) xs ys = ap {B = List Entry} (λ l. e ∷ l) (entries-front es xs ys)
+
+pub entries-back : (m : ℕ) (es : List Entry) → entriesOf (outgoing m es) ≡ es
+unfolding outgoing
+entries-back m es = entries-front es _ _
+
+-- ---- the base list
+
+pub insert-all-length : (es base : List Entry) → length (insertAll es base) ≡ length es + length base
+insert-all-length [] base = omega arith
+insert-all-length (e ∷ es) base = insert-all-length es _ ∙ omega (arith, insert-length e base)
+
+-- ---- at level 2 each bucket stays sound
+
+module _ (n r : ℕ) (S : ℕ → ℕ) where
+  pub to-second-kept : (T : Table) (e : Entry) → Kept n r T → e .word < 2 ^ n → SoundBucket n r (bucketOf n r S (T .level2) (e .word)) → length (toSecond n r S T e .base) ≤ baseLimit → Kept n r (toSecond n r S T e)
+  to-second-kept T e h small s l =
+      base-kept n r _ (second-kept n r T h (index S (length (T .level2)) (e .word)) _ (settle-sound n r (thr S) e small (bucketOf n r S (T .level2) (e .word)) s)) _ l
 
 -- ---- a word that settles at once
 
@@ -85,20 +122,17 @@ module _ (n r : ℕ) (thr : ℕ → ℕ) (at : ℕ) (e : Entry) (t : List ℕ) w
   abbrev part : List ℕ
   part = midOf at k t
 
-  part-bucket : bucketFrom n r part ≡ bucketFrom n r (drop at t)
-  part-bucket = let q : k ≡ bucketWords n r = omega arith in ap (λ (j : ℕ). bucketFrom n r (take j (drop at t))) q ∙ from-part n r (drop at t)
-
   -- it is put back where it was lent
   put-back : (done : Bool) (ys : List ℕ) → done ≡ goesIn n r thr e (drop at t) → ys ≡ cond done (addedIn n r e part) part → putMid at k t ys ≡ cond done (storedAt n r at (settledAt n r thr at e t .bucket) t) t
   put-back true ys g w =
       ap₂ (λ (zs us : List ℕ). take at t ++ (zs ++ us))
-      (w ∙ ap (λ (b : Bucket). wordsOf (add n (e .word) (e .plan) b .bucket)) part-bucket ∙ sym (ap (λ (z : Settlement). wordsOf (z .bucket)) (goes-settled (sym g))))
+      (w ∙ ap (λ (b : Bucket). wordsOf (add n (e .word) (e .plan) b .bucket)) (part-bucket n r t at) ∙ sym (ap (λ (z : Settlement). wordsOf (z .bucket)) (goes-settled (sym g))))
       (post-is at (at + bucketWords n r) t (omega arith))
   put-back false ys g w = ap (putMid at k t) w ∙ put-same at k t
 
   pub straight-at : (done : Bool) (ys : List ℕ) → Step n r thr e part done ys → Straight n r thr at e t done (putMid at k t ys)
   straight-at done ys h =
-      let g : done ≡ goesIn n r thr e (drop at t) = h .0 ∙ ap (λ (b : Bucket). ltb (thr (e .word)) (b .bound) && add n (e .word) (e .plan) b .done) part-bucket in
+      let g : done ≡ goesIn n r thr e (drop at t) = h .0 ∙ ap (λ (b : Bucket). ltb (thr (e .word)) (b .bound) && add n (e .word) (e .plan) b .done) (part-bucket n r t at) in
       record { says = g; table = put-back done ys g (h .1) }
 
   pub straight-as : {done b : Bool} {u : List ℕ} → done ≡ b → Straight n r thr at e t done u → Straight n r thr at e t b u
@@ -151,10 +185,10 @@ module _ (n r : ℕ) (S : ℕ → ℕ) (t : List ℕ) (h : FlatKept n r t) (e : 
   U = toSecond n r S T e
 
   here : bucketFrom n r (drop at t) ≡ bucketOf n r S (T .level2) (e .word)
-  here = second-here n r t h S (e .word) at p
+  here = second-here n r t (flat n r t h .shape) S (e .word) at p
 
   sound : SoundBucket n r (bucketOf n r S (T .level2) (e .word))
-  sound = second-sound n r t h S (e .word) at p
+  sound = second-sound n r t h S (e .word)
 
   base-length : length (U .base) ≡ getD t baseCountAt 0 + s .out .count
   base-length = omega (arith, insert-all-length (arriveAt n r S (T .level2) e .out) (T .base), out-count n r S m (T .level2) e at t s here q, count0 n r t h)
@@ -170,7 +204,7 @@ module _ (n r : ℕ) (S : ℕ → ℕ) (t : List ℕ) (h : FlatKept n r t) (e : 
     T1 = withSecond T (put S (T .level2) (e .word) (s .bucket))
 
     stored : t1 ≡ numbersOf T1
-    stored = q1 ∙ second-stored n r t h S (e .word) at p (s .bucket)
+    stored = q1 ∙ second-stored n r t (flat n r t h) S (e .word) at p (s .bucket)
 
     kept1 : Kept n r T1
     kept1 = second-kept n r T (h .table) _ (s .bucket) (bucket-sound n r S m (T .level2) e at t s here q small sound)

@@ -1,31 +1,31 @@
--- Tables whose buckets are sound, and their numbers: what one bucket of level 2 or the base list changes. At every number n of rows and r
--- of solution words, and for every mix S.
+-- Tables whose buckets are sound, and their numbers, at every number n of rows and r of solution words; words that come into the base list.
 -- Assumes nothing.
-use Prim.Native.Nat.{ℕ, _+_, _-_, _≤_, _<_}
+use Prim.Native.Nat.{ℕ, suc, _+_, _-_, _≤_, _<_}
+use native.Mathlib.Nat.{add-zero}
+use native.Mathlib.Numerals.{add-one}
 use native.Mathlib.Omega.{arith}
 use mathlib.Core.Path.{_≡_, sym, ap, ap₂, _∙_, subst, subst⁻¹}
 use mathlib.Core.Bool.{true}
-use mathlib.Core.List.{List, _++_, append-nil}
+use mathlib.Core.List.{List, _∷_}
 use lib.Dec.{eqb}
-use lib.ListN.{length, getD, set, take, drop, length-append, length-set, length-drop, drop-of-length-le}
-use lib.Seq.{getD-set-same, getD-set-other, length-take-le, take-all}
+use lib.ListN.{length, getD, set, take, drop, length-set, drop-of-length-le}
+use lib.Seq.{getD-set-same, getD-set-other}
 use borrow.Author.Tests.{eqb-true, eqb-false, eq-eqb, le-leb}
-use borrow.Rule.Slice.PartMut.{putMid}
-use Rattle.lists.specs.Entries.{Entry}
+use Rattle.lists.specs.Entries.{Entry, insert, insertAll}
 use Rattle.lists.proofs.Tests.{cases, and-both}
+use Rattle.lists.proofs.Entries.{insert-length}
 use Rattle.bucket.specs.declared.Bucket.{Bucket}
 use Rattle.bucket.specs.Bucket.{emptyBucket}
-use Rattle.bucket_words.specs.Words.{bucketWords, bucketFrom}
 use Rattle.bucket_settle.specs.Settle.{SoundBucket}
 use Rattle.model.specs.Model.{baseLimit}
-use Rattle.table.specs.Table.{Table, withSecond, withBase, index, put, nth, bucketOf}
+use Rattle.table.specs.Table.{Table, withSecond, withBase, nth, bucketOf}
 use Rattle.table.specs.Layout.{leading, buckets1At, buckets2At, baseCountAt, header, inRange, pairsFrom, basePairs, numbersOf, bucketPlace, tableFrom, lengthOf}
 use Rattle.table.specs.Test.{shapeTest}
-use Rattle.table.proofs.Numbers.{ShapedTable, drop-base, header-read, back, laid, write-second, write-base}
-use Rattle.table_layout.proofs.Shape.{Shape, range, second-lt, second-bucket, second-in}
-use Rattle.table_base.specs.Base.{Pairs}
-use Rattle.table_arrive.specs.Arrival.{storedAt, Kept, FlatKept}
-use Rattle.table_arrive.proofs.Base.{from-pairs, pairs-of}
+use Rattle.table.proofs.Numbers.{ShapedTable, header-read, back, back-pairs, length-pairsFrom, laid}
+use Rattle.table_layout.proofs.Shape.{Flat, range, first-at, second-at, last-is, last-read}
+use Rattle.table_base.specs.Base.{capacity, pairsIn, Pairs}
+use Rattle.table_base.proofs.Shift.{capacity-of}
+use Rattle.table_arrive.specs.Arrival.{Kept, FlatKept}
 
 module _ (n r : ℕ) where
   abbrev AllSound : List Bucket → Type 0
@@ -73,75 +73,74 @@ module _ (n r : ℕ) where
     abbrev T : Table
     T = tableFrom n r t
 
-    abbrev whole : ShapedTable n r T
-    whole = kept-shaped T (h .table)
-
     pub count0 : length (T .base) ≡ getD t baseCountAt 0
     count0 = header-read n r t .2
 
     range-is : inRange (getD t buckets1At 0) (getD t buckets2At 0) ≡ true
     range-is = sym (ap₂ inRange (header-read n r t .0) (header-read n r t .1)) ∙ h .table .range
 
-    pub shape-of : Shape n r t
-    shape-of = record {
-      range = range (getD t buckets1At 0) (getD t buckets2At 0) range-is;
-      size = subst (λ (l : List ℕ). length l ≡ lengthOf n r (getD l buckets1At 0) (getD l buckets2At 0)) (h .numbers) (laid n r T whole .size);
+    pub flat : Flat n r t
+    flat = record {
+      shape = record {
+        range = range (getD t buckets1At 0) (getD t buckets2At 0) range-is;
+        size = subst (λ (l : List ℕ). length l ≡ lengthOf n r (getD l buckets1At 0) (getD l buckets2At 0)) (h .numbers) (laid n r T (kept-shaped T (h .table)) .size);
+      };
+      whole = kept-shaped T (h .table);
+      numbers = h .numbers;
     }
 
     pub shape : shapeTest n r t ≡ true
     unfolding shapeTest
-    shape = let e = shape-of .size in and-both (le-leb leading (length t) (omega arith)) (and-both range-is (eq-eqb _ _ e))
+    shape = let e = flat .shape .size in and-both (le-leb leading (length t) (omega arith)) (and-both range-is (eq-eqb _ _ e))
 
     pub long : header ≤ length t
-    long = omega (arith, shape-of .size)
+    long = omega (arith, flat .shape .size)
 
     -- the base list, from its place on
-    module _ (p : ℕ) (e : p ≡ bucketPlace n r (getD t buckets1At 0 + getD t buckets2At 0)) where
-      place-is : p ≡ bucketPlace n r (length (T .level1) + length (T .level2))
-      place-is = e ∙ sym (ap₂ (λ (a b : ℕ). bucketPlace n r (a + b)) (header-read n r t .0) (header-read n r t .1))
+    pub last-pairs : (p : ℕ) → p ≡ bucketPlace n r (getD t buckets1At 0 + getD t buckets2At 0) → Pairs baseLimit (getD t baseCountAt 0) (take (length t - p) (drop p t))
+    last-pairs p e = record { fits = subst (λ (k : ℕ). k ≤ baseLimit) count0 (h .table .short); rest = last-is n r t flat p e ∙ ap basePairs (sym (last-read n r t flat p e)) }
 
-      abbrev last : List ℕ
-      last = take (length t - p) (drop p t)
+    -- the bucket of v
+    pub first-sound : (S : ℕ → ℕ) (v : ℕ) → SoundBucket n r (bucketOf n r S (T .level1) v)
+    first-sound S v = h .table .first _ (first-at n r t (flat .shape) S v)
 
-      pub place-le : p ≤ length t
-      place-le = omega (arith, shape-of .size)
+    pub second-sound : (S : ℕ → ℕ) (v : ℕ) → SoundBucket n r (bucketOf n r S (T .level2) v)
+    second-sound S v = h .table .second _ (second-at n r t (flat .shape) S v)
 
-      pub last-is : last ≡ basePairs (T .base)
-      last-is =
-          take-all (length t - p) (drop p t) (omega (arith, length-drop p t)) ∙ ap₂ (λ (k : ℕ) (l : List ℕ). drop k l) place-is (sym (h .numbers)) ∙ drop-base n r T whole
+-- ---- words that come into the base list one after the other, in its pairs
 
-      pub last-pairs : Pairs baseLimit (getD t baseCountAt 0) last
-      last-pairs = subst⁻¹ (Pairs baseLimit (getD t baseCountAt 0)) last-is (pairs-of (getD t baseCountAt 0) (T .base) count0 (subst (λ (k : ℕ). k ≤ baseLimit) count0 (h .table .short)))
+-- the pairs of a list of entries give it back
+pub from-pairs : (k : ℕ) (es : List Entry) → length es ≡ k → pairsFrom k (basePairs es) ≡ es
+from-pairs k es q = subst (λ (j : ℕ). pairsFrom j (basePairs es) ≡ es) q (back-pairs es _)
 
-      pub last-read : pairsFrom (getD t baseCountAt 0) last ≡ T .base
-      last-read = ap (pairsFrom (getD t baseCountAt 0)) last-is ∙ from-pairs (getD t baseCountAt 0) (T .base) count0
+pub pairs-of : (k : ℕ) (es : List Entry) → length es ≡ k → k ≤ baseLimit → Pairs baseLimit k (basePairs es)
+pairs-of k es q l = record { fits = l; rest = ap basePairs (sym (from-pairs k es q)) }
 
-      -- written anew, and its count
-      pub last-room : (ys : List ℕ) → baseCountAt < length (putMid p (length t - p) t ys)
-      last-room ys = omega (arith, length-append (take p t) (ys ++ drop (length t - p) (drop p t)), length-take-le p t place-le)
+-- i of the words es are in, of which the pairs xs₀ held none
+pub record Inserting (count : ℕ) (es : List Entry) (xs₀ xs : List ℕ) (i : ℕ) : Type 0 where
+  pub pairs : Pairs baseLimit (count + i) xs
+  pub same : insertAll (drop i es) (pairsFrom (count + i) xs) ≡ insertAll es (pairsFrom count xs₀)
 
-      pub last-put : (es : List Entry) (ys : List ℕ) (k : ℕ) → ys ≡ basePairs es → k ≡ length es → set (putMid p (length t - p) t ys) baseCountAt k ≡ numbersOf (withBase T es)
-      last-put es ys k q l =
-          ap₂ (λ (zs : List ℕ) (j : ℕ). set (take p t ++ zs) baseCountAt j)
-          (ap₂ (λ (zs ws : List ℕ). zs ++ ws) q (drop-of-length-le (drop p t) {i = length t - p} (omega (arith, length-drop p t))) ∙ append-nil (basePairs es)) l
-          ∙ ap₂ (λ (j : ℕ) (l : List ℕ). set (take j l ++ basePairs es) baseCountAt (length es)) place-is (sym (h .numbers))
-          ∙ sym (write-base n r T whole es)
+module _ (count : ℕ) (es : List Entry) (xs₀ : List ℕ) where
+  pub inserting-starts : Pairs baseLimit count xs₀ → Inserting count es xs₀ xs₀ 0
+  inserting-starts h = record { pairs = subst⁻¹ (λ (k : ℕ). Pairs baseLimit k xs₀) (add-zero count) h; same = ap (λ (k : ℕ). insertAll es (pairsFrom k xs₀)) (add-zero count) }
 
-    -- the bucket of v at its place: it is in the table, it is sound, and where another is stored the table has that
-    module _ (S : ℕ → ℕ) (v p : ℕ) (e : p ≡ bucketPlace n r (getD t buckets1At 0 + index S (getD t buckets2At 0) v)) where
-      pub second-room : p + bucketWords n r ≤ length t
-      second-room = subst⁻¹ (λ (k : ℕ). k + bucketWords n r ≤ length t) e (second-in n r t shape-of S v)
+  module _ (xs : List ℕ) (i : ℕ) (h : Inserting count es xs₀ xs i) where
+    abbrev base : List Entry
+    base = pairsFrom (count + i) xs
 
-      pub second-here : bucketFrom n r (drop p t) ≡ bucketOf n r S (T .level2) v
-      second-here = ap (λ (k : ℕ). bucketFrom n r (drop k t)) e ∙ sym (second-bucket n r t shape-of S v)
+    pub inserting-next : (e : Entry) (ys : List ℕ) → drop i es ≡ e ∷ drop (suc i) es → count + i < baseLimit → ys ≡ pairsIn (capacity xs) (insert e base) → Inserting count es xs₀ ys (i + 1)
+    inserting-next e ys d l p =
+        let q : ys ≡ basePairs (insert e base) = p ∙ ap (λ (m : ℕ). pairsIn m (insert e base)) (capacity-of (h .pairs)) in
+        let n : length (insert e base) ≡ count + (i + 1) = omega (arith, insert-length e base, length-pairsFrom (count + i) xs) in
+        record {
+          pairs = subst⁻¹ (Pairs baseLimit (count + (i + 1))) q (pairs-of (count + (i + 1)) (insert e base) n (omega arith));
+          same = ap (λ (zs : List ℕ). insertAll (drop (i + 1) es) (pairsFrom (count + (i + 1)) zs)) q
+              ∙ ap (insertAll (drop (i + 1) es)) (from-pairs (count + (i + 1)) (insert e base) n)
+              ∙ ap (λ (j : ℕ). insertAll (drop j es) (insert e base)) (add-one i)
+              ∙ sym (ap (λ (ds : List Entry). insertAll ds base) d)
+              ∙ h .same;
+        }
 
-      at2 : index S (length (T .level2)) v < length (T .level2)
-      at2 = subst⁻¹ (λ (m : ℕ). index S m v < m) (header-read n r t .1) (second-lt n r t shape-of S v)
-
-      pub second-sound : SoundBucket n r (bucketOf n r S (T .level2) v)
-      second-sound = h .table .second _ at2
-
-      pub second-stored : (b : Bucket) → storedAt n r p b t ≡ numbersOf (withSecond T (put S (T .level2) v b))
-      second-stored b =
-          ap₂ (λ (k : ℕ) (l : List ℕ). storedAt n r k b l) (e ∙ sym (ap₂ (λ (i m : ℕ). bucketPlace n r (i + index S m v)) (header-read n r t .0) (header-read n r t .1))) (sym (h .numbers))
-          ∙ sym (write-second n r T whole (index S (length (T .level2)) v) b at2)
+    pub inserting-ends : length es ≤ i → xs ≡ basePairs (insertAll es (pairsFrom count xs₀))
+    inserting-ends l = h .pairs .rest ∙ ap basePairs (ap (λ (ds : List Entry). insertAll ds base) (sym (drop-of-length-le es l)) ∙ h .same)

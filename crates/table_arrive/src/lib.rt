@@ -1,9 +1,8 @@
 // A word arrives at a bucket, at level 2 and at the base list: an add's steps on the table. A bucket takes the word straight in, or the word
 // settles there; what leaves level 2 goes to the base list, and where that has no room nothing is written.
 // specs/Arrival.antt has the steps as the code goes about them, at every number of rows and of solution words, and `Kept`, what each of
-// them keeps. Laws: proofs/Tables.antt (such a table and its numbers), proofs/Base.antt (words into the pairs of the base list),
-// proofs/Arrival.antt (the words that leave a bucket, as the code keeps them), proofs/Settled.antt (what the code finds settled is what
-// the crate table's `arriveAt` leaves).
+// them keeps. Laws: proofs/Tables.antt (such a table and its numbers, words into the pairs of the base list),
+// proofs/Settled.antt (the words that leave a bucket, as the code keeps them; what it finds settled is what the crate table's `arriveAt` leaves).
 // Cites table, table_layout (places), bucket, identifier (thresholds), bucket_settle (one bucket under its bound) and table_base. table_add cites it.
 use bucket::Bucket;
 use bucket_settle::Outgoing;

@@ -1,3 +1,2 @@
 -- The laws of the crate.
 pub mod Shift
-pub mod Edits

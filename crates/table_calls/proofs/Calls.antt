@@ -23,7 +23,7 @@ use Rattle.table.specs.Layout.{liveCountAt, numbersOf, tableFrom}
 use Rattle.table.specs.Calls.{rows, solutions, tableOf, planIn, shaped, sound, Outcome, turnedDown, queried, replaced, served, callRead, call}
 use Rattle.table.specs.History.{flatState}
 use Rattle.table.proofs.Numbers.{write-count}
-use Rattle.table.proofs.Touch.{touch-keeps}
+use Rattle.table.proofs.Level.{touch-keeps}
 use Rattle.table.proofs.Calls.{stands-look, sound-stands-flat, sound-exactly}
 use Rattle.table_base.specs.declared.Found.{Found}
 use Rattle.table_base.specs.declared.Found.the-variants.{Plan, Nothing}

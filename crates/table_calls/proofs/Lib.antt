@@ -1,4 +1,3 @@
 -- The laws of the crate.
 pub mod Touched
-pub mod Places
 pub mod Calls

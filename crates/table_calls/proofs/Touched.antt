@@ -1,31 +1,33 @@
 -- One bucket, or the base list, of a table is read or written where it lies: what that does to the numbers. At every number n of rows and r of
--- solution words and for any mix S.
+-- solution words and for any mix S; then of a table that is sound, at 64 and 8.
 -- Assumes nothing.
-use Prim.Native.Nat.{ℕ, _+_, _-_, _<_}
+use Prim.Native.Nat.{ℕ, _+_, _-_, _≤_, _<_}
 use native.Mathlib.Omega.{arith}
-use mathlib.Core.Path.{_≡_, refl, sym, ap, ap₂, _∙_, subst⁻¹}
+use mathlib.Core.Path.{_≡_, sym, ap, ap₂, _∙_, subst}
 use mathlib.Core.Bool.{true, false, cond}
-use mathlib.Core.List.{List, _++_, append-nil}
-use mathlib.Core.Option.{Option}
-use lib.ListN.{length, getD, set, take, drop, length-drop, drop-of-length-le}
-use lib.Seq.{take-all}
+use mathlib.Core.List.{List, _++_}
+use mathlib.Core.Option.{Option, none, some}
+use lib.ListN.{length, getD, set, take, drop}
+use borrow.Author.Tests.{lt-ltb, le-ltb}
 use borrow.Rule.Slice.PartMut.{putMid, post-is}
 use Rattle.lists.specs.Entries.{Entry, find}
-use Rattle.lists.proofs.Parts.{stretch}
 use Rattle.lists.proofs.Tests.{cond-true, cond-false}
 use Rattle.bucket.specs.declared.Bucket.{Bucket}
+use Rattle.bucket.specs.Bucket.{rowOf, lookup}
+use Rattle.bucket.proofs.Laws.{live-row}
 use Rattle.bucket_words.specs.Words.{bucketWords, wordsOf, bucketFrom}
 use Rattle.bucket_settle.specs.Settle.{planOf}
 use Rattle.model.specs.Model.{baseLimit}
 use Rattle.table.specs.Table.{Table, withSecond, withBase, second, index, put, bucketOf, holds, planIn, touch}
-use Rattle.table.specs.Layout.{buckets1At, buckets2At, baseCountAt, basePairs, pairsFrom, numbersOf, tableFrom, bucketPlace}
-use Rattle.table.proofs.Numbers.{ShapedTable, Laid, drop-base, header-read, from-part, write-first, write-second, write-base, forth}
-use Rattle.table_layout.proofs.Shape.{Shape, first-lt, second-lt, first-bucket, second-bucket}
+use Rattle.table.specs.Layout.{buckets1At, buckets2At, baseCountAt, header, basePairs, pairsFrom, numbersOf, tableFrom, bucketPlace}
+use Rattle.table.specs.Calls.{rows, solutions, tableOf}
+use Rattle.table.proofs.Numbers.{header-read, forth}
+use Rattle.table.proofs.Calls.{sound-shaped, sound-laid}
+use Rattle.table_layout.proofs.Shape.{Flat, shape, part-bucket, first-here, second-here, first-stored, second-stored, last-is, last-read, last-put}
 use Rattle.table_base.specs.Base.{Pairs}
+use Rattle.table_calls.specs.Ready.{Ready}
 
--- ---- the parts of the numbers
-
-module _ (n r : ℕ) (S : ℕ → ℕ) (xs : List ℕ) (s : Shape n r xs) where
+module _ (n r : ℕ) (S : ℕ → ℕ) (xs : List ℕ) (h : Flat n r xs) where
   abbrev T : Table
   T = tableFrom n r xs
 
@@ -45,12 +47,8 @@ module _ (n r : ℕ) (S : ℕ → ℕ) (xs : List ℕ) (s : Shape n r xs) where
   abbrev tail-at : ℕ → List ℕ
   tail-at p = take (length xs - p) (drop p xs)
 
-  tail-is : (p : ℕ) → tail-at p ≡ drop p xs
-  tail-is p = take-all (length xs - p) (drop p xs) (omega (arith, length-drop p xs))
-
-  base-is : T .base ≡ pairsFrom k (drop (bucketPlace n r (b1 + b2)) xs)
-  unfolding tableFrom
-  base-is = refl
+  pub base-pairs : (p : ℕ) → p ≡ bucketPlace n r (b1 + b2) → Pairs baseLimit k (tail-at p)
+  base-pairs p e = record { fits = subst (λ (c : ℕ). c ≤ baseLimit) (header-read n r xs .2) (h .whole .fits); rest = last-is n r xs h p e ∙ ap basePairs (sym (last-read n r xs h p e)) }
 
   -- ---- the plan of a word
 
@@ -60,103 +58,67 @@ module _ (n r : ℕ) (S : ℕ → ℕ) (xs : List ℕ) (s : Shape n r xs) where
 
   module _ (w : ℕ) where
     pub plan-first : holds n r S (T .level1) w ≡ true → (p : ℕ) → p ≡ bucketPlace n r (index S b1 w) → planOf n w (bucketFrom n r (drop p xs)) ≡ planIn n r S T w
-    plan-first on p q = ap (λ (j : ℕ). planOf n w (bucketFrom n r (drop j xs))) q ∙ ap (planOf n w) (sym (first-bucket n r xs s S w)) ∙ sym (cond-true _ _ on)
+    plan-first on p q = ap (planOf n w) (first-here n r xs (h .shape) S w p q) ∙ sym (cond-true _ _ on)
 
     module _ (off : holds n r S (T .level1) w ≡ false) (v : ℕ) (e : v ≡ second S w) where
-      past-first : (o : Option ℕ) → o ≡ passed v → o ≡ planIn n r S T w
-      past-first o q = q ∙ ap passed e ∙ sym (cond-false _ _ off)
+      past-first : passed v ≡ planIn n r S T w
+      past-first = ap passed e ∙ sym (cond-false _ _ off)
 
       pub plan-second : holds n r S (T .level2) v ≡ true → (p : ℕ) → p ≡ bucketPlace n r (b1 + index S b2 v) → planOf n v (bucketFrom n r (drop p xs)) ≡ planIn n r S T w
-      plan-second on p q =
-          past-first _ (ap (λ (j : ℕ). planOf n v (bucketFrom n r (drop j xs))) q ∙ ap (planOf n v) (sym (second-bucket n r xs s S v)) ∙ sym (cond-true _ _ on))
+      plan-second on p q = ap (planOf n v) (second-here n r xs (h .shape) S v p q) ∙ sym (cond-true _ _ on) ∙ past-first
 
       pub plan-base : holds n r S (T .level2) v ≡ false → (p : ℕ) → p ≡ bucketPlace n r (b1 + b2) → find v (pairsFrom k (tail-at p)) ≡ planIn n r S T w
-      plan-base out p q =
-          past-first _ (ap (λ (l : List ℕ). find v (pairsFrom k l)) (tail-is p ∙ ap (λ (j : ℕ). drop j xs) q) ∙ ap (find v) (sym base-is) ∙ sym (cond-false _ _ out))
+      plan-base out p q = ap (find v) (last-read n r xs h p q) ∙ sym (cond-false _ _ out) ∙ past-first
 
   -- ---- the numbers
 
-  module _ (laid : Laid n r xs) (h : ShapedTable n r T) where
-    abbrev numbers : List ℕ
-    numbers = numbersOf T
+  module _ (w : ℕ) (f : ℕ → Bucket → Bucket) (g : ℕ → List Entry → List Entry) where
+    abbrev touched : Table
+    touched = touch n r S T w f g
 
-    same : numbers ≡ xs
-    same = forth n r xs laid
+    -- a stretch that is v's bucket b is written
+    written : (v p : ℕ) (b : Bucket) (ys : List ℕ) → bucketFrom n r (drop p xs) ≡ b → ys ≡ wordsOf (f v (bucketFrom n r (take (p + W - p) (drop p xs))))
+        → putMid p (p + W - p) xs ys ≡ take p xs ++ (wordsOf (f v b) ++ drop (p + W) xs)
+    written v p b ys e q = ap₂ (λ (l m : List ℕ). take p xs ++ (l ++ m)) (q ∙ ap (λ (c : Bucket). wordsOf (f v c)) (part-bucket n r xs p ∙ e)) (post-is p (p + W) xs (omega arith))
 
-    -- the base list is the last of the numbers
-    base-at : bucketPlace n r (length (T .level1) + length (T .level2)) ≡ bucketPlace n r (b1 + b2)
-    base-at = ap₂ (λ (i j : ℕ). bucketPlace n r (i + j)) (header-read n r xs .0) (header-read n r xs .1)
+    -- where level 1 does not hold it
+    abbrev passing : ℕ → Table
+    passing v =
+        cond (holds n r S (T .level2) v) (withSecond T (put S (T .level2) v (f v (bucketOf n r S (T .level2) v)))) (withBase T (g v (T .base)))
 
-    tail-pairs : drop (bucketPlace n r (b1 + b2)) xs ≡ basePairs (T .base)
-    tail-pairs = ap₂ (λ (j : ℕ) (l : List ℕ). drop j l) (sym base-at) (sym same) ∙ drop-base n r T h
+    pub touched-first : holds n r S (T .level1) w ≡ true → (p : ℕ) → p ≡ bucketPlace n r (index S b1 w)
+        → (ys : List ℕ) → ys ≡ wordsOf (f w (bucketFrom n r (take (p + W - p) (drop p xs)))) → putMid p (p + W - p) xs ys ≡ numbersOf touched
+    touched-first on p e ys q = written w p _ ys (first-here n r xs (h .shape) S w p e) q ∙ first-stored n r xs h S w p e _ ∙ sym (ap numbersOf (cond-true _ _ on))
 
-    module _ (p : ℕ) (e : p ≡ bucketPlace n r (b1 + b2)) where
-      tail-here : tail-at p ≡ drop (bucketPlace n r (b1 + b2)) xs
-      tail-here = tail-is p ∙ ap (λ (j : ℕ). drop j xs) e
+    module _ (off : holds n r S (T .level1) w ≡ false) (v : ℕ) (d : v ≡ second S w) where
+      passing-is : touched ≡ passing v
+      passing-is = cond-false _ _ off ∙ ap passing (sym d)
 
-      pub base-pairs : Pairs baseLimit k (tail-at p)
-      base-pairs = record { fits = laid .fits; rest = tail-here ∙ tail-pairs ∙ ap basePairs (base-is ∙ ap (pairsFrom k) (sym tail-here)) }
+      pub touched-second : holds n r S (T .level2) v ≡ true → (p : ℕ) → p ≡ bucketPlace n r (b1 + index S b2 v)
+          → (ys : List ℕ) → ys ≡ wordsOf (f v (bucketFrom n r (take (p + W - p) (drop p xs)))) → putMid p (p + W - p) xs ys ≡ numbersOf touched
+      touched-second on p e ys q = written v p _ ys (second-here n r xs (h .shape) S v p e) q ∙ second-stored n r xs h S v p e _ ∙ sym (ap numbersOf (passing-is ∙ cond-true _ _ on))
 
-      -- written as a whole
-      put-tail : (ys : List ℕ) → putMid p (length xs - p) xs ys ≡ take (bucketPlace n r (b1 + b2)) xs ++ ys
-      put-tail ys =
-          ap (λ (l : List ℕ). take p xs ++ (ys ++ l)) (drop-of-length-le (drop p xs) {i = length xs - p} (omega (arith, length-drop p xs)))
-          ∙ ap₂ (λ (j : ℕ) (l : List ℕ). take j xs ++ l) e (append-nil ys)
+      -- the base list and its count
+      pub touched-base : holds n r S (T .level2) v ≡ false → (p : ℕ) → p ≡ bucketPlace n r (b1 + b2) → (ys : List ℕ) (c : ℕ)
+          → ys ≡ basePairs (g v (pairsFrom k (tail-at p))) → c ≡ length (g v (pairsFrom k (tail-at p))) → set (putMid p (length xs - p) xs ys) baseCountAt c ≡ numbersOf touched
+      touched-base out p e ys c q m =
+          let own = ap (g v) (last-read n r xs h p e) in
+          last-put n r xs h p e (g v (T .base)) ys c (q ∙ ap basePairs own) (m ∙ ap (λ (es : List Entry). length es) own) ∙ sym (ap numbersOf (passing-is ∙ cond-false _ _ out))
 
-    -- a stretch that is one bucket's is written
-    written : (U : Table) (b : Bucket) (i p : ℕ) (ys : List ℕ) → p ≡ bucketPlace n r i → ys ≡ wordsOf b
-        → numbersOf U ≡ take (bucketPlace n r i) numbers ++ (wordsOf b ++ drop (bucketPlace n r i + W) numbers) → putMid p (p + W - p) xs ys ≡ numbersOf U
-    written U b i p ys e q u =
-        ap (λ (l : List ℕ). take p xs ++ (ys ++ l)) (post-is p (p + W) xs (omega arith))
-        ∙ ap₂ (λ (j : ℕ) (l : List ℕ). take j xs ++ (l ++ drop (j + W) xs)) e q
-        ∙ ap (λ (l : List ℕ). take (bucketPlace n r i) l ++ (wordsOf b ++ drop (bucketPlace n r i + W) l)) (sym same) ∙ sym u
+-- ---- a table that is sound
 
-    module _ (w : ℕ) (f : ℕ → Bucket → Bucket) (g : ℕ → List Entry → List Entry) where
-      abbrev touched : Table
-      touched = touch n r S T w f g
+module _ {t : List ℕ} (h : Ready t) where
+  pub flat-of : Flat rows solutions t
+  flat-of = record { shape = shape (h .shape); whole = sound-shaped (tableOf t) (h .sound .table); numbers = forth rows solutions t (sound-laid t (h .shape) (h .sound)) }
 
-      -- the bucket of a stretch
-      bucket-here : (p i : ℕ) → p ≡ bucketPlace n r i → bucketFrom n r (take (p + W - p) (drop p xs)) ≡ bucketFrom n r (drop (bucketPlace n r i) xs)
-      bucket-here p i e = ap (bucketFrom n r) (stretch p W xs) ∙ from-part n r (drop p xs) ∙ ap (λ (j : ℕ). bucketFrom n r (drop j xs)) e
+  pub long : header ≤ length t
+  long = omega (arith, flat-of .shape .size)
 
-      -- where level 1 does not hold it
-      abbrev passing : ℕ → Table
-      passing v =
-          cond (holds n r S (T .level2) v) (withSecond T (put S (T .level2) v (f v (bucketOf n r S (T .level2) v)))) (withBase T (g v (T .base)))
+-- ---- one bucket
 
-      pub touched-first : holds n r S (T .level1) w ≡ true → (p : ℕ) → p ≡ bucketPlace n r (index S b1 w)
-          → (ys : List ℕ) → ys ≡ wordsOf (f w (bucketFrom n r (take (p + W - p) (drop p xs)))) → putMid p (p + W - p) xs ys ≡ numbersOf touched
-      touched-first on p e ys q =
-          let b : Bucket = f w (bucketOf n r S (T .level1) w) in
-          let len = header-read n r xs .0 in
-          written touched b (index S (length (T .level1)) w) p ys (e ∙ ap (λ (m : ℕ). bucketPlace n r (index S m w)) (sym len))
-          (q ∙ ap (λ (c : Bucket). wordsOf (f w c)) (bucket-here p (index S b1 w) e ∙ sym (first-bucket n r xs s S w)))
-          (ap numbersOf (cond-true _ _ on) ∙ write-first n r T h (index S (length (T .level1)) w) b (subst⁻¹ (λ (m : ℕ). index S m w < m) len (first-lt n r xs s S w)))
+module _ (v i : ℕ) (b : Bucket) (l : length (b .cols) ≡ rows) (e : i ≡ rowOf rows v b) where
+  pub plan-live : i < rows → planOf rows v b ≡ some (lookup b v)
+  plan-live h = cond-true _ _ (live-row rows v b l ∙ lt-ltb _ _ (subst (λ (j : ℕ). j < rows) e h))
 
-      module _ (off : holds n r S (T .level1) w ≡ false) (v : ℕ) (d : v ≡ second S w) where
-        passing-is : touched ≡ passing v
-        passing-is = cond-false _ _ off ∙ ap passing (sym d)
-
-        pub touched-second : holds n r S (T .level2) v ≡ true → (p : ℕ) → p ≡ bucketPlace n r (b1 + index S b2 v)
-            → (ys : List ℕ) → ys ≡ wordsOf (f v (bucketFrom n r (take (p + W - p) (drop p xs)))) → putMid p (p + W - p) xs ys ≡ numbersOf touched
-        touched-second on p e ys q =
-            let b : Bucket = f v (bucketOf n r S (T .level2) v) in
-            let len = header-read n r xs in
-            written touched b (length (T .level1) + index S (length (T .level2)) v) p ys
-            (e ∙ ap₂ (λ (i m : ℕ). bucketPlace n r (i + index S m v)) (sym (len .0)) (sym (len .1)))
-            (q ∙ ap (λ (c : Bucket). wordsOf (f v c)) (bucket-here p (b1 + index S b2 v) e ∙ sym (second-bucket n r xs s S v)))
-            (ap numbersOf (passing-is ∙ cond-true _ _ on)
-            ∙ write-second n r T h (index S (length (T .level2)) v) b (subst⁻¹ (λ (m : ℕ). index S m v < m) (len .1) (second-lt n r xs s S v)))
-
-        module _ (out : holds n r S (T .level2) v ≡ false) (p : ℕ) (e : p ≡ bucketPlace n r (b1 + b2)) where
-          abbrev after : List Entry
-          after = g v (pairsFrom k (tail-at p))
-
-          -- the base list and its count
-          pub touched-base : (ys : List ℕ) (c : ℕ) → ys ≡ basePairs after → c ≡ length after → set (putMid p (length xs - p) xs ys) baseCountAt c ≡ numbersOf touched
-          touched-base ys c q m =
-              let own : after ≡ g v (T .base) = ap (λ (l : List ℕ). g v (pairsFrom k l)) (tail-here p e) ∙ ap (g v) (sym base-is) in
-              ap₂ (λ (l : List ℕ) (j : ℕ). set l baseCountAt j) (put-tail p e ys) m
-              ∙ ap₂ (λ (l : List ℕ) (es : List Entry). set (take (bucketPlace n r (b1 + b2)) xs ++ l) baseCountAt (length es)) (q ∙ ap basePairs own) own
-              ∙ ap₂ (λ (j : ℕ) (l : List ℕ). set (take j l ++ basePairs (g v (T .base))) baseCountAt (length (g v (T .base)))) (sym base-at) (sym same)
-              ∙ sym (ap numbersOf (passing-is ∙ cond-false _ _ out) ∙ write-base n r T h (g v (T .base)))
+  pub plan-gone : rows ≤ i → planOf rows v b ≡ none
+  plan-gone h = cond-false _ _ (live-row rows v b l ∙ le-ltb _ _ (subst (λ (j : ℕ). rows ≤ j) e h))

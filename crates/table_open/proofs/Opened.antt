@@ -18,7 +18,7 @@ use Rattle.bucket_words.proofs.Words.{length-words, empty-shaped}
 use Rattle.table.specs.Table.{openTable}
 use Rattle.table.specs.Layout.{buckets1At, buckets2At, baseCountAt, liveCountAt, header, baseNumbers, levelNumbers, basePairs, heads, numbersOf, bucketPlace, inRange, lengthOf}
 use Rattle.table.specs.Calls.{rows, solutions, turnedDown, openCall}
-use Rattle.table.proofs.Numbers.{length-level, length-heads}
+use Rattle.table.proofs.Numbers.{length-level, four}
 
 level-append : (bs cs : List Bucket) → levelNumbers (bs ++ cs) ≡ levelNumbers bs ++ levelNumbers cs
 level-append [] cs = refl
@@ -34,11 +34,9 @@ module _ (n r : ℕ) where
   -- the header is written
   pub header-set : (t : List ℕ) (b1 b2 : ℕ) → header ≤ length t
       → set (set (set (set t buckets1At b1) buckets2At b2) baseCountAt 0) liveCountAt 0 ≡ heads (openTable n r b1 b2) ++ drop header t
-  header-set [] b1 b2 h = absurd (omega arith)
-  header-set (a ∷ []) b1 b2 h = absurd (omega arith)
-  header-set (a ∷ b ∷ []) b1 b2 h = absurd (omega arith)
-  header-set (a ∷ b ∷ c ∷ []) b1 b2 h = absurd (omega arith)
-  header-set (a ∷ b ∷ c ∷ d ∷ t) b1 b2 h = sym (ap₂ {C = List ℕ} (λ i j. i ∷ j ∷ 0 ∷ 0 ∷ t) (length-replicate b1 E) (length-replicate b2 E))
+  header-set t b1 b2 h =
+      ap (λ (l : List ℕ). set (set (set (set l buckets1At b1) buckets2At b2) baseCountAt 0) liveCountAt 0) (sym (four n r t h))
+      ∙ sym (ap₂ {C = List ℕ} (λ i j. i ∷ j ∷ 0 ∷ 0 ∷ drop header t) (length-replicate b1 E) (length-replicate b2 E))
 
   -- one more empty bucket is stored
   pub level-more : (i at : ℕ) (words part : List ℕ) (k : ℕ) → at + w ≤ length words → part ≡ wordsOf E → take at words ≡ levelNumbers (replicate i E)
@@ -63,9 +61,6 @@ module _ (n r : ℕ) where
     abbrev hs : List ℕ
     hs = heads (openTable n r b1 b2)
 
-    length-hs : length hs ≡ header
-    length-hs = length-heads n r (openTable n r b1 b2)
-
     abbrev rest : List ℕ
     rest = drop (p - header) (drop header t)
 
@@ -75,11 +70,11 @@ module _ (n r : ℕ) where
     filled-is : filled ≡ (hs ++ L) ++ rest
     filled-is =
         ap (λ (h : List ℕ). putMid header (p - header) h L) headed
-        ∙ ap₂ (λ (a b : List ℕ). a ++ (L ++ drop (p - header) b)) (take-at hs (drop header t) header length-hs) (drop-at hs (drop header t) header length-hs)
+        ∙ ap₂ (λ (a b : List ℕ). a ++ (L ++ drop (p - header) b)) (take-at hs (drop header t) header refl) (drop-at hs (drop header t) header refl)
         ∙ sym (append-assoc hs L rest)
 
     length-front : length (hs ++ L) ≡ p
-    length-front = omega (arith, length-append hs L, length-hs, ap length buckets ∙ length-empty (b1 + b2))
+    length-front = omega (arith, length-append hs L, ap length buckets ∙ length-empty (b1 + b2))
 
     back : drop p filled ≡ rest
     back = ap (drop p) filled-is ∙ drop-at (hs ++ L) rest p length-front

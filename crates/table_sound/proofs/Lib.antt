@@ -1,3 +1,2 @@
 -- The laws of the crate.
-pub mod Loops
 pub mod Held

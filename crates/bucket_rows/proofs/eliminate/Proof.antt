@@ -11,7 +11,8 @@ use lib.Bits.{bitXor}
 use lib.ListN.{length, getD}
 use Rattle.gf2.specs.Vectors.{solStep}
 use Rattle.gf2.proofs.Bit.{bit-zero}
-use Rattle.gf2.proofs.Loops.{solStep-none, length-solStep}
+use Rattle.gf2.proofs.Solutions.{solStep-none}
+use Rattle.gf2.proofs.Loops.{length-solStep}
 use Rattle.bucket_rows.specs.Elimination.{clearFrom, passed, Work, rowAt, stepAt, after, placed, eliminated}
 use Rattle.bucket_rows.proofs.Laws.{row-is, answer-is, stuck, after-more, placed-more, clearFrom-none, length-clearFrom}
 use Rattle.bucket_rows.proofs.Free.{FreeBits, cols→bits}

@@ -9,7 +9,8 @@ use lib.ListN.{length, length-set}
 use lib.Pow.{pow-lt}
 use Rattle.gf2.specs.Vectors.{solStep}
 use Rattle.gf2.proofs.Lowest.{tz-lt, tz-bit}
-use Rattle.gf2.proofs.Loops.{solStep-none, solStep-one, without-lt, low-off}
+use Rattle.gf2.proofs.Solutions.{solStep-none}
+use Rattle.gf2.proofs.Loops.{solStep-one, without-lt, low-off}
 use borrow.Author.Needs.{needs}
 use Rattle.bucket_rows.proofs.flip_all.Statement.{statement}
 use Rattle.bucket_rows.proofs.flip_all.Tie as tie
@@ -55,12 +56,10 @@ loop-again c =
     let b = c .before .before in
     let ne = c .before .loop-test .taken in
     let l : trailingZeros 64 (b .loop .left) < 64 = tz-lt 64 (b .loop .left) (b .loop .inv .1) ne in
-    let e = tz-bit 64 (b .loop .left) l in
-    let o = low-off 64 (b .loop .left) (b .loop .inv .1) ne in
-    let h : trailingZeros 64 (b .loop .left) < length (b .loop .t) = omega arith in (
+    let o = low-off 64 (b .loop .left) (b .loop .inv .1) ne in (
       simp length-set (b .loop .inv .0),
       rw o (xor-lt 64 (b .loop .left) _ (b .loop .inv .1) (pow-lt l)),
-      rw o (solStep-one (b .loop .left) (trailingZeros 64 (b .loop .left)) e (b .before .args .u) (b .loop .t) h ∙ b .loop .inv .2),
+      rw o (solStep-one (b .before .args .u) (b .loop .left) (trailingZeros 64 (b .loop .left)) (b .loop .t) ∙ b .loop .inv .2),
     )
 
 returns : tie.Need-returns Inv-loop μ-loop

@@ -33,9 +33,8 @@ returns : tie.Need-returns Inv-loop μ-loop
 returns c =
     let b = c .before .before .before .before in
     let a = b .before .args in
-    let e = c .before .power .ensures in
     let h : b .loop .i < length (a .cols .now) = omega arith in
-    sym (free-stop (a .mark) (a .cols .now) (b .loop .i) h (λ q. c .if1 .taken (q ∙ ap (λ (y : ℕ). outside y (a .mark)) (sym e)))) ∙ b .loop .inv .2
+    sym (free-stop (a .mark) (a .cols .now) (b .loop .i) h (λ q. c .if1 .taken (q ∙ ap (λ (y : ℕ). outside y (a .mark)) (sym (c .before .power .ensures))))) ∙ b .loop .inv .2
 
 add-i : tie.Need-add-i Inv-loop μ-loop
 add-i c = search needs

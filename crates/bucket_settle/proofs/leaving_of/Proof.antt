@@ -87,9 +87,8 @@ loop-again-2 c =
 
 returns : tie.Need-returns Inv-loop μ-loop
 returns c =
-    let l = c .before .loop in
     let a = c .before .before .before .args in
-    found-all thresholdOf (a .t) (a .b) 65 (a .b .mark) (a .t2) (l .i) (c .loop-test .left) (l .inv .1)
+    found-all thresholdOf (a .t) (a .b) 65 (a .b .mark) (a .t2) (c .before .loop .i) (c .loop-test .left) (c .before .loop .inv .1)
 
 pub leaving-of-spec : {M : Type 1} → statement M
 leaving-of-spec =

@@ -55,10 +55,9 @@ loop-again c =
 
 returns : tie.Need-returns Inv-loop μ-loop
 returns c =
-    let l = c .before .loop in
     let a = c .before .before .args in
-    let e : l .i ≡ a .count = omega arith in
-    l .inv .2 ∙ ap (paste (a .words) (a .at) (a .t3)) e
+    let e : c .before .loop .i ≡ a .count = omega arith in
+    c .before .loop .inv .2 ∙ ap (paste (a .words) (a .at) (a .t3)) e
 
 pub pasted-spec : {M : Type 1} → statement M
 pasted-spec =

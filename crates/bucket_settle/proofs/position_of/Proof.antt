@@ -28,11 +28,10 @@ array-read-if1 c = search needs
 
 returns : tie.Need-returns Inv-loop μ-loop
 returns c =
-    let l = c .before .before .loop in
     let a = c .before .before .before .args in
     let e : length (a .t1) ≡ 65 = search needs in
     let h : a .count ≤ length (a .t1) = omega arith in
-    omega (arith, position-here (a .v) (a .t1) (a .count) (l .i) h (c .before .loop-test .taken) (c .if1 .taken))
+    omega (arith, position-here (a .v) (a .t1) (a .count) (c .before .before .loop .i) h (c .before .loop-test .taken) (c .if1 .taken))
 
 add-i : tie.Need-add-i Inv-loop μ-loop
 add-i c = search needs
@@ -42,18 +41,16 @@ loop-less c = search needs
 
 loop-again : tie.Need-loop-again Inv-loop μ-loop
 loop-again c =
-    let l = c .before .before .loop in
     let a = c .before .before .before .args in
     let e : length (a .t1) ≡ 65 = search needs in
     let h : a .count ≤ length (a .t1) = omega arith in
-    (search needs, rw add-one (omega (arith, position-next (a .v) (a .t1) (a .count) (l .i) h (c .before .loop-test .taken) (c .if1 .left))))
+    (search needs, rw add-one (omega (arith, position-next (a .v) (a .t1) (a .count) (c .before .before .loop .i) h (c .before .loop-test .taken) (c .if1 .left))))
 
 returns-2 : tie.Need-returns-2 Inv-loop μ-loop
 returns-2 c =
-    let l = c .before .loop in
     let a = c .before .before .args in
-    let h : a .count ≤ l .i = omega arith in
-    omega (arith, position-end (a .v) (a .t1) (a .count) (l .i) h)
+    let h : a .count ≤ c .before .loop .i = omega arith in
+    omega (arith, position-end (a .v) (a .t1) (a .count) (c .before .loop .i) h)
 
 pub position-of-spec : {M : Type 1} → statement M
 position-of-spec =

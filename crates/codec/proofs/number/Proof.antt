@@ -32,8 +32,7 @@ abbrev μ-loop : tie.MeasureT-loop
 
 loop-holds : tie.Need-loop-holds Inv-loop μ-loop
 loop-holds c =
-    let args = c .before .args in
-    let none : args .n - args .n ≡ 0 = omega arith in
+    let none : c .before .args .n - c .before .args .n ≡ 0 = omega arith in
     (search needs, rw none (sym from-none), rw none (lit< tt))
 
 sub-i : tie.Need-sub-i Inv-loop μ-loop

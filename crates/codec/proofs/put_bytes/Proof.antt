@@ -29,8 +29,7 @@ same-length c = search needs
 returns-2 : tie.Need-returns-2
 returns-2 c =
     let args = c .before .before .before .before .before .before .before .before .args in
-    let d = args .d .now in
-    c .before .before .put-first .ensures ∙ written-cut (args .at) (length d - args .at) (args .s .now) d (omega arith)
+    c .before .before .put-first .ensures ∙ written-cut (args .at) (length (args .d .now) - args .at) (args .s .now) (args .d .now) (omega arith)
 
 put-first-requires-2 : tie.Need-put-first-requires-2
 put-first-requires-2 c κs = search needs

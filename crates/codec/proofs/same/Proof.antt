@@ -23,8 +23,7 @@ same-at-requires c κs = search needs
 returns-2 : tie.Need-returns-2
 returns-2 c =
     let args = c .before .before .before .before .args in
-    let b = args .b .now in
-    c .same-at .ensures ∙ ap (λ (l : List ℕ). eqList l b) (take-all (length b) (args .a .now) (omega arith))
+    c .same-at .ensures ∙ ap (λ (l : List ℕ). eqList l (args .b .now)) (take-all (length (args .b .now)) (args .a .now) (omega arith))
 
 pub same-spec : {M : Type 1} → statement M
 same-spec = tie.close (tie.spec returns same-at-requires returns-2)

@@ -18,15 +18,13 @@ run-requires c κs = search needs
 
 array-share-prefix-out : tie.Need-array-share-prefix-out
 array-share-prefix-out c =
-    let input = c .before .before .before .before .before .args .input .now in
-    let m = run-most input (c .before .run .result) (c .before .run .ensures .fits) in
+    let m = run-most (c .before .before .before .before .before .args .input .now) (c .before .run .result) (c .before .run .ensures .fits) in
     search needs
 
 slice-aggregate-write-all : tie.Need-slice-aggregate-write-all
 slice-aggregate-write-all c =
     let r = c .before .before .run in
-    let input = c .before .before .before .before .before .before .args .input .now in
-    let m = run-most input (r .result) (r .ensures .fits) in
+    let m = run-most (c .before .before .before .before .before .before .args .input .now) (r .result) (r .ensures .fits) in
     sym (length-take-le (r .result) (r .last .1 .0) (search needs))
 
 write-all-requires : tie.Need-write-all-requires

@@ -18,8 +18,7 @@ same-length c = search needs
 returns : tie.Need-returns
 returns c =
     let done = c .before .before in
-    let start = done .before .before .before .before .before .before in
-    let a = start .args in
+    let a = done .before .before .before .before .before .before .args in
     ask-bad (a .at) (done .put-bad .result) (a .out .now) (done .put-bad .last .0) (a .held) (a .t .now) (callOf (a .verb) (a .id .now) (a .plan)) (search needs) (done .put-bad .ensures)
 
 slice-relend-prefix-ask : tie.Need-slice-relend-prefix-ask

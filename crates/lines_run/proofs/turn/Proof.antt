@@ -23,9 +23,7 @@ returns : tie.Need-returns
 returns c =
     let done = c .before .before .before .before in
     let read = done .before .before in
-    let start = read .before .before .before .before .before .before in
-    let a = start .args in
-    rw (turn-short tables _ (a .s .now) (search needs), ← read .parse .ensures .0) (done .obey .ensures)
+    rw (turn-short tables _ (read .before .before .before .before .before .before .args .s .now) (search needs), ← read .parse .ensures .0) (done .obey .ensures)
 
 put-bad-requires : tie.Need-put-bad-requires
 put-bad-requires c κs = search needs

@@ -11,9 +11,7 @@ place-requires : tie.Need-place-requires
 place-requires c κs = search needs
 
 returns : tie.Need-returns
-returns c =
-    let s = c .before .before .before .args .s .now in
-    (sym (command-one s (c .before .place .result) (c .before .place .ensures) (omega arith)), tt)
+returns c = (sym (command-one (c .before .before .before .args .s .now) (c .before .place .result) (c .before .place .ensures) (omega arith)), tt)
 
 add-place : tie.Need-add-place
 add-place c = search needs

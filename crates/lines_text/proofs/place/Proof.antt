@@ -25,8 +25,7 @@ shared-slice-read-if1 c = search needs
 returns : tie.Need-returns Inv-loop μ-loop
 returns c =
     let at-loop = c .before .before .before in
-    let args = at-loop .before .args in
-    omega (arith, place-here (args .b) (at-loop .loop .i) (args .s .now) (search needs) (c .if1 .taken))
+    omega (arith, place-here (at-loop .before .args .b) (at-loop .loop .i) (at-loop .before .args .s .now) (search needs) (c .if1 .taken))
 
 add-i : tie.Need-add-i Inv-loop μ-loop
 add-i c = search needs
@@ -37,14 +36,12 @@ loop-less c = search needs
 loop-again : tie.Need-loop-again Inv-loop μ-loop
 loop-again c =
     let at-loop = c .before .before .before in
-    let args = at-loop .before .args in
-    (search needs, omega (arith, place-later (args .b) (at-loop .loop .i) (args .s .now) (search needs) (c .if1 .left)))
+    (search needs, omega (arith, place-later (at-loop .before .args .b) (at-loop .loop .i) (at-loop .before .args .s .now) (search needs) (c .if1 .left)))
 
 returns-2 : tie.Need-returns-2 Inv-loop μ-loop
 returns-2 c =
-    let at-loop = c .before in
-    let args = at-loop .before .args in
-    omega (arith, place-end (args .b) (at-loop .loop .i) (args .s .now) (search needs))
+    let args = c .before .before .args in
+    omega (arith, place-end (args .b) (c .before .loop .i) (args .s .now) (search needs))
 
 pub place-spec : {M : Type 1} → statement M
 place-spec =

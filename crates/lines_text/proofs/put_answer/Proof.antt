@@ -40,9 +40,8 @@ same-length-2 c = search needs
 returns-2 : tie.Need-returns-2
 returns-2 c =
     let tested = c .before .before .before .before .before in
-    let a = tested .before .before .before .args .a in
     let number = tested .before .number in
-    rw (printed-no a (λ e. tested .if1 .left (number .ensures ∙ e)), ← number .ensures) (c .before .before .put-line2 .ensures)
+    rw (printed-no (tested .before .before .before .args .a) (λ e. tested .if1 .left (number .ensures ∙ e)), ← number .ensures) (c .before .before .put-line2 .ensures)
 
 pub put-answer-spec : {M : Type 1} → statement M
 put-answer-spec =

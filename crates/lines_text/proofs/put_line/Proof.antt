@@ -23,9 +23,8 @@ put-bytes-requires-2 c κs = search needs
 
 add-result : tie.Need-add-result
 add-result c =
-    let digits = c .before .before .before .before .before .before .before .put-decimal in
     let args = c .before .before .before .before .before .before .before .before .before .before .before .before .before .before .before .args in
-    omega (arith, digits .ensures .0, decimal-most (args .n))
+    omega (arith, c .before .before .before .before .before .before .before .put-decimal .ensures .0, decimal-most (args .n))
 
 same-length : tie.Need-same-length
 same-length c = search needs

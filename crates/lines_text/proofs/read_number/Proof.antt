@@ -44,17 +44,13 @@ returns-4 : tie.Need-returns-4 Inv-loop μ-loop
 returns-4 c =
     let at-loop = c .before .before .before in
     let args = at-loop .before .before .before .before .before .args in
-    let s = args .s .now in
-    let i = at-loop .loop .i in
-    sym (read-low (args .limit) (at-loop .loop .n) i s (omega arith) (omega arith)) ∙ at-loop .loop .inv .2
+    sym (read-low (args .limit) (at-loop .loop .n) (at-loop .loop .i) (args .s .now) (omega arith) (omega arith)) ∙ at-loop .loop .inv .2
 
 returns-5 : tie.Need-returns-5 Inv-loop μ-loop
 returns-5 c =
     let at-loop = c .before .before .before .before in
     let args = at-loop .before .before .before .before .before .args in
-    let s = args .s .now in
-    let i = at-loop .loop .i in
-    sym (read-high (args .limit) (at-loop .loop .n) i s (omega arith) (omega arith) (omega arith)) ∙ at-loop .loop .inv .2
+    sym (read-high (args .limit) (at-loop .loop .n) (at-loop .loop .i) (args .s .now) (omega arith) (omega arith) (omega arith)) ∙ at-loop .loop .inv .2
 
 push-digit-requires : tie.Need-push-digit-requires Inv-loop μ-loop
 push-digit-requires c κs = search needs
@@ -63,9 +59,7 @@ returns-6 : tie.Need-returns-6 Inv-loop μ-loop
 returns-6 c =
     let at-loop = c .before .before .before .before .before .before in
     let args = at-loop .before .before .before .before .before .args in
-    let s = args .s .now in
-    let i = at-loop .loop .i in
-    sym (read-over (args .limit) (at-loop .loop .n) i s (omega arith) (omega arith) (omega arith) (omega arith)) ∙ at-loop .loop .inv .2
+    sym (read-over (args .limit) (at-loop .loop .n) (at-loop .loop .i) (args .s .now) (omega arith) (omega arith) (omega arith) (omega arith)) ∙ at-loop .loop .inv .2
 
 add-i : tie.Need-add-i Inv-loop μ-loop
 add-i c = search needs
@@ -77,18 +71,14 @@ loop-again : tie.Need-loop-again Inv-loop μ-loop
 loop-again c =
     let at-loop = c .before .before .before .before .before .before in
     let args = at-loop .before .before .before .before .before .args in
-    let s = args .s .now in
-    let i = at-loop .loop .i in
-    let more = read-more (args .limit) (at-loop .loop .n) i s (omega arith) (omega arith) (omega arith) (omega arith) in
+    let more = read-more (args .limit) (at-loop .loop .n) (at-loop .loop .i) (args .s .now) (omega arith) (omega arith) (omega arith) (omega arith) in
     (search needs, search needs, rw (c .before .push-digit .ensures) more ∙ at-loop .loop .inv .2)
 
 returns-7 : tie.Need-returns-7 Inv-loop μ-loop
 returns-7 c =
     let at-loop = c .before in
     let args = at-loop .before .before .before .before .before .args in
-    let s = args .s .now in
-    let i = at-loop .loop .i in
-    sym (read-end (args .limit) (at-loop .loop .n) i s (omega arith)) ∙ at-loop .loop .inv .2
+    sym (read-end (args .limit) (at-loop .loop .n) (at-loop .loop .i) (args .s .now) (omega arith)) ∙ at-loop .loop .inv .2
 
 pub read-number-spec : {M : Type 1} → statement M
 read-number-spec =

@@ -7,7 +7,6 @@ use Rattle.plane.specs.declared.Wrong.the-variants.{Nowhere}
 use Rattle.plane.specs.Record.{format1}
 use Rattle.plane.specs.Plane.{wrongAt}
 use Rattle.patch.specs.Calls.{applyCall}
-use Rattle.patch.proofs.Statements.{format1-own}
 use Rattle.patch_apply.proofs.New.{known}
 use Rattle.patch_apply.proofs.Call.{patch-wrong, patch-right, right-answer}
 use Rattle.patch_apply.proofs.apply.Statement.{statement}
@@ -49,7 +48,7 @@ apply-right-requires c κs =
     let s = e .before .before .before .before .before .before .args in
     let f = patch-right (s .plane .now) (s .d .now) (k .check .result) (k .check .ensures .0) (k .check .last .1 .1 .0) (k .check .ensures .1) (m .0 .0) (m .1) in
     let g = known format1 (s .plane .now) (s .d .now) (λ i. e .before .before .before .before .before .shared-slice-known .given i .fits) (λ i. e .before .before .before .before .shared-slice-known2 .given i .fits)
-    (right e) (f .0) format1-own (k .check .last .1 .1 .0) (m .0 .0) (f .1) in
+    (right e) (f .0) (k .check .last .1 .1 .0) (m .0 .0) (f .1) in
     (right e, f .0, omega (arith, g .few), f .1)
 
 returns : tie.Need-returns

@@ -8,7 +8,6 @@ use lib.ListN.{length}
 use lib.Seq.{length-take-le}
 use Rattle.codec.proofs.Part.{length-written}
 use Rattle.plane.specs.Record.{format1}
-use Rattle.patch.proofs.Statements.{format1-own}
 use Rattle.patch_apply.proofs.New.{Known, known}
 use Rattle.patch_apply.proofs.Call.{front-part, old-wrong, old-right}
 use Rattle.patch_apply.proofs.apply_right.Statement.{statement}
@@ -18,7 +17,7 @@ facts : (c : tie.After-slice-known)
     → Known format1 (c .before .before .before .before .args .plane .now) (c .before .before .before .before .args .d .now) (c .before .before .before .before .args .pairs .now) (c .before .before .before .before .args .count)
 facts c =
     let s = c .before .before .before .before in
-    known format1 (s .args .plane .now) (s .args .d .now) (λ i. c .before .before .before .shared-slice-known .given i .fits) (λ i. c .before .before .shared-slice-known2 .given i .fits) (s .pre .0) (s .pre .1) format1-own (s .args .pairs .now) (s .args .count) (s .pre .3)
+    known format1 (s .args .plane .now) (s .args .d .now) (λ i. c .before .before .before .shared-slice-known .given i .fits) (λ i. c .before .before .shared-slice-known2 .given i .fits) (s .pre .0) (s .pre .1) (s .args .pairs .now) (s .args .count) (s .pre .3)
 
 get-u64-requires : tie.Need-get-u64-requires
 get-u64-requires c κs = search needs

@@ -6,7 +6,6 @@ use borrow.Author.Needs.{needs}
 use lib.Seq.{length-take-le}
 use Rattle.plane.specs.Record.{format1}
 use Rattle.patch.specs.Wrong.{changesIn}
-use Rattle.patch.proofs.Statements.{format1-own}
 use Rattle.patch_apply.proofs.New.{Known, known, built}
 use Rattle.patch_apply.proofs.build.Statement.{statement}
 use Rattle.patch_apply.proofs.build.Tie as tie
@@ -15,7 +14,7 @@ facts : (c : tie.After-slice-known)
     → Known format1 (c .before .before .before .before .args .plane .now) (c .before .before .before .before .args .d .now) (c .before .before .before .before .args .pairs .now) (c .before .before .before .before .args .count)
 facts c =
     let s = c .before .before .before .before in
-    known format1 (s .args .plane .now) (s .args .d .now) (λ i. c .before .before .before .shared-slice-known .given i .fits) (λ i. c .before .before .shared-slice-known2 .given i .fits) (s .pre .0 .0) (s .pre .0 .1) format1-own (s .args .pairs .now) (s .args .count) (s .pre .0 .3)
+    known format1 (s .args .plane .now) (s .args .d .now) (λ i. c .before .before .before .shared-slice-known .given i .fits) (λ i. c .before .before .shared-slice-known2 .given i .fits) (s .pre .0 .0) (s .pre .0 .1) (s .args .pairs .now) (s .args .count) (s .pre .0 .3)
 
 shared-slice-read-buckets1 : tie.Need-shared-slice-read-buckets1
 shared-slice-read-buckets1 c = omega (arith, facts (c .before))

@@ -13,13 +13,15 @@ use Rattle.table.proofs.Numbers.{length-pairsFrom}
 use Rattle.plane.specs.declared.Wrong.the-variants.{Nowhere}
 use Rattle.plane.specs.Record.{format1}
 use Rattle.plane.specs.Plane.{Plane, planeFrom}
+use Rattle.plane.specs.Fits.{Fits}
+use Rattle.plane.proofs.Exact.{read-fits}
 use Rattle.patch.specs.Base.{removeAll}
 use Rattle.patch.specs.Record.{goneLength, newLength}
 use Rattle.patch.specs.Wrong.{patchFrom, goneWrong, newsWrong}
 use Rattle.patch.proofs.Base.{remove-all-ascending, remove-all-length}
 use Rattle.patch_apply.proofs.Pairs.{pairs-loaded}
 use Rattle.patch_apply.proofs.Answers.{edited-at, edited-entries, at-edited, entries-edited, lies-entries}
-use Rattle.patch_apply.proofs.Checked.{base-ascending, base-few, Gone, News, gone-scan, kept-is, gone-wrong, news-start, news-scan, base-is, news-wrong, end-start, end-scan}
+use Rattle.patch_apply.proofs.Checked.{Gone, News, gone-scan, kept-is, gone-wrong, news-start, news-scan, base-is, news-wrong, end-start, end-scan}
 use Rattle.patch_apply.proofs.check_base.Statement.{statement}
 use Rattle.patch_apply.proofs.check_base.Tie as tie
 
@@ -67,23 +69,21 @@ slice-aggregate-remove-gone c = search needs
 slice-aggregate-remove-gone-2 : tie.Need-slice-aggregate-remove-gone-2
 slice-aggregate-remove-gone-2 c = search needs
 
+facts : (c : tie.After-load-base) → Fits format1 (plane-of (start c))
+facts c = read-fits format1 (start c .args .plane .now) (start c .pre .0) (λ i. c .before .before .before .before .shared-slice-known .given i .fits)
+
 -- the base list of the plane stands in `old`
 old-is : (c : tie.After-load-base) → pairsFrom (c .load-base .result) (c .load-base .last .1 .0) ≡ plane-of (start c) .base
-old-is c =
-    let few = base-few format1 (start c .args .plane .now) (start c .pre .0) in
-    pairs-loaded (c .load-base .result) (plane-of (start c) .base) (c .load-base .last .1 .0) _ (c .load-base .ensures .0) (c .load-base .ensures .1) (omega (arith, few))
+old-is c = pairs-loaded (c .load-base .result) (plane-of (start c) .base) (c .load-base .last .1 .0) _ (c .load-base .ensures .0) (c .load-base .ensures .1) (omega (arith, facts c .few))
 
 old-room : (c : tie.After-load-base) → 2 * c .load-base .result ≤ baseNumbers
-old-room c = omega (arith, base-few format1 (start c .args .plane .now) (start c .pre .0), c .load-base .ensures .0)
-
-old-ascending : (c : tie.After-load-base) → Ascending (plane-of (start c) .base)
-old-ascending c = base-ascending format1 (start c .args .plane .now) (start c .pre .0)
+old-room c = omega (arith, facts c .few, c .load-base .ensures .0)
 
 remove-gone-requires : tie.Need-remove-gone-requires
 remove-gone-requires c κs =
     let b = c .before .before .before .before in
     let room = old-room b in
-    (search needs, omega (arith, room, b .load-base .kept .1 .0), room, subst⁻¹ Ascending (old-is b) (old-ascending b))
+    (search needs, omega (arith, room, b .load-base .kept .1 .0), room, subst⁻¹ Ascending (old-is b) (facts b .ascending))
 
 enum-known-removed : tie.Need-enum-known-removed
 enum-known-removed c = search needs
@@ -103,7 +103,7 @@ gone-of c =
       room = start b .pre .2;
       counted = c .run .ensures;
       loaded = old-is b;
-      ascending = old-ascending b;
+      ascending = facts b .ascending;
     }
 
 -- nothing is wrong in it
@@ -139,12 +139,7 @@ kept-list c =
 kept-few : (c : tie.After-known-told2) → c .before .removed2 .given .0 .0 ≤ baseLimit
 kept-few c =
     let l = sym (length-pairsFrom (c .before .removed2 .given .0 .0) _) ∙ ap length (kept-list c) in
-    omega (
-      arith,
-      l,
-      remove-all-length (patchFrom format1 (bytes-of (start7 c)) .gone) (plane-of (start7 c) .base),
-      base-few format1 (start7 c .args .plane .now) (start7 c .pre .0),
-    )
+    omega (arith, l, remove-all-length (patchFrom format1 (bytes-of (start7 c)) .gone) (plane-of (start7 c) .base), facts (loading (run-gone c)) .few)
 
 enter-news-requires : tie.Need-enter-news-requires
 enter-news-requires c κs =
@@ -156,8 +151,8 @@ enter-news-requires c κs =
       omega (arith, few, t .before .before .before .before .remove-gone .kept .1 .1 .1 .1 .1 .0),
       few,
       search needs,
-      subst⁻¹ Ascending (old-is b) (old-ascending b),
-      subst⁻¹ Ascending (kept-list t) (remove-all-ascending (patchFrom format1 (bytes-of (start b)) .gone) (plane-of (start b) .base) (old-ascending b)),
+      subst⁻¹ Ascending (old-is b) (facts b .ascending),
+      subst⁻¹ Ascending (kept-list t) (remove-all-ascending (patchFrom format1 (bytes-of (start b)) .gone) (plane-of (start b) .base) (facts b .ascending)),
     )
 
 enum-known-entered : tie.Need-enum-known-entered

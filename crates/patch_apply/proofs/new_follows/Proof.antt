@@ -1,13 +1,12 @@
 -- `patch_apply::new_follows` meets its contract.
 -- Assumes nothing.
-use mathlib.Core.Path.{sym, ap, _∙_}
+use mathlib.Core.Path.{sym, ap}
 use native.Mathlib.Omega.{arith}
 use borrow.Author.Needs.{needs}
 use borrow.Author.Tests.{le-leb}
 use lib.Dec.{ltb}
 use Rattle.plane.specs.Record.{entryFrom}
 use Rattle.plane.proofs.Scan.{refused, passed}
-use Rattle.patch_apply.proofs.Cursor.{exceeds}
 use Rattle.patch_apply.proofs.new_follows.Statement.{statement}
 use Rattle.patch_apply.proofs.new_follows.Tie as tie
 
@@ -22,8 +21,7 @@ entry-word-requires c κs = search needs
 
 returns-2 : tie.Need-returns-2
 returns-2 c =
-    rw (passed _ (c .before .before .before .whole .ensures) (c .before .before .if1 .left), c .before .if2 .taken)
-    (ap (ltb (c .before .before .before .before .before .args .last)) (c .entry-word .ensures) ∙ exceeds (c .before .before .before .before .before .args .last) (entryFrom (c .before .before .before .before .before .args .p .now) .word))
+    rw (passed _ (c .before .before .before .whole .ensures) (c .before .before .if1 .left), c .before .if2 .taken) (ap (ltb (c .before .before .before .before .before .args .last)) (c .entry-word .ensures))
 
 returns-3 : tie.Need-returns-3
 returns-3 c = rw (passed _ (c .before .before .whole .ensures) (c .before .if1 .left), c .if2 .left) (sym (le-leb 0 (entryFrom (c .before .before .before .before .args .p .now) .word) (omega arith)))

@@ -1,64 +1,34 @@
 -- `patch_apply::remove_gone` meets its contract. The words before the offset `at` are gone; the first m entries of `kept` are left of the first i.
 -- Assumes nothing.
-use mathlib.Core.Path.{_≡_, refl, sym, ap, _∙_, subst⁻¹}
-use mathlib.Core.Bool.{true}
-use mathlib.Core.List.{List, _++_}
-use Prim.Native.Nat.{ℕ, _+_, _-_, _≤_, _<_}
+use mathlib.Core.Path.{_≡_, refl}
+use Prim.Native.Nat.{_<_}
 use native.Mathlib.Omega.{arith}
 use borrow.Author.Needs.{needs}
-use lib.ListN.{length, drop}
-use Rattle.lists.specs.Entries.{Entry}
-use Rattle.lists.proofs.Parts.{rest}
-use Rattle.table.specs.Layout.{pairsFrom}
-use Rattle.table.proofs.Numbers.{length-pairsFrom}
-use Rattle.plane.specs.Record.{wordBytes}
+use lib.ListN.{length}
 use Rattle.plane.specs.Plane.{whole}
-use Rattle.plane.proofs.Scan.{refused, passed}
-use Rattle.patch.specs.Cursor.{isFirst}
-use Rattle.patch.specs.Record.{goneKind, goneFrom, goneLength}
-use Rattle.patch_apply.proofs.Answers.{edited-at, edited-entries}
-use Rattle.patch_apply.proofs.Pairs.{pairs-part, drop-pairs, found-lt}
+use Rattle.plane.proofs.Scan.{passed}
+use Rattle.patch_apply.proofs.Pairs.{found-lt}
 use Rattle.patch_apply.proofs.Remove.{Removing, removing-starts, removing-ends, gone-cut, gone-absent, removing-step}
 use Rattle.patch_apply.proofs.remove_gone.Statement.{statement}
 use Rattle.patch_apply.proofs.remove_gone.Tie as tie
 
 abbrev Inv-loop : tie.InvT-loop
-Inv-loop d first k old n kept₀ at₀ left₀ i₀ m₀ kept at left i m =
-    (i ≤ n) × (m ≤ i) × (length kept ≡ length kept₀) × Removing d first k (pairsFrom n old) at left i (pairsFrom m kept)
+Inv-loop d first k old n kept₀ at₀ left₀ i₀ m₀ kept at left i m = (length kept ≡ length kept₀) × Removing d first k old n at left i m kept
 
 abbrev μ-loop : tie.MeasureT-loop
 μ-loop d first k old n kept₀ at₀ left₀ i₀ m₀ kept at left i m = left
 
--- places in the code: from a word that is found to where that is tested, to the loop, to the start
-abbrev tested : tie.Else2 Inv-loop μ-loop → tie.After-is-at Inv-loop μ-loop
-tested c = c .before
-
+-- places in the code: from where a word is tested to the loop, to the start
 abbrev looping : tie.After-is-at Inv-loop μ-loop → tie.At-loop Inv-loop μ-loop
 looping c = c .before .before .before .before .before .before .before
 
 abbrev start : tie.At-loop Inv-loop μ-loop → tie.Start Inv-loop μ-loop
 start c = c .before .before .before .before
 
--- the lists, the bytes from the word on, the word, and where it is sought
-abbrev olds : tie.At-loop Inv-loop μ-loop → List Entry
-olds c = pairsFrom (start c .args .n) (start c .args .old .now)
-
-abbrev kepts : tie.At-loop Inv-loop μ-loop → List Entry
-kepts c = pairsFrom (c .loop .m) (c .loop .kept)
-
-abbrev bytes : tie.At-loop Inv-loop μ-loop → List ℕ
-bytes c = drop (c .loop .at) (start c .args .d .now)
-
-abbrev word : tie.After-is-at Inv-loop μ-loop → ℕ
-word c = c .before .before .get-u64 .result
-
-abbrev place : tie.After-is-at Inv-loop μ-loop → ℕ
-place c = c .before .seek .result
-
 loop-holds : tie.Need-loop-holds Inv-loop μ-loop
 loop-holds c =
     let a = c .before .before .before .args in
-    (search needs, search needs, refl, removing-starts (a .d .now) (a .first) (a .k) (pairsFrom (a .n) (a .old .now)) (search needs))
+    (refl, removing-starts (a .d .now) (a .first) (a .k) (a .old .now) (a .n) (a .kept .now) (search needs))
 
 sub-p : tie.Need-sub-p Inv-loop μ-loop
 sub-p c = search needs
@@ -79,21 +49,8 @@ returns : tie.Need-returns Inv-loop μ-loop
 returns c =
     let b = c .before .before .before .before in
     let a = start b .args in
-    let off = rw (rest (b .loop .at) (a .d .now)) at (refused (c .before .whole .result) (c .before .whole .ensures) (c .if1 .taken)) in
-    let cut = gone-cut (a .d .now) (a .first) (a .k) (olds b) (b .loop .at) (b .loop .left) (b .loop .i) (kepts b) (c .before .before .before .loop-test .taken) (b .loop .inv .3) off in
-    (edited-at _ _ cut, tt)
-
--- the word is there
-there : (c : tie.After-is-at Inv-loop μ-loop) → whole goneKind wordBytes (bytes (looping c)) ≡ true
-there c =
-    let e = c .before .before .before in
-    let b = looping c in
-    rw (rest (b .loop .at) (start b .args .d .now)) at (passed (e .before .whole .result) (e .before .whole .ensures) (e .if1 .left))
-
-word-is : (c : tie.After-is-at Inv-loop μ-loop) → word c ≡ goneFrom (bytes (looping c))
-word-is c =
-    let b = looping c in
-    c .before .before .get-u64 .ensures ∙ ap goneFrom (rest (b .loop .at) (start b .args .d .now))
+    let l = b .loop in
+    (gone-cut (a .d .now) (a .first) (a .k) (a .old .now) (a .n) (l .at) (l .left) (l .i) (l .m) (l .kept) (l .inv .1) (c .before .before .before .loop-test .taken) (c .before .whole .ensures) (c .if1 .taken), tt)
 
 get-u64-requires : tie.Need-get-u64-requires Inv-loop μ-loop
 get-u64-requires c κs = search needs
@@ -110,22 +67,20 @@ same-length-2 c = search needs
 returns-2 : tie.Need-returns-2 Inv-loop μ-loop
 returns-2 c =
     let f = c .before in
+    let e = f .before .before .before in
     let b = looping f in
     let a = start b .args in
-    let off = refused (f .is-at .result) (f .is-at .ensures) (c .if2 .taken) in
-    let absent = gone-absent (a .d .now) (a .first) (a .k) (olds b) (b .loop .at) (b .loop .left) (b .loop .i) (kepts b) (f .before .before .before .before .before .before .loop-test .taken) (b .loop .inv .3)
-    (start b .pre .3) (word f) (word-is f) (there f) (place f) (f .before .seek .ensures) off in
-    (edited-at _ _ absent, tt)
+    let l = b .loop in (
+      gone-absent (a .d .now) (a .first) (a .k) (a .old .now) (a .n) (l .at) (l .left) (l .i) (l .m) (l .kept) (l .inv .1) (e .before .before .before .loop-test .taken) (e .before .whole .ensures) (e .if1 .left) (start b .pre .3)
+          (f .before .before .get-u64 .ensures) (f .before .seek .ensures) (f .is-at .ensures) (c .if2 .taken),
+      tt,
+    )
 
 -- it is found
-found : (c : tie.Else2 Inv-loop μ-loop) → isFirst (word (tested c)) (drop (place (tested c)) (olds (looping (tested c)))) ≡ true
-found c = passed (c .before .is-at .result) (c .before .is-at .ensures) (c .if2 .left)
-
-before-end : (c : tie.Else2 Inv-loop μ-loop) → place (tested c) < start (looping (tested c)) .args .n
+before-end : (c : tie.Else2 Inv-loop μ-loop) → c .before .before .seek .result < start (looping (c .before)) .args .n
 before-end c =
-    let f = tested c in
-    let a = start (looping f) .args in
-    found-lt (a .n) (word f) (place f) (a .old .now) (found c)
+    let a = start (looping (c .before)) .args in
+    found-lt (a .n) (c .before .before .before .get-u64 .result) (c .before .before .seek .result) (a .old .now) (passed _ (c .before .is-at .ensures) (c .if2 .left))
 
 put-pairs-requires : tie.Need-put-pairs-requires Inv-loop μ-loop
 put-pairs-requires c κs = let l = before-end (c .before) in (omega arith, omega arith, omega arith)
@@ -150,16 +105,16 @@ loop-less c = search needs
 
 loop-again : tie.Need-loop-again Inv-loop μ-loop
 loop-again c =
-    let e = c .before .before .before .before in
-    let f = tested e in
+    let t = c .before .before .before .before in
+    let f = t .before in
+    let e = f .before .before .before in
     let b = looping f in
     let a = start b .args in
-    let j = place f in
-    let l = before-end e in
-    let more = c .before .before .put-pairs .ensures ∙ ap (λ (x : List Entry). kepts b ++ x) (pairs-part (b .loop .i) (j - b .loop .i) (a .n) (a .old .now) (omega arith)) in
-    let step = removing-step (a .d .now) (a .first) (a .k) (olds b) (b .loop .at) (b .loop .left) (b .loop .i) (kepts b) (f .before .before .before .before .before .before .loop-test .taken) (b .loop .inv .3)
-    (start b .pre .3) (word f) (word-is f) (there f) j (f .before .seek .ensures) (found e) in
-    (omega arith, omega arith, search needs, subst⁻¹ (Removing (a .d .now) (a .first) (a .k) (olds b) (b .loop .at + goneLength) (b .loop .left - 1) (j + 1)) more step)
+    let l = b .loop in (
+      search needs,
+      removing-step (a .d .now) (a .first) (a .k) (a .old .now) (a .n) (l .at) (l .left) (l .i) (l .m) (l .kept) (l .inv .1) (e .before .before .before .loop-test .taken) (e .before .whole .ensures) (e .if1 .left) (start b .pre .3)
+          (f .before .before .get-u64 .ensures) (f .before .seek .ensures) (f .is-at .ensures) (t .if2 .left) _ (c .before .before .put-pairs .ensures),
+    )
 
 put-pairs-requires-2 : tie.Need-put-pairs-requires-2 Inv-loop μ-loop
 put-pairs-requires-2 c κs = search needs
@@ -177,10 +132,8 @@ returns-3 : tie.Need-returns-3 Inv-loop μ-loop
 returns-3 c =
     let b = c .before .before .before .before .before in
     let a = start b .args in
-    let z : b .loop .left ≡ 0 = omega arith in
-    let ends = removing-ends (a .d .now) (a .first) (a .k) (olds b) (b .loop .at) (b .loop .left) (b .loop .i) (kepts b) z (b .loop .inv .3) in
-    let lies = c .before .before .put-pairs2 .ensures ∙ ap (λ (x : List Entry). kepts b ++ x) (sym (drop-pairs (b .loop .i) (a .n) (a .old .now))) ∙ sym (ends .1) in
-    (edited-entries _ _ (ends .0) (sym (length-pairsFrom (b .loop .m + (a .n - b .loop .i)) _) ∙ ap length lies), lies)
+    let l = b .loop in
+    removing-ends (a .d .now) (a .first) (a .k) (a .old .now) (a .n) (l .at) (l .left) (l .i) (l .m) (l .kept) (l .inv .1) (omega arith) _ (c .before .before .put-pairs2 .ensures)
 
 pub remove-gone-spec : {M : Type 1} → statement M
 remove-gone-spec =

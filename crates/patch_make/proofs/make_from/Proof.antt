@@ -1,11 +1,7 @@
 -- `patch_make::make_from` meets its contract.
 -- Assumes nothing.
-use mathlib.Core.Path.{sym, _∙_}
+use mathlib.Core.Path.{refl, sym, _∙_}
 use borrow.Author.Needs.{needs}
-use Rattle.plane.specs.Record.{format1}
-use Rattle.plane.specs.Plane.{wrongAt}
-use Rattle.patch_make.specs.Steps.{madeRight}
-use Rattle.patch_make.proofs.Whole.{wrong-here, wrong-none}
 use Rattle.patch_make.proofs.make_from.Statement.{statement}
 use Rattle.patch_make.proofs.make_from.Tie as tie
 
@@ -24,21 +20,15 @@ make-right-requires c κs =
     (w .before .before .before .before .pre, sym (w .wrong-at .ensures) ∙ c .before .enum-told .given .1)
 
 returns : tie.Need-returns
-returns c =
-    let w = c .before .before .before in
-    let a = w .before .before .before .before .args in
-    wrong-here (a .out .now) (wrongAt format1 (a .new .now)) (madeRight format1 (a .old .now) (a .new .now) (a .out .now)) (c .before .wrong .given .0 .0) (sym (w .wrong-at .ensures) ∙ c .before .wrong .given .1)
+returns c = rw (sym (c .before .before .before .wrong-at .ensures) ∙ c .before .wrong .given .1) (refl, refl)
 
 same-length : tie.Need-same-length
 same-length c = search needs
 
 returns-2 : tie.Need-returns-2
 returns-2 c =
-    let m = c .before .before .make-right in
     let t = c .before .before .before .before in
-    let w = t .before .before in
-    let a = w .before .before .before .before .args in
-    wrong-none (a .out .now) (wrongAt format1 (a .new .now)) (madeRight format1 (a .old .now) (a .new .now) (a .out .now)) (m .result) (m .last .1 .1 .0) (sym (w .wrong-at .ensures) ∙ t .enum-told .given .1) (m .ensures .0) (m .ensures .1)
+    rw (sym (t .before .before .wrong-at .ensures) ∙ t .enum-told .given .1) (c .before .before .make-right .ensures)
 
 pub make-from-spec : {M : Type 1} → statement M
 make-from-spec = tie.close (tie.spec wrong-at-requires enum-known-wrong enum-told make-right-requires returns same-length returns-2)

@@ -1,19 +1,20 @@
 -- `patch_make::make_right` meets its contract.
 -- Assumes nothing.
-use mathlib.Core.Path.{_≡_, sym, ap, _∙_}
+use mathlib.Core.Path.{_≡_, refl, sym, ap, _∙_}
 use mathlib.Core.Bool.{true}
 use Prim.Native.Nat.{_≤_}
 use native.Mathlib.Omega.{arith}
 use borrow.Author.Needs.{needs}
 use lib.ListN.{length}
 use lib.Seq.{length-take-le}
+use borrow.Author.Tests.{eq-eqb, ne-eqb}
 use Rattle.codec.proofs.Part.{length-written}
 use Rattle.plane.specs.Record.{format1}
 use Rattle.plane.proofs.Scan.{Known, known}
 use Rattle.patch.specs.Patch.{patchBytes, patchOf}
 use Rattle.patch.specs.Calls.{alike}
 use Rattle.patch.proofs.Longest.{made-most}
-use Rattle.patch_make.proofs.Whole.{unlike-1, unlike-2, like, right-unlike, right-front}
+use Rattle.patch_make.proofs.Whole.{made-front}
 use Rattle.patch_make.proofs.make_right.Statement.{statement}
 use Rattle.patch_make.proofs.make_right.Tie as tie
 
@@ -30,9 +31,7 @@ shared-slice-read-if1-2 : tie.Need-shared-slice-read-if1-2
 shared-slice-read-if1-2 c = omega (arith, new-known (c .before .before .before .before))
 
 returns : tie.Need-returns
-returns c =
-    let a = c .before .before .before .before .before .before .args in
-    right-unlike format1 (a .old .now) (a .new .now) (a .out .now) (unlike-1 (a .old .now) (a .new .now) (c .if1 .taken))
+returns c = rw (ne-eqb _ _ (c .if1 .taken)) (refl, refl)
 
 shared-slice-read-if2 : tie.Need-shared-slice-read-if2
 shared-slice-read-if2 c = omega (arith, old-known (c .before .before .before .before .before .before))
@@ -41,29 +40,26 @@ shared-slice-read-if2-2 : tie.Need-shared-slice-read-if2-2
 shared-slice-read-if2-2 c = omega (arith, new-known (c .before .before .before .before .before .before .before))
 
 returns-2 : tie.Need-returns-2
-returns-2 c =
-    let a = c .before .before .before .before .before .before .before .before .before .args in
-    right-unlike format1 (a .old .now) (a .new .now) (a .out .now) (unlike-2 (a .old .now) (a .new .now) (c .if2 .taken))
+returns-2 c = rw (eq-eqb _ _ (c .before .before .before .if1 .left), ne-eqb _ _ (c .if2 .taken)) (refl, refl)
 
 -- the planes are alike, and the patch has room
-planes : (c : tie.Else2) → alike (c .before .before .before .before .before .before .before .before .before .args .old .now) (c .before .before .before .before .before .before .before .before .before .args .new .now) ≡ true
-planes c =
-    let a = c .before .before .before .before .before .before .before .before .before .args in
-    like (a .old .now) (a .new .now) (c .before .before .before .if1 .left) (c .if2 .left)
+abbrev start : tie.Else2 → tie.Start
+start c = c .before .before .before .before .before .before .before .before .before
 
-room : (c : tie.Else2) → length (patchBytes format1 (patchOf format1 (c .before .before .before .before .before .before .before .before .before .args .old .now) (c .before .before .before .before .before .before .before .before .before .args .new .now))) ≤ 6598
+planes : (c : tie.Else2) → alike (start c .args .old .now) (start c .args .new .now) ≡ true
+planes c = rw (eq-eqb _ _ (c .before .before .before .if1 .left), eq-eqb _ _ (c .if2 .left))
+
+room : (c : tie.Else2) → length (patchBytes format1 (patchOf format1 (start c .args .old .now) (start c .args .new .now))) ≤ 6598
 room c =
     let k = c .before .before .before .before .before .before .before in
-    let b = k .before .before in
+    let b = start c in
     made-most (b .args .old .now) (b .args .new .now) (λ i. k .before .shared-slice-known .given i .fits) (λ i. k .shared-slice-known2 .given i .fits) (b .pre .0) (b .pre .1)
 
 slice-aggregate-build : tie.Need-slice-aggregate-build
 slice-aggregate-build c = search needs
 
 build-requires : tie.Need-build-requires
-build-requires c κs =
-    let b = c .before .before .before .before .before .before .before .before .before .before in
-    ((b .pre .0, b .pre .1, planes (c .before)), omega arith)
+build-requires c κs = let b = start (c .before) in ((b .pre .0, b .pre .1, planes (c .before)), omega arith)
 
 within : (c : tie.After-build) → c .build .result ≤ length (c .build .last .1 .1 .0)
 within c = omega (arith, ap length (c .build .ensures .1) ∙ length-written 0 _ _, c .build .ensures .0, room (c .before .before))
@@ -82,12 +78,10 @@ same-length c = search needs
 
 returns-3 : tie.Need-returns-3
 returns-3 c =
-    let f = c .before .before .put-front in
     let d = c .before .before .before .before .before .before in
-    let e = d .before .before in
-    let a = e .before .before .before .before .before .before .before .before .before .args in
-    right-front format1 (a .old .now) (a .new .now) (a .out .now) (d .build .result) (d .build .last .1 .1 .0) _ (f .result) (f .last .1 .0) (planes e) (room e)
-    (d .build .ensures .0) (d .build .ensures .1) (f .ensures .0) (f .ensures .1)
+    let a = start (d .before .before) .args in
+    let front = made-front (patchBytes format1 (patchOf format1 (a .old .now) (a .new .now))) (d .build .last .1 .1 .0) _ (d .build .result) (room (d .before .before)) (d .build .ensures) in
+    rw (planes (d .before .before)) (rw front at (c .before .before .put-front .ensures))
 
 pub make-right-spec : {M : Type 1} → statement M
 make-right-spec =

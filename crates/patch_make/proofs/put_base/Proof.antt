@@ -6,10 +6,8 @@ use borrow.Author.Needs.{needs}
 use lib.ListN.{length}
 use Rattle.codec.proofs.Part.{length-written}
 use Rattle.table.specs.Layout.{pairsFrom}
-use Rattle.table.proofs.Numbers.{length-pairsFrom}
 use Rattle.plane.specs.Record.{format1}
-use Rattle.plane.specs.Plane.{planeFrom}
-use Rattle.patch_make.proofs.Whole.{gone-most, Loaded, loaded, base-put}
+use Rattle.patch_make.proofs.Whole.{gone-most, Loaded, loaded, put-both}
 use Rattle.patch_make.proofs.put_base.Statement.{statement}
 use Rattle.patch_make.proofs.put_base.Tie as tie
 
@@ -34,13 +32,13 @@ slice-aggregate-put-gone-2 c = search needs
 before : (c : tie.After-load-base) → Loaded format1 (c .before .before .before .before .before .args .old .now) (c .load-base .result) (c .load-base .last .1 .0)
 before c =
     let b = c .before .before .before .before .before in
-    loaded format1 (b .args .old .now) (c .load-base .result) (c .load-base .last .1 .0) _ (b .pre .0) (λ i. c .before .before .before .shared-slice-known .given i .fits) (c .load-base .ensures .0) (c .load-base .ensures .1)
+    loaded format1 (b .args .old .now) (c .load-base .result) (c .load-base .last .1 .0) _ (b .pre .0) (λ i. c .before .before .before .shared-slice-known .given i .fits) (c .load-base .ensures)
     (omega arith)
 
 after : (c : tie.After-load-base2) → Loaded format1 (c .before .before .before .before .before .before .before .before .args .new .now) (c .load-base2 .result) (c .load-base2 .last .1 .0)
 after c =
     let b = c .before .before .before .before .before .before .before .before in
-    loaded format1 (b .args .new .now) (c .load-base2 .result) (c .load-base2 .last .1 .0) _ (b .pre .1) (λ i. c .before .before .before .before .before .shared-slice-known2 .given i .fits) (c .load-base2 .ensures .0) (c .load-base2 .ensures .1)
+    loaded format1 (b .args .new .now) (c .load-base2 .result) (c .load-base2 .last .1 .0) _ (b .pre .1) (λ i. c .before .before .before .before .before .shared-slice-known2 .given i .fits) (c .load-base2 .ensures)
     (omega arith)
 
 put-gone-requires : tie.Need-put-gone-requires
@@ -57,15 +55,15 @@ slice-aggregate-put-news-2 c = search needs
 
 put-news-requires : tie.Need-put-news-requires
 put-news-requires c κs =
-    let b = before (c .before .before .before .before .before .before .before .before .before .before .before .before .before) in
-    let a = after (c .before .before .before .before .before .before .before .before .before .before) in
-    let g = c .before .before .before .before .before .put-gone in
-    let k = c .before .before .before .before .before .before .before .before .before .before .before .before .before in
+    let h = c .before .before .before .before .before .before .before .before .before .before in
+    let k = h .before .before .before in
     let e = k .before .before .before .before .before in
+    let b = before k in
+    let a = after h in
+    let g = c .before .before .before .before .before .put-gone in
     let l = ap length (g .ensures .1) ∙ length-written (e .args .first) _ (e .args .out .now) in
-    let L = pairsFrom (k .load-base .result) (k .load-base .last .1 .0) in
-    let m = gone-most L (pairsFrom (c .before .before .before .before .before .before .before .before .before .before .load-base2 .result) (c .before .before .before .before .before .before .before .before .before .before .load-base2 .last .1 .0)) in
-    ((b .room, a .room, b .ascending, a .ascending, omega (arith, e .pre .2, l, g .ensures .0, m, length-pairsFrom (k .load-base .result) (k .load-base .last .1 .0))), a .entries)
+    let m = gone-most (k .load-base .result) (k .load-base .last .1 .0) (pairsFrom (h .load-base2 .result) (h .load-base2 .last .1 .0)) in
+    ((b .room, a .room, b .ascending, a .ascending, omega (arith, e .pre .2, l, g .ensures .0, m)), a .entries)
 
 same-length : tie.Need-same-length
 same-length c = search needs
@@ -77,9 +75,7 @@ returns c =
     let a = c .before .before .before .before .before .before .before .before .before .before .before .before .before in
     let b = a .before .before .before in
     let e = b .before .before .before .before .before .args in
-    let f = rw (before b .is, after a .is) at (g .ensures) in
-    let h = rw (before b .is, after a .is) at (n .ensures) in
-    base-put (planeFrom format1 (e .old .now) .base) (planeFrom format1 (e .new .now) .base) (e .first) (g .result) (n .result) (e .out .now) (g .last .0) (n .last .0) (f .0) (f .1) (h .0) (h .1)
+    put-both (e .first) (g .result) (n .result) _ _ (e .out .now) (g .last .0) (n .last .0) (rw (before b .is, after a .is) at (g .ensures)) (rw (before b .is, after a .is) at (n .ensures))
 
 pub put-base-spec : {M : Type 1} → statement M
 put-base-spec =

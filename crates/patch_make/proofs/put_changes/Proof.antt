@@ -42,9 +42,7 @@ add-buckets : tie.Need-add-buckets Inv-loop μ-loop
 add-buckets c = search needs
 
 loop-holds : tie.Need-loop-holds Inv-loop μ-loop
-loop-holds c =
-    let a = c .before .before .before .before .before .args in
-    (omega arith, left-all (changesLeft format1 (bucketsOf (planeFrom format1 (a .old .now))) (bucketsOf (planeFrom format1 (a .new .now))) 0) (a .first) (a .out .now), omega arith)
+loop-holds c = (omega arith, left-all, omega arith)
 
 mul-from : tie.Need-mul-from Inv-loop μ-loop
 mul-from c = search needs
@@ -84,8 +82,7 @@ put-change-requires c κs =
     let n : c .before .before .before .before .loop .i + 1 ≤ bucketCount (c .before .before .before .before .before .before .before .before .before .before .args .old .now) = search needs in
     let l = c .before .before .before .before in
     let k = l .before .before .before in
-    let b = k .before .before .before in
-    (lent-length format1 (b .args .old .now) (b .args .new .now) (planes k) (l .loop .i) n, omega (arith, n, b .pre .3, left-length _ _ _ _ _ _ (l .loop .inv .1)))
+    (lent-length (planes k) (l .loop .i) n, omega (arith, n, k .before .before .before .pre .3, left-length (l .loop .inv .1)))
 
 add-i : tie.Need-add-i Inv-loop μ-loop
 add-i c = search needs
@@ -98,30 +95,21 @@ loop-again c =
     let n : c .before .before .before .before .before .before .before .loop .i + 1 ≤ bucketCount (c .before .before .before .before .before .before .before .before .before .before .before .before .before .args .old .now) = search needs in
     let p = c .before .before .put-change in
     let l = c .before .before .before .before .before .before .before in
-    let k = l .before .before .before in
-    let a = k .before .before .before .args in
-    let less = change-less format1 (l .loop .at) (l .loop .i) (p .result) _ _ (lent-length format1 (a .old .now) (a .new .now) (planes k) (l .loop .i) n) (p .ensures .0) in
-    let bs = bucketsOf (planeFrom format1 (a .old .now)) in
-    let cs = bucketsOf (planeFrom format1 (a .new .now)) in (
+    let k = l .before .before .before in (
       n,
-      left-less (changesLeft format1 bs cs 0) (a .first) (a .out .now) (changesLeft format1 bs cs (l .loop .i)) _ (changesLeft format1 bs cs (l .loop .i + 1)) (l .loop .at) (p .result) (l .loop .out) (p .last .0) (l .loop .inv .1)
-          (planes-next format1 (a .old .now) (a .new .now) (planes k) (l .loop .i) n) (p .ensures .0) (p .ensures .1),
-      omega (arith, less),
+      left-less (l .loop .inv .1) _ (planes-next (planes k) (l .loop .i) n) (p .ensures .0) (p .ensures .1),
+      omega (arith, change-less format1 (l .loop .at) (l .loop .i) (p .result) _ _ (lent-length (planes k) (l .loop .i) n) (p .ensures .0)),
     )
 
 same-length : tie.Need-same-length Inv-loop μ-loop
-same-length c = left-length _ _ _ _ _ _ (c .before .loop .inv .1)
+same-length c = left-length (c .before .loop .inv .1)
 
 returns : tie.Need-returns Inv-loop μ-loop
 returns c =
     let l = c .before in
     let k = l .before .before .before in
-    let a = k .before .before .before .args in
-    let z : l .loop .i ≡ bucketCount (a .old .now) = omega arith in
-    let bs = bucketsOf (planeFrom format1 (a .old .now)) in
-    let cs = bucketsOf (planeFrom format1 (a .new .now)) in
-    left-none (changesLeft format1 bs cs 0) (a .first) (a .out .now) (changesLeft format1 bs cs (l .loop .i)) (l .loop .at) (l .loop .out) (l .loop .inv .1)
-    (rw z (planes-none format1 (a .old .now) (a .new .now) (planes k)))
+    let z : l .loop .i ≡ bucketCount (k .before .before .before .args .old .now) = omega arith in
+    left-none (l .loop .inv .1) (rw z (planes-none (planes k)))
 
 pub put-changes-spec : {M : Type 1} → statement M
 put-changes-spec =

@@ -24,13 +24,8 @@ abbrev μ-loop : tie.MeasureT-loop
 
 loop-holds : tie.Need-loop-holds Inv-loop μ-loop
 loop-holds c =
-    let a = c .before .before .before .args in (
-      omega arith,
-      omega arith,
-      omega arith,
-      left-all (goneLeft (a .n) (a .old .now) (pairsFrom (a .m) (a .new .now)) 0) (a .first) (a .out .now),
-      passed-none (pairsFrom (a .m) (a .new .now)) (pairsFrom (a .n) (a .old .now)),
-    )
+    let a = c .before .before .before .args in
+    (omega arith, omega arith, omega arith, left-all, passed-none (pairsFrom (a .m) (a .new .now)) (pairsFrom (a .n) (a .old .now)))
 
 mul-w : tie.Need-mul-w Inv-loop μ-loop
 mul-w c = search needs
@@ -51,7 +46,7 @@ put-word-requires : tie.Need-put-word-requires Inv-loop μ-loop
 put-word-requires c κs =
     let l = c .before .before .before .before .before in
     let a = l .before .before .before .before in
-    omega (arith, a .pre .4, left-length _ _ _ _ _ _ (l .loop .inv .3))
+    omega (arith, a .pre .4, left-length (l .loop .inv .3))
 
 add-i : tie.Need-add-i Inv-loop μ-loop
 add-i c = search needs
@@ -73,21 +68,20 @@ loop-again c =
       h,
       omega (arith, s .ensures, sought-length w (l .loop .j) R (omega (arith, length-pairsFrom (a .m) (a .new .now))), length-pairsFrom (a .m) (a .new .now)),
       omega (arith, p .ensures .0, unless-less (k .result) (goneRecord w), gone-size w),
-      left-less (goneLeft (a .n) (a .old .now) R 0) (a .first) (a .out .now) (goneLeft (a .n) (a .old .now) R (l .loop .i)) (unless (k .result) (goneRecord w)) (goneLeft (a .n) (a .old .now) R (l .loop .i + 1)) (l .loop .at) (p .result) (l .loop .out) (p .last .0) (l .loop .inv .3)
+      left-less (l .loop .inv .3) (unless (k .result) (goneRecord w))
           (gone-next (a .n) (a .old .now) R (b .pre .2) (b .pre .3) (l .loop .i) (l .loop .j) (s .result) h (l .loop .inv .4) (s .ensures) (k .result) (k .ensures)) (p .ensures .0) (p .ensures .1),
       past-next (a .n) (a .old .now) R (b .pre .2) (b .pre .3) (l .loop .i) (l .loop .j) (s .result) h (l .loop .inv .4) (s .ensures),
     )
 
 same-length : tie.Need-same-length Inv-loop μ-loop
-same-length c = left-length _ _ _ _ _ _ (c .before .loop .inv .3)
+same-length c = left-length (c .before .loop .inv .3)
 
 returns : tie.Need-returns Inv-loop μ-loop
 returns c =
     let a = c .before .before .before .before .before .args in
     let R = pairsFrom (a .m) (a .new .now) in
     let z : c .before .loop .i ≡ a .n = omega arith in
-    left-none (goneLeft (a .n) (a .old .now) R 0) (a .first) (a .out .now) (goneLeft (a .n) (a .old .now) R (c .before .loop .i)) (c .before .loop .at) (c .before .loop .out) (c .before .loop .inv .3)
-    (rw z (gone-none (a .n) (a .old .now) R))
+    left-none (c .before .loop .inv .3) (rw z (gone-none (a .n) (a .old .now) R))
 
 pub put-gone-spec : {M : Type 1} → statement M
 put-gone-spec =

@@ -1,19 +1,18 @@
 -- `patch_make::put_new` meets its contract.
 -- Assumes nothing.
-use mathlib.Core.Path.{ap, _∙_}
+use mathlib.Core.Path.{refl, sym}
 use native.Mathlib.Omega.{arith}
 use borrow.Author.Needs.{needs}
-use lib.ListN.{length, length-set}
-use Rattle.codec.proofs.Part.{length-written}
-use Rattle.patch.specs.Record.{newLength, newRecord}
-use Rattle.patch_make.proofs.Put.{put-none, put-one, new-size, new-put}
+use lib.ListN.{length-set}
+use Rattle.codec.proofs.Part.{length-written, written-none}
+use Rattle.plane_write.proofs.Put.{entry-put}
+use Rattle.patch.specs.Record.{newKind}
+use Rattle.patch_make.proofs.Put.{new-size}
 use Rattle.patch_make.proofs.put_new.Statement.{statement}
 use Rattle.patch_make.proofs.put_new.Tie as tie
 
 returns : tie.Need-returns
-returns c =
-    let a = c .before .before .args in
-    put-none (a .same) (newRecord (record { word = a .w; plan = a .plan })) (a .at) (a .out .now) (c .if1 .taken)
+returns c = rw (c .if1 .taken) (omega arith, sym (written-none _ _))
 
 slice-write-out : tie.Need-slice-write-out
 slice-write-out c = search needs
@@ -37,18 +36,14 @@ add-result : tie.Need-add-result
 add-result c = search needs
 
 same-length : tie.Need-same-length
-same-length c =
-    let p = c .before .before .put-u64 in
-    let a = c .before .before .before .before .before .before .args in
-    ap length (new-put (a .at) (a .w) (a .plan) (a .out .now) (p .last .0) (p .ensures)) ∙ length-written (a .at) (newRecord (record { word = a .w; plan = a .plan })) (a .out .now)
+same-length c = rw (length-set, c .before .before .put-u64 .ensures) (simp (length-written, length-set) refl)
 
 returns-2 : tie.Need-returns-2
 returns-2 c =
     let p = c .before .before .put-u64 in
     let b = c .before .before .before .before in
     let a = b .before .before .args in
-    put-one (a .same) (newRecord (record { word = a .w; plan = a .plan })) (a .at) (a .out .now) newLength _ (b .if1 .left) (new-size (record { word = a .w; plan = a .plan }))
-    (new-put (a .at) (a .w) (a .plan) (a .out .now) (p .last .0) (p .ensures))
+    rw (b .if1 .left) (omega (arith, new-size (record { word = a .w; plan = a .plan })), entry-put newKind (a .at) (a .w) (a .plan) (a .out .now) (p .last .0) (p .ensures))
 
 pub put-new-spec : {M : Type 1} → statement M
 put-new-spec =

@@ -25,13 +25,8 @@ abbrev μ-loop : tie.MeasureT-loop
 
 loop-holds : tie.Need-loop-holds Inv-loop μ-loop
 loop-holds c =
-    let a = c .before .before .before .args in (
-      omega arith,
-      omega arith,
-      omega arith,
-      left-all (newsLeft (a .m) (a .new .now) (pairsFrom (a .n) (a .old .now)) 0) (a .first) (a .out .now),
-      passed-none (pairsFrom (a .n) (a .old .now)) (pairsFrom (a .m) (a .new .now)),
-    )
+    let a = c .before .before .before .args in
+    (omega arith, omega arith, omega arith, left-all, passed-none (pairsFrom (a .n) (a .old .now)) (pairsFrom (a .m) (a .new .now)))
 
 mul-w : tie.Need-mul-w Inv-loop μ-loop
 mul-w c = search needs
@@ -65,7 +60,7 @@ put-new-requires c κs =
     let h : c .before .before .before .before .before .before .loop .i < c .before .before .before .before .before .before .before .before .before .before .args .m = search needs in
     let l = c .before .before .before .before .before .before in
     let b = l .before .before .before .before in
-    (plan-low (b .args .m) (b .args .new .now) (b .pre .1) (l .loop .i) h, omega (arith, h, b .pre .0 .4, left-length _ _ _ _ _ _ (l .loop .inv .3)))
+    (plan-low (b .args .m) (b .args .new .now) (b .pre .1) (l .loop .i) h, omega (arith, h, b .pre .0 .4, left-length (l .loop .inv .3)))
 
 add-i : tie.Need-add-i Inv-loop μ-loop
 add-i c = search needs
@@ -88,21 +83,20 @@ loop-again c =
       h,
       omega (arith, s .ensures, sought-length w (l .loop .j) R (omega (arith, length-pairsFrom (a .n) (a .old .now))), length-pairsFrom (a .n) (a .old .now)),
       omega (arith, p .ensures .0, unless-less (k .result) (newRecord e), new-size e),
-      left-less (newsLeft (a .m) (a .new .now) R 0) (a .first) (a .out .now) (newsLeft (a .m) (a .new .now) R (l .loop .i)) (unless (k .result) (newRecord e)) (newsLeft (a .m) (a .new .now) R (l .loop .i + 1)) (l .loop .at) (p .result) (l .loop .out) (p .last .0) (l .loop .inv .3)
+      left-less (l .loop .inv .3) (unless (k .result) (newRecord e))
           (news-next (a .m) (a .new .now) R (b .pre .0 .3) (b .pre .0 .2) (l .loop .i) (l .loop .j) (s .result) h (l .loop .inv .4) (s .ensures) (k .result) (k .ensures)) (p .ensures .0) (p .ensures .1),
       past-next (a .m) (a .new .now) R (b .pre .0 .3) (b .pre .0 .2) (l .loop .i) (l .loop .j) (s .result) h (l .loop .inv .4) (s .ensures),
     )
 
 same-length : tie.Need-same-length Inv-loop μ-loop
-same-length c = left-length _ _ _ _ _ _ (c .before .loop .inv .3)
+same-length c = left-length (c .before .loop .inv .3)
 
 returns : tie.Need-returns Inv-loop μ-loop
 returns c =
     let a = c .before .before .before .before .before .args in
     let R = pairsFrom (a .n) (a .old .now) in
     let z : c .before .loop .i ≡ a .m = omega arith in
-    left-none (newsLeft (a .m) (a .new .now) R 0) (a .first) (a .out .now) (newsLeft (a .m) (a .new .now) R (c .before .loop .i)) (c .before .loop .at) (c .before .loop .out) (c .before .loop .inv .3)
-    (rw z (news-none (a .m) (a .new .now) R))
+    left-none (c .before .loop .inv .3) (rw z (news-none (a .m) (a .new .now) R))
 
 pub put-news-spec : {M : Type 1} → statement M
 put-news-spec =

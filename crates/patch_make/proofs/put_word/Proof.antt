@@ -1,20 +1,16 @@
 -- `patch_make::put_word` meets its contract.
 -- Assumes nothing.
-use mathlib.Core.Path.{refl, _∙_}
+use mathlib.Core.Path.{refl, sym, _∙_}
+use native.Mathlib.Omega.{arith}
 use borrow.Author.Needs.{needs}
 use lib.ListN.{length-set}
-use Rattle.codec.specs.Bytes.{toBytes}
-use Rattle.codec.proofs.Part.{length-written, written-cons}
-use Rattle.plane.specs.Record.{wordBytes}
-use Rattle.patch.specs.Record.{goneKind, goneLength, goneRecord}
-use Rattle.patch_make.proofs.Put.{put-none, put-one, gone-size}
+use Rattle.codec.proofs.Part.{length-written, written-none, written-cons}
+use Rattle.patch_make.proofs.Put.{gone-size}
 use Rattle.patch_make.proofs.put_word.Statement.{statement}
 use Rattle.patch_make.proofs.put_word.Tie as tie
 
 returns : tie.Need-returns
-returns c =
-    let a = c .before .before .args in
-    put-none (a .kept) (goneRecord (a .w)) (a .at) (a .out .now) (c .if1 .taken)
+returns c = rw (c .if1 .taken) (omega arith, sym (written-none _ _))
 
 slice-write-out : tie.Need-slice-write-out
 slice-write-out c = search needs
@@ -33,11 +29,8 @@ same-length c = rw (c .before .before .put-u64 .ensures) (simp (length-written, 
 
 returns-2 : tie.Need-returns-2
 returns-2 c =
-    let p = c .before .before .put-u64 in
     let b = c .before .before .before .before in
-    let a = b .before .before .args in
-    put-one (a .kept) (goneRecord (a .w)) (a .at) (a .out .now) goneLength (p .last .0) (b .if1 .left) (gone-size (a .w))
-    (p .ensures ∙ written-cons (a .at) goneKind (toBytes wordBytes (a .w)) (a .out .now))
+    rw (b .if1 .left) (omega (arith, gone-size (b .before .before .args .w)), c .before .before .put-u64 .ensures ∙ written-cons _ _ _ _)
 
 pub put-word-spec : {M : Type 1} → statement M
 put-word-spec = tie.close (tie.spec returns slice-write-out add-put-u64 put-u64-requires add-result same-length returns-2)

@@ -1,11 +1,11 @@
 -- `plane_write::put_entry` meets its contract.
 -- Assumes nothing.
-use mathlib.Core.Path.{ap, _∙_}
+use mathlib.Core.Path.{refl}
 use native.Mathlib.Omega.{arith}
 use borrow.Author.Needs.{needs}
-use lib.ListN.{length, length-set}
+use lib.ListN.{length-set}
 use Rattle.codec.proofs.Part.{length-written}
-use Rattle.plane.specs.Record.{entryRecord}
+use Rattle.plane.specs.Record.{entryKind}
 use Rattle.plane_write.proofs.Put.{entry-put}
 use Rattle.plane_write.proofs.put_entry.Statement.{statement}
 use Rattle.plane_write.proofs.put_entry.Tie as tie
@@ -29,15 +29,12 @@ slice-write-out-2 : tie.Need-slice-write-out-2
 slice-write-out-2 c = rw (c .before .before .put-u64 .ensures) (simp (length-written, length-set) (omega arith))
 
 same-length : tie.Need-same-length
-same-length c =
-    let a = c .before .before .before .before .before .args in
-    ap length (entry-put (a .at) (a .word) (a .plan) (a .out .now) (c .before .before .put-u64 .last .0) (c .before .before .put-u64 .ensures))
-    ∙ length-written (a .at) (entryRecord (record { word = a .word; plan = a .plan })) (a .out .now)
+same-length c = rw (length-set, c .before .before .put-u64 .ensures) (simp (length-written, length-set) refl)
 
 returns : tie.Need-returns
 returns c =
     let a = c .before .before .before .before .before .args in
-    entry-put (a .at) (a .word) (a .plan) (a .out .now) (c .before .before .put-u64 .last .0) (c .before .before .put-u64 .ensures)
+    entry-put entryKind (a .at) (a .word) (a .plan) (a .out .now) (c .before .before .put-u64 .last .0) (c .before .before .put-u64 .ensures)
 
 pub put-entry-spec : {M : Type 1} → statement M
 put-entry-spec =

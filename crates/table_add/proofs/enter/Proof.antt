@@ -11,7 +11,8 @@ use Rattle.table_calls.specs.Ready.{Ready}
 use Rattle.table_arrive.proofs.Settled.{straight-as, straight-left}
 use Rattle.table.specs.Calls.{rows, solutions}
 use Rattle.table_add.specs.Arrivals.{entering}
-use Rattle.table_add.proofs.Tables.{first-room}
+use Rattle.table_layout.proofs.Shape.{first-in}
+use Rattle.table_arrive.proofs.Tables.{flat}
 use Rattle.table_add.proofs.Added.{passed-as, Counted, counted-straight, counted-second, full-second, ready-kept, count-room, entered-full, entered-done}
 use borrow.Author.Needs.{needs}
 use Rattle.table_add.proofs.enter.Statement.{statement}
@@ -51,7 +52,7 @@ first-place-requires : tie.Need-first-place-requires
 first-place-requires c κs = search needs
 
 put-straight-requires : tie.Need-put-straight-requires
-put-straight-requires c κs = let s = c .before .before .before .before in first-room rows solutions _ (ready-kept _ (s .pre)) mixOf (s .args .w) _ (c .before .first-place .ensures)
+put-straight-requires c κs = let s = c .before .before .before .before in first-in rows solutions _ (flat rows solutions _ (ready-kept _ (s .pre)) .shape) mixOf (s .args .w) _ (c .before .first-place .ensures)
 
 count-one-requires : tie.Need-count-one-requires
 count-one-requires c κs = let s = c .before .before .before .before .before .before .before .before .before in count-room _ (s .pre) (word s) _ (straight (c .before))

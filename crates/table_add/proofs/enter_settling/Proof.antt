@@ -8,7 +8,8 @@ use Rattle.bucket_settle.specs.Settle.{SoundBucket}
 use Rattle.table.specs.Calls.{rows, solutions, tableOf}
 use Rattle.table_arrive.specs.Arrival.{Passed}
 use Rattle.table_add.specs.Arrivals.{seconds, allToSecond}
-use Rattle.table_add.proofs.Tables.{first-room, first-here, first-sound}
+use Rattle.table_layout.proofs.Shape.{first-in, first-here}
+use Rattle.table_arrive.proofs.Tables.{flat, first-sound}
 use Rattle.table_add.proofs.Added.{passed-as, enter-few, Counted, enter-full, enter-room, enter-counted, ready-kept, count-room, entered-full, entered-done}
 use borrow.Author.Needs.{needs}
 use Rattle.table_add.proofs.enter_settling.Statement.{statement}
@@ -37,7 +38,7 @@ settled-at-requires c κs =
     let s = c .before .before .before .before in
     let k = ready-kept _ (s .pre) in
     let p = c .before .first-place .ensures in
-    (first-room rows solutions _ k mixOf (s .args .w) _ p, subst⁻¹ (SoundBucket rows solutions) (first-here rows solutions _ k mixOf (s .args .w) _ p) (first-sound rows solutions _ k mixOf (s .args .w) _ p))
+    (first-in rows solutions _ (flat rows solutions _ k .shape) mixOf (s .args .w) _ p, subst⁻¹ (SoundBucket rows solutions) (first-here rows solutions _ (flat rows solutions _ k .shape) mixOf (s .args .w) _ p) (first-sound rows solutions _ k mixOf (s .args .w)))
 
 pass-on-requires : tie.Need-pass-on-requires
 pass-on-requires c κs =

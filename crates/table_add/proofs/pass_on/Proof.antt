@@ -7,7 +7,8 @@ use lib.Seq.{length-take-le}
 use Rattle.hash.specs.Mix.{mixOf}
 use Rattle.table.specs.Layout.{longest}
 use Rattle.table.specs.Calls.{rows, solutions}
-use Rattle.table_add.proofs.Tables.{not-longer}
+use Rattle.table_layout.proofs.Shape.{not-longer}
+use Rattle.table_arrive.proofs.Tables.{flat}
 use Rattle.table_add.proofs.Passing.{pass-none, pass-one}
 use borrow.Author.Needs.{needs}
 use Rattle.table_add.proofs.pass_on.Statement.{statement}
@@ -35,10 +36,10 @@ returns-2 : tie.Need-returns-2
 returns-2 c = pass-one rows solutions mixOf _ (c .before .before .before .before .before .before .before .before .before .before .pre .0) _ _ _ _ (c .before .before .before .before .before .before .before .if2 .taken) (c .before .before .before .second .ensures) (c .before .before .arrive-second .ensures)
 
 shortened : (s : tie.Start) → length {A = ℕ} (take (length (s .args .t .now)) (replicate (longest rows solutions) 0)) ≡ length (s .args .t .now)
-shortened s = length-take-le (length (s .args .t .now)) (replicate (longest rows solutions) 0) (subst⁻¹ (λ (k : ℕ). length (s .args .t .now) ≤ k) (length-replicate {A = ℕ} (longest rows solutions) 0) (not-longer rows solutions _ (s .pre .0)))
+shortened s = length-take-le (length (s .args .t .now)) (replicate (longest rows solutions) 0) (subst⁻¹ (λ (k : ℕ). length (s .args .t .now) ≤ k) (length-replicate {A = ℕ} (longest rows solutions) 0) (not-longer rows solutions _ (flat rows solutions _ (s .pre .0) .shape)))
 
 array-borrow-prefix-draft : tie.Need-array-borrow-prefix-draft
-array-borrow-prefix-draft c = not-longer rows solutions _ (c .before .before .before .before .pre .0)
+array-borrow-prefix-draft c = not-longer rows solutions _ (flat rows solutions _ (c .before .before .before .before .pre .0) .shape)
 
 slice-aggregate-pass-drafted : tie.Need-slice-aggregate-pass-drafted
 slice-aggregate-pass-drafted c = sym (shortened (c .before .before .before .before .before))

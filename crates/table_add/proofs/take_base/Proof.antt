@@ -5,9 +5,9 @@ use native.Mathlib.Omega.{arith}
 use mathlib.Core.Path.{_≡_, sym, ap₂, _∙_}
 use lib.ListN.{length, getD}
 use Rattle.table.specs.Layout.{buckets1At, buckets2At, bucketPlace}
-use Rattle.table_arrive.proofs.Tables.{count0, shape, long, place-le, last-is, last-room, last-put}
+use Rattle.table_layout.proofs.Shape.{place-le, last-is, last-length, last-room, last-put}
+use Rattle.table_arrive.proofs.Tables.{count0, flat, shape, long}
 use Rattle.table.specs.Calls.{rows, solutions}
-use Rattle.table_add.proofs.Tables.{last-length}
 use borrow.Author.Needs.{needs}
 use Rattle.table_add.proofs.take_base.Statement.{statement}
 use Rattle.table_add.proofs.take_base.Tie as tie
@@ -20,10 +20,10 @@ at : (c : tie.After-base-place) → c .base-place .result ≡ bucketPlace rows s
 at c = let h = c .before .before .before .before .pre in c .base-place .ensures ∙ ap₂ (λ (a b : ℕ). bucketPlace rows solutions (a + b)) (h .buckets1) (h .buckets2)
 
 within : (c : tie.After-base-place) → c .base-place .result ≤ length (c .before .before .before .before .args .t .now)
-within c = place-le rows solutions _ (c .before .before .before .before .pre .one) _ (c .base-place .ensures)
+within c = place-le rows solutions _ (flat rows solutions _ (c .before .before .before .before .pre .one)) _ (c .base-place .ensures)
 
 within-from : (c : tie.After-base-place) → c .base-place .result ≤ length (c .before .before .before .before .args .from .now)
-within-from c = place-le rows solutions _ (c .before .before .before .before .pre .other) _ (at c)
+within-from c = place-le rows solutions _ (flat rows solutions _ (c .before .before .before .before .pre .other)) _ (at c)
 
 mul-put : tie.Need-mul-put
 mul-put c = let h = within c in search needs
@@ -53,7 +53,7 @@ put-requires : tie.Need-put-requires
 put-requires c κs =
     let b = c .before .before in
     let h = b .before .before .before .before .pre in
-    last-length rows solutions _ (h .one) _ (b .base-place .ensures) ∙ sym (last-length rows solutions _ (h .other) _ (at b))
+    last-length rows solutions _ (flat rows solutions _ (h .one)) _ (b .base-place .ensures) ∙ sym (last-length rows solutions _ (flat rows solutions _ (h .other)) _ (at b))
 
 shared-slice-read-t : tie.Need-shared-slice-read-t
 shared-slice-read-t c = let h = long rows solutions _ (c .before .before .before .before .before .before .before .before .before .before .pre .other) in omega arith
@@ -61,7 +61,7 @@ shared-slice-read-t c = let h = long rows solutions _ (c .before .before .before
 slice-write-t : tie.Need-slice-write-t
 slice-write-t c =
     let b = c .before .before .before .before .before .before in
-    last-room rows solutions _ (b .before .before .before .before .pre .one) _ (b .base-place .ensures) (c .before .before .before .put .last .0)
+    last-room rows solutions _ (flat rows solutions _ (b .before .before .before .before .pre .one)) _ (b .base-place .ensures) (c .before .before .before .put .last .0)
 
 same-length : tie.Need-same-length
 same-length c = search needs
@@ -70,7 +70,7 @@ returns : tie.Need-returns
 returns c =
     let b = c .before .before .before .before .before .before in
     let h = b .before .before .before .before .pre in
-    last-put rows solutions _ (h .one) _ (b .base-place .ensures) _ _ _ (c .before .before .before .put .ensures ∙ last-is rows solutions _ (h .other) _ (at b)) (sym (count0 rows solutions _ (h .other)))
+    last-put rows solutions _ (flat rows solutions _ (h .one)) _ (b .base-place .ensures) _ _ _ (c .before .before .before .put .ensures ∙ last-is rows solutions _ (flat rows solutions _ (h .other)) _ (at b)) (sym (count0 rows solutions _ (h .other)))
 
 pub take-base-spec : {M : Type 1} → statement M
 take-base-spec =

@@ -9,7 +9,8 @@ use Rattle.lists.specs.Entries.{words}
 use Rattle.hash.specs.Mix.{mixOf}
 use Rattle.table.specs.Layout.{numbersOf}
 use Rattle.table.specs.Calls.{rows, solutions, tableOf}
-use Rattle.table_arrive.proofs.Tables.{shape, second-room}
+use Rattle.table_layout.proofs.Shape.{second-in}
+use Rattle.table_arrive.proofs.Tables.{flat, shape}
 use Rattle.table_add.specs.Arrivals.{seconds, takeOver}
 use Rattle.table_add.proofs.Passing.{Taking, words-next, words-length, words-plans, taking-room, taking-next, taking-ends}
 use borrow.Author.Needs.{needs}
@@ -39,7 +40,7 @@ second-place-requires : tie.Need-second-place-requires Inv-loop μ-loop
 second-place-requires c κs = shape rows solutions _ (c .before .before .before .before .before .before .pre .0 .other)
 
 bucket-at-requires : tie.Need-bucket-at-requires Inv-loop μ-loop
-bucket-at-requires c κs = second-room rows solutions _ (c .before .before .before .before .before .before .before .before .pre .0 .other) mixOf _ _ (c .before .second-place .ensures)
+bucket-at-requires c κs = second-in rows solutions _ (flat rows solutions _ (c .before .before .before .before .before .before .before .before .pre .0 .other) .shape) mixOf _ _ (c .before .second-place .ensures)
 
 store-at-requires : tie.Need-store-at-requires Inv-loop μ-loop
 store-at-requires c κs = taking-room rows solutions mixOf _ _ _ _ _ (c .before .before .before .before .before .loop .inv .1 .1) _ _ (c .before .before .second-place .ensures)

@@ -8,7 +8,8 @@ use Rattle.hash.specs.Mix.{mixOf}
 use Rattle.bucket_settle.specs.Settle.{thresholdOf}
 use Rattle.table.specs.Calls.{rows, solutions, tableOf}
 use Rattle.table_arrive.specs.Arrival.{toSecond, Passed, FlatKept}
-use Rattle.table_arrive.proofs.Tables.{shape, second-room}
+use Rattle.table_layout.proofs.Shape.{second-in}
+use Rattle.table_arrive.proofs.Tables.{flat, shape}
 use Rattle.table_arrive.proofs.Settled.{straight-as, straight-left, arrive-straight}
 use borrow.Author.Needs.{needs}
 use Rattle.table_arrive.proofs.arrive_second.Statement.{statement}
@@ -21,7 +22,7 @@ second-place-requires : tie.Need-second-place-requires
 second-place-requires c κs = shape rows solutions _ (c .before .before .pre)
 
 put-straight-requires : tie.Need-put-straight-requires
-put-straight-requires c κs = let s = c .before .before .before .before in second-room rows solutions _ (s .pre) mixOf (s .args .v) _ (c .before .second-place .ensures)
+put-straight-requires c κs = let s = c .before .before .before .before in second-in rows solutions _ (flat rows solutions _ (s .pre) .shape) mixOf (s .args .v) _ (c .before .second-place .ensures)
 
 same-length : tie.Need-same-length
 same-length c = search needs

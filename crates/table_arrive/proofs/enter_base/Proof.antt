@@ -9,8 +9,9 @@ use Rattle.lists.specs.Entries.{Entry, insertAll}
 use Rattle.table.specs.Layout.{basePairs}
 use Rattle.table.specs.Calls.{rows, solutions, tableOf}
 use Rattle.table_arrive.specs.Arrival.{entriesOf}
-use Rattle.table_arrive.proofs.Tables.{count0, shape, long, place-le, last-pairs, last-read, last-room, last-put}
-use Rattle.table_arrive.proofs.Arrival.{entries-length, insert-all-length}
+use Rattle.table_layout.proofs.Shape.{place-le, last-read, last-room, last-put}
+use Rattle.table_arrive.proofs.Tables.{count0, flat, shape, long, last-pairs}
+use Rattle.table_arrive.proofs.Settled.{entries-length, insert-all-length}
 use borrow.Author.Needs.{needs}
 use Rattle.table_arrive.proofs.enter_base.Statement.{statement}
 use Rattle.table_arrive.proofs.enter_base.Tie as tie
@@ -20,7 +21,7 @@ base-place-requires c κs = shape rows solutions _ (c .before .before .pre .0)
 
 -- the base list lies in the table
 within : (c : tie.After-slice-known2) → c .before .base-place .result ≤ length (c .before .before .before .before .args .t .now)
-within c = place-le rows solutions _ (c .before .before .before .before .pre .0) _ (c .before .base-place .ensures)
+within c = place-le rows solutions _ (flat rows solutions _ (c .before .before .before .before .pre .0)) _ (c .before .base-place .ensures)
 
 slice-read-count : tie.Need-slice-read-count
 slice-read-count c = let h = long rows solutions _ (c .before .before .before .before .pre .0) in omega arith
@@ -46,7 +47,7 @@ add-t c = let h = c .before .before .before .before .before .before .before .bef
 slice-write-t : tie.Need-slice-write-t
 slice-write-t c =
     let b = c .before .before .before .before in
-    last-room rows solutions _ (b .before .before .before .before .pre .0) _ (b .before .base-place .ensures) (c .before .before .insert-all .last .0)
+    last-room rows solutions _ (flat rows solutions _ (b .before .before .before .before .pre .0)) _ (b .before .base-place .ensures) (c .before .before .insert-all .last .0)
 
 same-length : tie.Need-same-length
 same-length c = search needs
@@ -59,7 +60,7 @@ returns c =
     let h = s .pre .0 in
     let o = s .args .out in
     let es : List Entry = entriesOf o in
-    last-put rows solutions _ h _ e _ _ _ (c .before .before .insert-all .ensures ∙ ap (λ (bs : List Entry). basePairs (insertAll es bs)) (last-read rows solutions _ h _ e))
+    last-put rows solutions _ (flat rows solutions _ h) _ e _ _ _ (c .before .before .insert-all .ensures ∙ ap (λ (bs : List Entry). basePairs (insertAll es bs)) (last-read rows solutions _ (flat rows solutions _ h) _ e))
     (omega (arith, insert-all-length es (tableOf (s .args .t .now) .base), entries-length (o .count) (o .vectors) (o .plans), count0 rows solutions _ h))
 
 pub enter-base-spec : {M : Type 1} → statement M

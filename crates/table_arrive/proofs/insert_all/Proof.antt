@@ -5,8 +5,8 @@ use native.Mathlib.Omega.{arith}
 use mathlib.Core.Path.{sym, _∙_}
 use Rattle.table_base.proofs.Shift.{length-of, capacity-of, sized}
 use Rattle.table_arrive.specs.Arrival.{entriesFrom}
-use Rattle.table_arrive.proofs.Arrival.{entries-next, entries-length}
-use Rattle.table_arrive.proofs.Base.{Inserting, inserting-starts, inserting-next, inserting-ends}
+use Rattle.table_arrive.proofs.Settled.{entries-next, entries-length}
+use Rattle.table_arrive.proofs.Tables.{Inserting, inserting-starts, inserting-next, inserting-ends}
 use borrow.Author.Needs.{needs}
 use Rattle.table_arrive.proofs.insert_all.Statement.{statement}
 use Rattle.table_arrive.proofs.insert_all.Tie as tie

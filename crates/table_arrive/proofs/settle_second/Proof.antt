@@ -6,7 +6,8 @@ use Rattle.lists.specs.Entries.{Entry}
 use Rattle.hash.specs.Mix.{mixOf}
 use Rattle.bucket_settle.specs.Settle.{SoundBucket}
 use Rattle.table.specs.Calls.{rows, solutions}
-use Rattle.table_arrive.proofs.Tables.{count0, shape, long, second-room, second-here, second-sound}
+use Rattle.table_layout.proofs.Shape.{second-in, second-here}
+use Rattle.table_arrive.proofs.Tables.{count0, flat, shape, long, second-sound}
 use Rattle.table_arrive.proofs.Settled.{arrive-few, arrive-full, arrive-stored, arrive-count, arrive-done}
 use borrow.Author.Needs.{needs}
 use Rattle.table_arrive.proofs.settle_second.Statement.{statement}
@@ -22,7 +23,7 @@ settled-at-requires : tie.Need-settled-at-requires
 settled-at-requires c κs =
     let s = c .before .before .before .before in
     let p = c .before .second-place .ensures in
-    (second-room rows solutions _ (s .pre) mixOf (s .args .v) _ p, subst⁻¹ (SoundBucket rows solutions) (second-here rows solutions _ (s .pre) mixOf (s .args .v) _ p) (second-sound rows solutions _ (s .pre) mixOf (s .args .v) _ p))
+    (second-in rows solutions _ (flat rows solutions _ (s .pre) .shape) mixOf (s .args .v) _ p, subst⁻¹ (SoundBucket rows solutions) (second-here rows solutions _ (flat rows solutions _ (s .pre) .shape) mixOf (s .args .v) _ p) (second-sound rows solutions _ (s .pre) mixOf (s .args .v)))
 
 slice-read-if1 : tie.Need-slice-read-if1
 slice-read-if1 c = let h = long rows solutions _ (c .before .before .before .before .before .before .before .pre) in omega arith
@@ -45,7 +46,7 @@ returns c =
 store-at-requires : tie.Need-store-at-requires
 store-at-requires c κs =
     let s = c .before .before .before .before .before .before .before .before .before .before in
-    second-room rows solutions _ (s .pre) mixOf (s .args .v) _ (c .before .before .before .before .before .before .before .second-place .ensures)
+    second-in rows solutions _ (flat rows solutions _ (s .pre) .shape) mixOf (s .args .v) _ (c .before .before .before .before .before .before .before .second-place .ensures)
 
 enter-base-requires : tie.Need-enter-base-requires
 enter-base-requires c κs =

@@ -4,8 +4,7 @@ use mathlib.Core.Path.{sym, ap}
 use native.Mathlib.Omega.{arith}
 use borrow.Author.Needs.{needs}
 use Rattle.table_base.specs.Base.{foundOf}
-use Rattle.table_base.proofs.Shift.{room}
-use Rattle.table_base.proofs.Edits.{found, not-found}
+use Rattle.table_base.proofs.Shift.{room, found, not-found}
 use Rattle.table_base.proofs.find.Statement.{statement}
 use Rattle.table_base.proofs.find.Tie as tie
 

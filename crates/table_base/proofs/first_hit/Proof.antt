@@ -8,7 +8,7 @@ use lib.ListN.{drop}
 use borrow.Author.Needs.{needs}
 use Rattle.table.specs.Layout.{pairsFrom}
 use Rattle.table_base.specs.Base.{hits, before}
-use Rattle.table_base.proofs.Edits.{before-here, before-next, before-end}
+use Rattle.table_base.proofs.Shift.{before-here, before-next, before-end}
 use Rattle.table_base.proofs.first_hit.Statement.{statement}
 use Rattle.table_base.proofs.first_hit.Tie as tie
 

@@ -3,8 +3,7 @@
 use mathlib.Core.Path.{_∙_}
 use native.Mathlib.Omega.{arith}
 use borrow.Author.Needs.{needs}
-use Rattle.table_base.proofs.Shift.{room}
-use Rattle.table_base.proofs.Edits.{place-le, inserted}
+use Rattle.table_base.proofs.Shift.{room, place-le, inserted}
 use Rattle.table_base.proofs.insert.Statement.{statement}
 use Rattle.table_base.proofs.insert.Tie as tie
 

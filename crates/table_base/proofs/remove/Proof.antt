@@ -3,8 +3,7 @@
 use mathlib.Core.Path.{_∙_}
 use native.Mathlib.Omega.{arith}
 use borrow.Author.Needs.{needs}
-use Rattle.table_base.proofs.Shift.{room}
-use Rattle.table_base.proofs.Edits.{removed, removed-length, not-removed, not-removed-length}
+use Rattle.table_base.proofs.Shift.{room, removed, removed-length, not-removed, not-removed-length}
 use Rattle.table_base.proofs.remove.Statement.{statement}
 use Rattle.table_base.proofs.remove.Tie as tie
 

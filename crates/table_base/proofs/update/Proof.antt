@@ -2,8 +2,7 @@
 -- Assumes nothing.
 use native.Mathlib.Omega.{arith}
 use borrow.Author.Needs.{needs}
-use Rattle.table_base.proofs.Shift.{room}
-use Rattle.table_base.proofs.Edits.{updated, not-updated}
+use Rattle.table_base.proofs.Shift.{room, updated, not-updated}
 use Rattle.table_base.proofs.update.Statement.{statement}
 use Rattle.table_base.proofs.update.Tie as tie
 

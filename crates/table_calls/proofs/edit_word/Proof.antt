@@ -4,7 +4,7 @@ use mathlib.Core.Path.{refl}
 use mathlib.Core.List.{[]}
 use native.Mathlib.Omega.{arith}
 use borrow.Author.Needs.{needs}
-use Rattle.table_calls.proofs.Places.{long}
+use Rattle.table_calls.proofs.Touched.{long}
 use Rattle.table_calls.proofs.Calls.{edit-live, edit-gone, counted}
 use Rattle.table_calls.proofs.edit_word.Statement.{statement}
 use Rattle.table_calls.proofs.edit_word.Tie as tie

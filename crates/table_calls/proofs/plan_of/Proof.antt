@@ -4,7 +4,7 @@ use mathlib.Core.Path.{sym, ap, _∙_}
 use borrow.Author.Needs.{needs}
 use Rattle.table_base.specs.Base.{foundOf}
 use Rattle.table_base.specs.declared.Found.the-variants.{Plan}
-use Rattle.table_calls.proofs.Places.{plan-live, plan-gone}
+use Rattle.table_calls.proofs.Touched.{plan-live, plan-gone}
 use Rattle.table_calls.proofs.plan_of.Statement.{statement}
 use Rattle.table_calls.proofs.plan_of.Tie as tie
 

@@ -10,20 +10,20 @@ use Rattle.hash.specs.Mix.{mixOf}
 use Rattle.bucket_words.specs.Words.{bucketWords}
 use Rattle.table.specs.Calls.{rows, solutions}
 use Rattle.table_calls.specs.Edit.{onBucket, onBase}
-use Rattle.table_calls.proofs.Places.{shape-of, laid-of, shaped-of, long, first-end, second-end, base-end}
-use Rattle.table_calls.proofs.Touched.{touched-first, touched-second, touched-base, base-pairs}
+use Rattle.table_layout.proofs.Shape.{first-in, second-in, place-le}
+use Rattle.table_calls.proofs.Touched.{flat-of, long, touched-first, touched-second, touched-base, base-pairs}
 use Rattle.table_calls.proofs.touch.Statement.{statement}
 use Rattle.table_calls.proofs.touch.Tie as tie
 
 -- the stretches end within the table
 end-1 : (c : tie.After-first-place) → c .first-place .result + bucketWords rows solutions ≤ length (c .before .before .before .before .before .before .args .t .now)
-end-1 c = first-end (c .before .before .before .before .before .before .pre) _ _ (c .first-place .ensures)
+end-1 c = first-in rows solutions _ (flat-of (c .before .before .before .before .before .before .pre) .shape) mixOf _ _ (c .first-place .ensures)
 
 end-2 : (c : tie.After-second-place) → c .second-place .result + bucketWords rows solutions ≤ length (c .before .before .before .before .before .before .before .before .before .before .args .t .now)
-end-2 c = second-end (c .before .before .before .before .before .before .before .before .before .before .pre) _ _ (c .second-place .ensures)
+end-2 c = second-in rows solutions _ (flat-of (c .before .before .before .before .before .before .before .before .before .before .pre) .shape) mixOf _ _ (c .second-place .ensures)
 
 end-3 : (c : tie.After-base-place) → c .base-place .result ≤ length (c .before .before .before .before .before .before .before .before .before .before .args .t .now)
-end-3 c = base-end (c .before .before .before .before .before .before .before .before .before .before .pre) (c .base-place .result) (c .base-place .ensures)
+end-3 c = place-le rows solutions _ (flat-of (c .before .before .before .before .before .before .before .before .before .before .pre)) _ (c .base-place .ensures)
 
 holds-first-requires : tie.Need-holds-first-requires
 holds-first-requires c κs = search needs
@@ -58,7 +58,7 @@ returns c =
     let p = done .before .before in
     let f = p .before .before .before in
     let s = f .before .before .before in
-    touched-first rows solutions mixOf (s .args .t .now) (shape-of (s .pre)) (laid-of (s .pre)) (shaped-of (s .pre)) (s .args .w) (onBucket (s .args .edit)) (onBase (s .args .edit))
+    touched-first rows solutions mixOf (s .args .t .now) (flat-of (s .pre)) (s .args .w) (onBucket (s .args .edit)) (onBase (s .args .edit))
     (sym (f .holds-first .ensures) ∙ p .before .before .if1 .taken) (p .first-place .result) (p .first-place .ensures) (done .edit-bucket .last .0) (done .edit-bucket .ensures)
 
 second-requires : tie.Need-second-requires
@@ -99,7 +99,7 @@ returns-2 c =
     let v = g .before .before in
     let f = v .before .before in
     let s = f .before .before .before in
-    touched-second rows solutions mixOf (s .args .t .now) (shape-of (s .pre)) (laid-of (s .pre)) (shaped-of (s .pre)) (s .args .w) (onBucket (s .args .edit)) (onBase (s .args .edit))
+    touched-second rows solutions mixOf (s .args .t .now) (flat-of (s .pre)) (s .args .w) (onBucket (s .args .edit)) (onBase (s .args .edit))
     (sym (f .holds-first .ensures) ∙ v .before .if1 .left) (v .second .result) (v .second .ensures) (sym (g .holds-second .ensures) ∙ p .before .before .if2 .taken)
     (p .second-place .result) (p .second-place .ensures) (done .edit-bucket2 .last .0) (done .edit-bucket2 .ensures)
 
@@ -124,7 +124,7 @@ part-edit-base-end c = search needs
 edit-base-requires : tie.Need-edit-base-requires
 edit-base-requires c κs =
     let h = c .before .before .before .before .before .before .before .before .before .before .before .before .pre in
-    base-pairs rows solutions mixOf _ (shape-of h) (laid-of h) (shaped-of h) _ (c .before .before .base-place .ensures)
+    base-pairs rows solutions mixOf _ (flat-of h) _ (c .before .before .base-place .ensures)
 
 slice-write-t : tie.Need-slice-write-t
 slice-write-t c =
@@ -145,7 +145,7 @@ returns-3 c =
     let v = g .before .before in
     let f = v .before .before in
     let s = f .before .before .before in
-    touched-base rows solutions mixOf (s .args .t .now) (shape-of (s .pre)) (laid-of (s .pre)) (shaped-of (s .pre)) (s .args .w) (onBucket (s .args .edit)) (onBase (s .args .edit))
+    touched-base rows solutions mixOf (s .args .t .now) (flat-of (s .pre)) (s .args .w) (onBucket (s .args .edit)) (onBase (s .args .edit))
     (sym (f .holds-first .ensures) ∙ v .before .if1 .left) (v .second .result) (v .second .ensures) (sym (g .holds-second .ensures) ∙ p .before .before .if2 .left)
     (p .base-place .result) (p .base-place .ensures) (done .edit-base .last .0) (done .edit-base .result) (done .edit-base .ensures .1) (done .edit-base .ensures .0)
 

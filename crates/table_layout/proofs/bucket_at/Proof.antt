@@ -1,12 +1,9 @@
 -- `table_layout::bucket_at` meets its contract.
 -- Assumes nothing.
-use mathlib.Core.Path.{ap, _∙_}
-use lib.ListN.{drop}
+use mathlib.Core.Path.{_∙_}
 use borrow.Author.Needs.{needs}
-use Rattle.lists.proofs.Parts.{stretch}
-use Rattle.bucket_words.specs.Words.{bucketWords, bucketFrom}
-use Rattle.table.proofs.Numbers.{from-part}
 use Rattle.table.specs.Calls.{rows, solutions}
+use Rattle.table_layout.proofs.Shape.{part-bucket}
 use Rattle.table_layout.proofs.bucket_at.Statement.{statement}
 use Rattle.table_layout.proofs.bucket_at.Tie as tie
 
@@ -29,9 +26,7 @@ load-requires : tie.Need-load-requires
 load-requires c κs = search needs
 
 returns : tie.Need-returns
-returns c =
-    let a = c .before .before .before .args in
-    c .load .ensures ∙ ap (bucketFrom rows solutions) (stretch (a .place) (bucketWords rows solutions) (a .t .now)) ∙ from-part rows solutions (drop (a .place) (a .t .now))
+returns c = let a = c .before .before .before .args in c .load .ensures ∙ part-bucket rows solutions (a .t .now) (a .place)
 
 pub bucket-at-spec : {M : Type 1} → statement M
 bucket-at-spec =

@@ -1,9 +1,10 @@
 -- `table_layout::holds_second` meets its contract.
 -- Assumes nothing.
 use native.Mathlib.Omega.{arith}
+use mathlib.Core.Path.{refl, sym}
 use borrow.Author.Needs.{needs}
 use Rattle.hash.specs.Mix.{mixOf}
-use Rattle.table_layout.proofs.Shape.{shape, second-lt, second-bucket}
+use Rattle.table_layout.proofs.Shape.{shape, second-lt, second-here}
 use Rattle.table_layout.proofs.holds_second.Statement.{statement}
 use Rattle.table_layout.proofs.holds_second.Tie as tie
 
@@ -19,7 +20,7 @@ bound-at-requires c κs = let s = c .before .before .before in (s .pre, omega (a
 returns : tie.Need-returns
 returns c =
     let s = c .before .before .before .before in
-    rw (second-bucket _ _ _ (shape (s .pre)) mixOf (s .args .v), c .before .before .threshold .ensures, c .bound-at .ensures, c .before .second-index .ensures)
+    rw (sym (second-here _ _ _ (shape (s .pre)) mixOf (s .args .v) _ refl), c .before .before .threshold .ensures, c .bound-at .ensures, c .before .second-index .ensures)
 
 pub holds-second-spec : {M : Type 1} → statement M
 holds-second-spec = tie.close (tie.spec threshold-requires second-index-requires bound-at-requires returns)

@@ -10,7 +10,7 @@ use Rattle.bucket.specs.Bucket.{largestBound}
 use Rattle.table.specs.Test.{bucketTest}
 use Rattle.table.specs.Calls.{rows}
 use Rattle.table_sound.specs.Held.{rowOf}
-use Rattle.table_sound.proofs.Held.{bucket-over, bucket-broken, bucket-rows}
+use Rattle.table_sound.proofs.Held.{bucket-over, bucket-found}
 use Rattle.table_sound.proofs.bucket_sound.Statement.{statement}
 use Rattle.table_sound.proofs.bucket_sound.Tie as tie
 
@@ -41,7 +41,7 @@ returns-2 c =
     let x = b .bucket-at .result in
     let under : x .bound ≤ largestBound = omega (arith, i .if1 .left) in
     c .rows-held .ensures
-    ∙ sym (bucket-rows rows (rowOf (a .t .now) (a .second) (a .m) (a .i) x) x (le-leb _ _ under) (r .rows-of .result) (r .rows-of .ensures) (c .before .before .if2 .taken))
+    ∙ sym (bucket-found rows (rowOf (a .t .now) (a .second) (a .m) (a .i) x) x (le-leb _ _ under) (r .rows-of .result) (r .rows-of .ensures) (c .before .before .if2 .taken))
     ∙ ap (λ (y : Bucket). bucketTest rows (rowOf (a .t .now) (a .second) (a .m) (a .i) y) y) (b .bucket-at .ensures)
 
 returns-3 : tie.Need-returns-3
@@ -52,7 +52,7 @@ returns-3 c =
     let a = b .before .before .args in
     let x = b .bucket-at .result in
     let under : x .bound ≤ largestBound = omega (arith, i .if1 .left) in
-    sym (bucket-broken rows (rowOf (a .t .now) (a .second) (a .m) (a .i) x) x (le-leb _ _ under) (r .rows-of .result) (r .rows-of .ensures) (c .if2 .left))
+    sym (bucket-found rows (rowOf (a .t .now) (a .second) (a .m) (a .i) x) x (le-leb _ _ under) (r .rows-of .result) (r .rows-of .ensures) (c .if2 .left))
     ∙ ap (λ (y : Bucket). bucketTest rows (rowOf (a .t .now) (a .second) (a .m) (a .i) y) y) (b .bucket-at .ensures)
 
 pub bucket-sound-spec : {M : Type 1} → statement M

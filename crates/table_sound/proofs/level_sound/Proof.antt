@@ -11,7 +11,7 @@ use Rattle.table.specs.Test.{levelTest}
 use Rattle.table.specs.Calls.{rows, solutions}
 use Rattle.table_layout.proofs.Shape.{one-more}
 use Rattle.table_sound.specs.Held.{rowOf}
-use Rattle.table_sound.proofs.Loops.{go-on, stop, test-next, test-end}
+use Rattle.table_sound.proofs.Held.{go-on, test-next, test-end}
 use Rattle.table_sound.proofs.level_sound.Statement.{statement}
 use Rattle.table_sound.proofs.level_sound.Tie as tie
 
@@ -44,14 +44,14 @@ loop-again c =
     let b = c .before .before .before in
     let a = b .before .before .args in
     let e = test-next rows solutions (a .t .now) (rowOf (a .t .now) (a .second) (a .m)) (b .loop .at) (a .m) (b .loop .i) (c .before .before .loop-test .taken) in
-    (omega arith, one-more (bucketWords rows solutions) (b .loop .at) (c .before .before .loop-test .taken) (b .loop .inv .1), go-on e (sym (c .before .bucket-sound .ensures) ∙ c .if1 .taken) (b .loop .inv .2))
+    (omega arith, one-more (bucketWords rows solutions) (b .loop .at) (c .before .before .loop-test .taken) (b .loop .inv .1), go-on _ e (sym (c .before .bucket-sound .ensures) ∙ c .if1 .taken) (b .loop .inv .2))
 
 returns : tie.Need-returns Inv-loop μ-loop
 returns c =
     let b = c .before .before .before in
     let a = b .before .before .args in
     let e = test-next rows solutions (a .t .now) (rowOf (a .t .now) (a .second) (a .m)) (b .loop .at) (a .m) (b .loop .i) (c .before .before .loop-test .taken) in
-    stop _ e (sym (c .before .bucket-sound .ensures) ∙ c .if1 .left) (b .loop .inv .2)
+    go-on _ e (sym (c .before .bucket-sound .ensures) ∙ c .if1 .left) (b .loop .inv .2)
 
 returns-2 : tie.Need-returns-2 Inv-loop μ-loop
 returns-2 c =

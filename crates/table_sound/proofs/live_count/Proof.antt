@@ -12,7 +12,7 @@ use Rattle.table.specs.Layout.{levelFrom}
 use Rattle.table.specs.Content.{occupied}
 use Rattle.table.specs.Calls.{rows, solutions}
 use Rattle.table_layout.proofs.Shape.{one-more}
-use Rattle.table_sound.proofs.Loops.{occupied-next, occupied-end}
+use Rattle.table_sound.proofs.Held.{occupied-next, occupied-end}
 use Rattle.table_sound.proofs.live_count.Statement.{statement}
 use Rattle.table_sound.proofs.live_count.Tie as tie
 

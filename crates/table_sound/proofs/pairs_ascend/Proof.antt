@@ -8,7 +8,7 @@ use borrow.Author.Tests.{lt-ltb, le-ltb}
 use borrow.Author.Needs.{needs}
 use Rattle.table.specs.Layout.{pairsFrom}
 use Rattle.table.specs.Test.{ascends}
-use Rattle.table_sound.proofs.Loops.{go-on, stop, ascends-next, ascends-end}
+use Rattle.table_sound.proofs.Held.{go-on, ascends-next, ascends-end}
 use Rattle.table_sound.proofs.pairs_ascend.Statement.{statement}
 use Rattle.table_sound.proofs.pairs_ascend.Tie as tie
 
@@ -46,13 +46,13 @@ loop-again : tie.Need-loop-again Inv-loop μ-loop
 loop-again c =
     let b = c .before .before .before .before in
     let a = b .before .args in
-    (omega arith, go-on (ascends-next (a .t .now) (b .loop .at) (b .loop .left) (c .before .before .before .loop-test .taken)) (lt-ltb _ _ (c .if1 .taken)) (b .loop .inv .1))
+    (omega arith, go-on _ (ascends-next (a .t .now) (b .loop .at) (b .loop .left) (c .before .before .before .loop-test .taken)) (lt-ltb _ _ (c .if1 .taken)) (b .loop .inv .1))
 
 returns : tie.Need-returns Inv-loop μ-loop
 returns c =
     let b = c .before .before .before .before in
     let a = b .before .args in
-    stop _ (ascends-next (a .t .now) (b .loop .at) (b .loop .left) (c .before .before .before .loop-test .taken)) (le-ltb _ _ (c .if1 .left)) (b .loop .inv .1)
+    go-on _ (ascends-next (a .t .now) (b .loop .at) (b .loop .left) (c .before .before .before .loop-test .taken)) (le-ltb _ _ (c .if1 .left)) (b .loop .inv .1)
 
 returns-2 : tie.Need-returns-2 Inv-loop μ-loop
 returns-2 c =

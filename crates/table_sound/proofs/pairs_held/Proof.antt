@@ -7,7 +7,7 @@ use lib.ListN.{length, drop}
 use borrow.Author.Needs.{needs}
 use Rattle.table.specs.Layout.{pairsFrom}
 use Rattle.table.specs.Test.{allOf}
-use Rattle.table_sound.proofs.Loops.{go-on, stop, pairs-next}
+use Rattle.table_sound.proofs.Held.{go-on, pairs-next}
 use Rattle.table_sound.specs.Held.{pairTest}
 use Rattle.table_sound.proofs.pairs_held.Statement.{statement}
 use Rattle.table_sound.proofs.pairs_held.Tie as tie
@@ -53,14 +53,14 @@ loop-again c =
     let b = c .before .before .before .before .before in
     let a = b .before .before .args in
     let e = ap (allOf (pairTest (a .t .now))) (pairs-next (a .t .now) (b .loop .at) (b .loop .left) (c .before .before .before .before .loop-test .taken)) in
-    (omega arith, go-on e (sym (c .before .pair-held .ensures) ∙ c .if1 .taken) (b .loop .inv .1))
+    (omega arith, go-on _ e (sym (c .before .pair-held .ensures) ∙ c .if1 .taken) (b .loop .inv .1))
 
 returns : tie.Need-returns Inv-loop μ-loop
 returns c =
     let b = c .before .before .before .before .before in
     let a = b .before .before .args in
     let e = ap (allOf (pairTest (a .t .now))) (pairs-next (a .t .now) (b .loop .at) (b .loop .left) (c .before .before .before .before .loop-test .taken)) in
-    stop _ e (sym (c .before .pair-held .ensures) ∙ c .if1 .left) (b .loop .inv .1)
+    go-on _ e (sym (c .before .pair-held .ensures) ∙ c .if1 .left) (b .loop .inv .1)
 
 returns-2 : tie.Need-returns-2 Inv-loop μ-loop
 returns-2 c =

@@ -9,7 +9,7 @@ use Rattle.gf2.proofs.Lowest.{tz-lt}
 use Rattle.gf2.specs.Select.{chosen}
 use Rattle.table.specs.Test.{allOf}
 use Rattle.table.specs.Calls.{rows}
-use Rattle.table_sound.proofs.Loops.{go-on, stop, low-lt, row-low, row-none}
+use Rattle.table_sound.proofs.Held.{go-on, low-lt, row-low, row-none}
 use Rattle.table_sound.specs.Held.{rowTest}
 use Rattle.table_sound.proofs.rows_held.Statement.{statement}
 use Rattle.table_sound.proofs.rows_held.Tie as tie
@@ -47,14 +47,14 @@ loop-again c =
     let a = b .before .before .args in
     let ne = c .before .before .loop-test .taken in
     let e = row-low (rowTest (a .t .now) (a .second) (a .m) (a .i) (a .bound)) rows (b .loop .left) (a .t7) (search needs) (b .loop .inv .0) ne in
-    (lt-trans (low-lt rows (b .loop .left) (b .loop .inv .0) ne) (b .loop .inv .0), go-on e (sym (c .before .row-held .ensures) ∙ c .if1 .taken) (b .loop .inv .1))
+    (lt-trans (low-lt rows (b .loop .left) (b .loop .inv .0) ne) (b .loop .inv .0), go-on _ e (sym (c .before .row-held .ensures) ∙ c .if1 .taken) (b .loop .inv .1))
 
 returns : tie.Need-returns Inv-loop μ-loop
 returns c =
     let b = c .before .before .before in
     let a = b .before .before .args in
     let e = row-low (rowTest (a .t .now) (a .second) (a .m) (a .i) (a .bound)) rows (b .loop .left) (a .t7) (search needs) (b .loop .inv .0) (c .before .before .loop-test .taken) in
-    stop _ e (sym (c .before .row-held .ensures) ∙ c .if1 .left) (b .loop .inv .1)
+    go-on _ e (sym (c .before .row-held .ensures) ∙ c .if1 .left) (b .loop .inv .1)
 
 returns-2 : tie.Need-returns-2 Inv-loop μ-loop
 returns-2 c =

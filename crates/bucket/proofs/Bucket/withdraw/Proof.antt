@@ -10,20 +10,11 @@ use borrow.Author.Needs.{needs}
 use borrow.Author.Tests.{lt-ltb, le-ltb}
 use Rattle.bucket.specs.Bucket.{withdrawAt, withdraw}
 use Rattle.bucket.proofs.Laws.{live-row, freed-lt}
-use Rattle.bucket.proofs.Bucket.row_of.Reads as row-of-reads
-use Rattle.bucket.proofs.lowest.Reads as lowest-reads
-use Rattle.bits.proofs.power.Reads as power-reads
-use Rattle.bucket.proofs.col_step.Reads as col-step-reads
-use Rattle.bucket.proofs.exchanged.Reads as exchanged-reads
-use Rattle.bucket.proofs.Bucket.withdraw.Reads as reads
-use Rattle.bucket.proofs.Bucket.withdraw.Lts as lts
 use Rattle.bucket.proofs.Bucket.withdraw.Statement.{statement}
 use Rattle.bucket.proofs.Bucket.withdraw.Tie as tie
 
 -- j is a row
-freed :
-    (c : lts.After-lowest (row-of-reads.Asked, row-of-reads.Learnt, lowest-reads.Asked, lowest-reads.Learnt, power-reads.Asked, power-reads.Learnt, col-step-reads.Asked, col-step-reads.Learnt, exchanged-reads.Asked, exchanged-reads.Learnt) reads.Pre reads.Post)
-    → c .lowest .result < 64
+freed : (c : tie.After-lowest) → c .lowest .result < 64
 freed c =
     let b = c .before .before in
     let a = b .before .before .args in

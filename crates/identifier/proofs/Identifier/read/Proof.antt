@@ -59,8 +59,7 @@ returns-3 : tie.Need-returns-3 Inv-loop μ-loop
 returns-3 c =
     let at-loop = c .before .before .before in
     let s = at-loop .before .before .before .before .before .args .s .now in
-    let i = at-loop .loop .i in
-    sym (scan-refused s i (at-loop .loop .h) (search needs) (rw (← entry (c .before)) (c .if3 .taken))) ∙ at-loop .loop .inv .1
+    sym (scan-refused s (at-loop .loop .i) (at-loop .loop .h) (search needs) (rw (← entry (c .before)) (c .if3 .taken))) ∙ at-loop .loop .inv .1
 
 fnv-step-requires : tie.Need-fnv-step-requires Inv-loop μ-loop
 fnv-step-requires c κs = search needs
@@ -75,9 +74,8 @@ loop-again : tie.Need-loop-again Inv-loop μ-loop
 loop-again c =
     let here = c .before .before in
     let at-loop = here .before .before in
-    let s = at-loop .before .before .before .before .before .args .s .now in
     let i = at-loop .loop .i in
-    let next = scan-more s i (at-loop .loop .h) (search needs) (rw (← entry here) (c .before .if3 .left)) in
+    let next = scan-more (at-loop .before .before .before .before .before .args .s .now) i (at-loop .loop .h) (search needs) (rw (← entry here) (c .before .if3 .left)) in
     (search needs, rw (add-one i, c .fnv-step .ensures, entry here) (sym next ∙ at-loop .loop .inv .1))
 
 mix-requires : tie.Need-mix-requires Inv-loop μ-loop
@@ -86,8 +84,7 @@ mix-requires c κs = search needs
 returns-4 : tie.Need-returns-4 Inv-loop μ-loop
 returns-4 c =
     let at-loop = c .before .before in
-    let s = at-loop .before .before .before .before .before .args .s .now in
-    let end : length s ≤ at-loop .loop .i = omega arith in
+    let end : length (at-loop .before .before .before .before .before .args .s .now) ≤ at-loop .loop .i = omega arith in
     ap Word (c .mix .ensures) ∙ sym (scan-end (at-loop .loop .i) (at-loop .loop .h)) ∙ rw drop-of-length-le at (at-loop .loop .inv .1)
 
 pub read-spec : {M : Type 1} → statement M
