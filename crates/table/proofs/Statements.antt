@@ -1,4 +1,4 @@
--- The laws that others cite, each with the sentence of document 01 that it stands for; the files named prove them.
+-- The laws that others cite, each with the sentence of document 01 that it stands for, proved in the files named or here.
 -- t is the list of the table's numbers, `tableOf t` the table that it holds.
 -- Assumes nothing.
 use Prim.Native.Nat.{ℕ, _+_, _*_, _^_, _<_}
