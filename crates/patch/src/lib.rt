@@ -2,8 +2,8 @@
 // applying share.
 // Definitions, in the order's words: specs/Base.antt (the base list edited), specs/Record.antt (kinds 5 to 8), specs/Patch.antt (what a
 // patch says, made and applied), specs/Wrong.antt (which patches are wrong, what the bytes say), specs/Calls.antt (the two calls),
-// specs/Fits.antt (the limits), specs/Offset.antt (the offset of what is wrong, without the scan), specs/Causes.antt. The statements stand in
-// proofs/Statements.antt and proofs/Calls.antt.
+// specs/Fits.antt (the limits), specs/Offset.antt (the offset of what is wrong, without the scan), specs/Causes.antt;
+// specs/Cursor.antt is for the inner steps alone. The statements stand in proofs/Statements.antt and proofs/Calls.antt.
 // Cites codec, hash, plane (records, reader) and plane_write (what a call does to its output); patch_apply and patch_make cite it.
 use answer::Answer;
 use plane::Record;

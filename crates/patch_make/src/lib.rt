@@ -1,6 +1,7 @@
 // Making a patch from one plane to another; document 02, order 1.
-// Definitions: those of patch (specs/Calls.antt, `makeCall`); specs/Steps.antt is for the inner steps alone. proofs/Costs.antt: what a changed
-// plan costs, for any sound table and after any list of calls.
+// Definitions: those of patch (specs/Calls.antt, `makeCall`); specs/Steps.antt is for the inner steps alone, specs/After.antt for the
+// statements. proofs/Costs.antt: what a changed plan costs, for any sound table and after any list of calls; proofs/Lists.antt: patches between
+// the planes of one opening.
 // Cites codec, hash, table_layout, plane, plane_write and patch. The library for C cites it.
 use answer::Answer;
 use patch::Patch;

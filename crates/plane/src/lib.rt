@@ -3,7 +3,8 @@
 // bytes say), specs/Lookup.antt (the call), specs/Fits.antt (its limits), specs/Offset.antt (the offset of what is wrong, without the
 // scan), specs/Causes.antt. Laws: proofs/Scan.antt (a scan of records of any kind), proofs/Round.antt and proofs/Exact.antt (just the
 // planes within the limits have bytes that are wrong nowhere), proofs/Offset.antt, proofs/Causes.antt; the statements stand with the writer.
-// Cites codec, identifier, bucket, table and table_layout (the numbers of buckets). The writer and the library for C cite it.
+// Cites codec, identifier, bucket, table and table_layout (the numbers of buckets). The writer, the crates of
+// patches and the library for C cite it.
 use answer::Answer;
 use bucket::Bucket;
 use identifier::Identifier;

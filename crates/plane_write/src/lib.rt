@@ -1,7 +1,8 @@
 // The writer of planes: the plane of a table of any numbers, to the front of the output.
 // Definitions: specs/Write.antt (the call, in document 01's words, and what the plane of a table gives), specs/Causes.antt; specs/Steps.antt
 // is for the inner steps alone. Statements of the plane: proofs/Statements.antt.
-// Cites codec, bucket, table (its definitions), table_layout and table_sound (its tests) and plane (the records). The library for C cites it.
+// Cites codec, bucket, table (its definitions), table_layout and table_sound (its tests) and plane (the records). The crates of patches and
+// the library for C cite it.
 use answer::Answer;
 use bucket::Bucket;
 use plane::Record;
