@@ -1,4 +1,4 @@
-/* A depot: opens a table, adds the cards of a text file and writes the plane file.
+/* A depot: opens a table, adds the cards of a text file, writes the plane file and prints how many cards each plan has.
  * Use: depot B1 B2 CARDS-FILE PLANE-FILE
  *
  * A line of the cards file is an identifier, one space, a plan and a line feed, and nothing else. A last line without line feed is refused,
@@ -122,6 +122,20 @@ static bool add_cards(FILE *file, const char *name, size_t numbers)
     }
 }
 
+/* Prints the number of cards of each plan that has any. Returns the cause if a question is turned down. */
+static uint64_t print_totals(size_t numbers)
+{
+    for (unsigned plan = 0; plan < LIMGOSHI_PLANS; plan++) {
+        uint64_t total;
+        uint64_t cause = limgoshi_plan_total(table, numbers, (uint8_t)plan, &total);
+        if (cause != LIMGOSHI_ACCEPTED)
+            return cause;
+        if (total > 0)
+            printf("plan %u: %" PRIu64 "\n", plan, total);
+    }
+    return LIMGOSHI_ACCEPTED;
+}
+
 int main(int argc, char **argv)
 {
     uint64_t value;
@@ -166,5 +180,10 @@ int main(int argc, char **argv)
     if (!write_file(argv[4], plane, (size_t)value))
         return 2;
     printf("%" PRIu64 " bytes\n", value);
+    cause = print_totals(numbers);
+    if (cause != LIMGOSHI_ACCEPTED) {
+        fprintf(stderr, "depot: totals: cause %" PRIu64 "\n", cause);
+        return 1;
+    }
     return 0;
 }

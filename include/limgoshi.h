@@ -9,11 +9,11 @@
  * Threads. There is no static data: calls are safe side by side unless one writes a buffer that another uses.
  *
  * Saving a table. It is its numbers, without pointers: store them as they are, in the byte order of the machine, and read them back into any
- * buffer of that length. If a number was changed on the way, the next call finds that (cause 4 or 5), or the numbers are those of another
- * sound table, and every call answers for that one.
+ * buffer of that length. If a number was changed on the way, the next call that tests the table finds that (cause 4 or 5), or the numbers are those
+ * of another sound table, and every call answers for that one.
  *
- * Time. Every call on a table but open tests the whole table. The times below are orders of magnitude on a present-day processor; where there
- * are two, for the smallest and the largest table. */
+ * Time. Every call on a table tests the whole of it, but for limgoshi_open and limgoshi_plan_total. The times below are orders of magnitude on a
+ * present-day processor; where there are two, for the smallest and the largest table. */
 #ifndef LIMGOSHI_H
 #define LIMGOSHI_H
 
@@ -25,12 +25,13 @@ extern "C" {
 #endif
 
 #define LIMGOSHI_ID_MAX 20u       /* an identifier is 1 to 20 bytes: letters, digits and * - _ = : + | @ . */
+#define LIMGOSHI_PLANS 256u       /* plans: 0 to 255 */
 #define LIMGOSHI_BUCKETS1_MAX 48u /* buckets of level 1: 1 to 48 */
 #define LIMGOSHI_BUCKETS2_MAX 32u /* buckets of level 2: 1 to 32 */
 #define LIMGOSHI_BASE_MAX 64u     /* entries of the base list: 0 to 64 */
 
-/* 64-bit numbers of a table with b1 and b2 buckets: 280 to 6,052. */
-#define LIMGOSHI_TABLE_NUMBERS(b1, b2) (4u + 74u * ((b1) + (b2)) + 128u)
+/* 64-bit numbers of a table with b1 and b2 buckets: 536 to 6,308. */
+#define LIMGOSHI_TABLE_NUMBERS(b1, b2) (4u + LIMGOSHI_PLANS + 74u * ((b1) + (b2)) + 128u)
 
 /* Bytes of a plane with b1 and b2 buckets and this many base entries: 142 to 5,930. */
 #define LIMGOSHI_PLANE_BYTES(b1, b2, entries) (10u + 66u * ((b1) + (b2)) + 10u * (entries))
@@ -40,10 +41,10 @@ extern "C" {
 #define LIMGOSHI_PATCH_BYTES(changes, gone, news) (22u + 67u * (changes) + 9u * (gone) + 10u * (news))
 
 /* Bytes of stack that a call needs at most. Where memcpy, memmove and memset are bound lazily, the first call needs about 3,200 more. */
-#define LIMGOSHI_STACK_ADD 70000u   /* limgoshi_add */
+#define LIMGOSHI_STACK_ADD 75000u   /* limgoshi_add */
 #define LIMGOSHI_STACK_PATCH 10000u /* limgoshi_make_patch, limgoshi_apply_patch */
-#define LIMGOSHI_STACK_LOOKUP 500u  /* limgoshi_plane_lookup */
-#define LIMGOSHI_STACK 5000u        /* any other */
+#define LIMGOSHI_STACK_LOOKUP 500u  /* limgoshi_plane_lookup, limgoshi_plan_total */
+#define LIMGOSHI_STACK 8000u        /* any other */
 
 /* The causes in the order in which they are tested, but 9 last of all, each with what *value then is. */
 enum {
@@ -71,27 +72,33 @@ enum {
 #endif
 
 /* Opens an empty table with b1 and b2 buckets in a buffer of LIMGOSHI_TABLE_NUMBERS(b1, b2) numbers, whatever these were.
- * Value: 0. Causes: 3, 4 (for another length alone). Time: below 1 microsecond. Stack: LIMGOSHI_STACK. */
+ * Value: 0. Causes: 3, 4 (for another length alone). Time: 0.1 to 1 microseconds. Stack: LIMGOSHI_STACK. */
 LIMGOSHI_ANSWER limgoshi_open(uint64_t *table, size_t table_len, uint64_t b1, uint64_t b2, uint64_t *value);
 
 /* Adds an identifier with its plan.
- * Value: the number of live identifiers. Causes: 1, 2, 4, 5, 6, 8. Time: 8 to 200 microseconds. Stack: LIMGOSHI_STACK_ADD. */
+ * Value: the number of live identifiers. Causes: 1, 2, 4, 5, 6, 8. Time: 6 to 300 microseconds. Stack: LIMGOSHI_STACK_ADD. */
 LIMGOSHI_ANSWER limgoshi_add(uint64_t *table, size_t table_len, const uint8_t *id, size_t id_len, uint8_t plan, uint64_t *value);
 
 /* Changes the plan of a live identifier.
- * Value: the earlier plan. Causes: 1, 2, 4, 5, 7. Time: 8 to 200 microseconds. Stack: LIMGOSHI_STACK. */
+ * Value: the earlier plan. Causes: 1, 2, 4, 5, 7. Time: 6 to 300 microseconds. Stack: LIMGOSHI_STACK. */
 LIMGOSHI_ANSWER limgoshi_change(uint64_t *table, size_t table_len, const uint8_t *id, size_t id_len, uint8_t plan, uint64_t *value);
 
 /* Withdraws a live identifier.
- * Value: the earlier plan. Causes: 1, 2, 4, 5, 7. Time: 8 to 200 microseconds. Stack: LIMGOSHI_STACK. */
+ * Value: the earlier plan. Causes: 1, 2, 4, 5, 7. Time: 6 to 300 microseconds. Stack: LIMGOSHI_STACK. */
 LIMGOSHI_ANSWER limgoshi_withdraw(uint64_t *table, size_t table_len, const uint8_t *id, size_t id_len, uint64_t *value);
 
 /* Finds the plan of a live identifier.
- * Value: the plan. Causes: 1, 2, 4, 5, 7. Time: 8 to 200 microseconds. Stack: LIMGOSHI_STACK. */
+ * Value: the plan. Causes: 1, 2, 4, 5, 7. Time: 6 to 300 microseconds. Stack: LIMGOSHI_STACK. */
 LIMGOSHI_ANSWER limgoshi_query(const uint64_t *table, size_t table_len, const uint8_t *id, size_t id_len, uint64_t *value);
 
+/* Reads how many live identifiers have a plan, from the totals that the table keeps. Only the table's length and bucket numbers are tested: of a table
+ * that is not sound the answer is the number that stands there, right or wrong. To have the table tested, make any call that has cause 5, as
+ * limgoshi_query for an identifier, live or not.
+ * Value: the number of live identifiers with that plan. Causes: 4. Time: some nanoseconds. Stack: LIMGOSHI_STACK_LOOKUP. */
+LIMGOSHI_ANSWER limgoshi_plan_total(const uint64_t *table, size_t table_len, uint8_t plan, uint64_t *value);
+
 /* Writes the plane of a table to the front of out; what lies past it is untouched.
- * Value: the plane's length. Causes: 4, 5, 9. Time: 8 to 200 microseconds. Stack: LIMGOSHI_STACK. */
+ * Value: the plane's length. Causes: 4, 5, 9. Time: 6 to 300 microseconds. Stack: LIMGOSHI_STACK. */
 LIMGOSHI_ANSWER limgoshi_write_plane(const uint64_t *table, size_t table_len, uint8_t *out, size_t out_len, uint64_t *value);
 
 /* Finds the plan that a plane gives an identifier: for a live one its plan, for any other some number. The whole plane is checked at each call.

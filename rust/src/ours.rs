@@ -49,6 +49,7 @@ extern "C" {
         plan: u8,
         value: *mut u64,
     ) -> u64;
+    fn limgoshi_plan_total(t: *const u64, len: usize, plan: u8, value: *mut u64) -> u64;
     fn limgoshi_write_plane(
         t: *const u64,
         len: usize,
@@ -161,6 +162,10 @@ pub fn add(t: &mut [u64], id: &[u8], plan: u8) -> Answer {
     answered(|value| unsafe {
         limgoshi_add(t.as_mut_ptr(), t.len(), id.as_ptr(), id.len(), plan, value)
     })
+}
+
+pub fn plan_total(t: &[u64], plan: u8) -> Answer {
+    answered(|value| unsafe { limgoshi_plan_total(t.as_ptr(), t.len(), plan, value) })
 }
 
 pub fn lookup(id: &[u8], plane: &[u8]) -> Answer {

@@ -1,12 +1,16 @@
 //! The whole table as one slice of 64-bit numbers (document 01, "The whole
-//! table").
+//! table"; document 02, order 2).
 //!
 //! Decisions:
-//! - Every call but opening tests the whole table for causes 4 and 5 before
-//!   it looks for its word, as the order of the causes demands.
+//! - Every call but opening and the question for a plan's total tests the whole
+//!   table for causes 4 and 5 before it looks for its word, as the order of the
+//!   causes demands.
+//! - The question for a plan's total tests cause 4 alone and answers what the
+//!   table holds, sound or not, for every plan.
 //! - Opening meets 3 before 4: with bucket numbers out of range the length is
 //!   not looked at. Cause 4 returns the number of 64-bit numbers in the slice.
-//! - Solution words may be anything in a sound table; nothing limits them.
+//! - Solution words may be anything in a sound table, as long as the plans they
+//!   give to the occupied rows agree with the totals.
 //! - A bound of 0 with no occupied row is sound, as is any bound whose words
 //!   pass the three tests: bounds need not be the greatest possible.
 //! - w' = 0 is an ordinary base word; only the base count tells an entry from
@@ -24,12 +28,16 @@ pub const LEVEL2_MAX: u64 = 32;
 pub const BASE_MAX: usize = 64;
 pub const PLAN_MAX: u64 = 255;
 
-/// Where the header keeps what.
+/// What the leading numbers are.
 pub const BUCKETS1: usize = 0;
 pub const BUCKETS2: usize = 1;
 pub const BASE_COUNT: usize = 2;
 pub const LIVE_COUNT: usize = 3;
-pub const HEADER: usize = 4;
+pub const LEADING: usize = 4;
+
+/// After the leading numbers, for each plan: how many live words have it.
+pub const TOTALS: usize = PLAN_MAX as usize + 1;
+pub const HEADER: usize = LEADING + TOTALS;
 
 /// Numbers per bucket: columns, mark, solutions, bound.
 pub const BUCKET_LEN: usize = WIDTH + 1 + PLAN_BITS + 1;
@@ -53,7 +61,7 @@ pub enum Spot {
     Base,
 }
 
-/// Opens a table: all buckets and the base list empty.
+/// Opens a table: all totals 0, all buckets and the base list empty.
 pub fn open(table: &mut [u64], buckets1: u64, buckets2: u64) -> Answer {
     let Some(shape) = Shape::new(buckets1, buckets2) else {
         return Answer::refused(BUCKET_NUMBERS, 0);
@@ -102,6 +110,11 @@ pub fn query(table: &[u64], id: &[u8]) -> Answer {
     }
 }
 
+/// The number of live words with a plan, as the table has it: cause 4 alone.
+pub fn plan_total(table: &[u64], plan: u8) -> Answer {
+    Shape::of(table).map(|_| table[total_at(plan)]).into()
+}
+
 /// `add` from the word on: causes 4, 5, 6, 8.
 pub fn add_word(table: &mut [u64], word: u64, plan: u8) -> Answer {
     check(table)
@@ -132,7 +145,7 @@ pub fn query_word(table: &[u64], word: u64) -> Answer {
 
 /// Tests any slice: its shape if it is a sound table, else cause 4 or 5.
 pub fn check(table: &[u64]) -> Result<Shape, Answer> {
-    let shape = Shape::of(table).ok_or(Answer::refused(TABLE_LENGTH, table.len() as u64))?;
+    let shape = Shape::of(table)?;
     if shape.is_sound(table) {
         Ok(shape)
     } else {
@@ -147,13 +160,17 @@ impl Shape {
         in_range.then_some(Shape { buckets1, buckets2 })
     }
 
-    /// The shape the header gives, if it is in range and fits the length.
-    pub fn of(table: &[u64]) -> Option<Shape> {
-        if table.len() < HEADER {
-            return None;
+    /// The shape of any slice by its leading numbers, or cause 4: too short for
+    /// these, numbers out of range, or another length than they give.
+    pub fn of(table: &[u64]) -> Result<Shape, Answer> {
+        let wrong = Answer::refused(TABLE_LENGTH, table.len() as u64);
+        let leading = table.get(..LEADING).ok_or(wrong)?;
+        let shape = Shape::new(leading[BUCKETS1], leading[BUCKETS2]).ok_or(wrong)?;
+        if table.len() == shape.table_len() {
+            Ok(shape)
+        } else {
+            Err(wrong)
         }
-        let shape = Shape::new(table[BUCKETS1], table[BUCKETS2])?;
-        (table.len() == shape.table_len()).then_some(shape)
     }
 
     /// The number of buckets of both levels.
@@ -262,35 +279,55 @@ impl Shape {
             return false;
         }
         let mut live = base_count;
+        let mut totals = [0; TOTALS];
         for index in 0..self.buckets() {
             let bucket = self.read_bucket(table, index);
-            if bucket.bound > BOUND_MAX || !self.is_bucket_sound(table, index, &bucket) {
+            if bucket.bound > BOUND_MAX || !self.is_bucket_sound(table, index, &bucket, &mut totals)
+            {
                 return false;
             }
             live += u64::from(bucket.mark.count_ones());
         }
-        live == table[LIVE_COUNT] && self.is_base_sound(table, base_count as usize)
+        live == table[LIVE_COUNT]
+            && self.is_base_sound(table, base_count as usize, &mut totals)
+            && table[LEADING..HEADER] == totals
     }
 
     /// Columns invertible, free rows units, occupied rows where they belong.
-    fn is_bucket_sound(&self, table: &[u64], index: usize, bucket: &Bucket) -> bool {
+    /// The plans of the occupied rows are counted.
+    fn is_bucket_sound(
+        &self,
+        table: &[u64],
+        index: usize,
+        bucket: &Bucket,
+        totals: &mut [u64; TOTALS],
+    ) -> bool {
         let Some(rows) = bucket.rows() else {
             return false;
         };
-        rows.iter().enumerate().all(|(j, &row)| {
+        for (j, &row) in rows.iter().enumerate() {
             if bucket.mark >> j & 1 == 0 {
-                return row == 1 << j;
+                if row != 1 << j {
+                    return false;
+                }
+                continue;
             }
             let word = if index < self.buckets1 as usize {
                 row
             } else {
                 word_of_level2(row)
             };
-            self.bucket_index(self.spot(table, word)) == Some(index)
-        })
+            if self.bucket_index(self.spot(table, word)) != Some(index) {
+                return false;
+            }
+            totals[usize::from(bucket.lookup(row))] += 1;
+        }
+        true
     }
 
-    fn is_base_sound(&self, table: &[u64], count: usize) -> bool {
+    /// Base entries ascending and where they belong, their plans bytes, unused
+    /// pairs 0. The plans are counted.
+    fn is_base_sound(&self, table: &[u64], count: usize, totals: &mut [u64; TOTALS]) -> bool {
         let mut before = None;
         for index in 0..count {
             let (vector, plan) = self.base_pair(table, index);
@@ -300,6 +337,7 @@ impl Shape {
                 return false;
             }
             before = Some(vector);
+            totals[plan as usize] += 1;
         }
         (count..BASE_MAX).all(|index| self.base_pair(table, index) == (0, 0))
     }
@@ -339,7 +377,7 @@ impl Shape {
         let leaving = bucket.settle(vector, plan, threshold_of);
         if leaving.is_empty() {
             self.write_bucket(table, index, &bucket);
-            table[LIVE_COUNT] += 1;
+            count_in(table, plan);
             return Ok(table[LIVE_COUNT]);
         }
 
@@ -350,7 +388,7 @@ impl Shape {
         for left in leaving {
             self.add_level2(&mut draft, level2_vector(left.vector), left.plan)?;
         }
-        draft[LIVE_COUNT] += 1;
+        count_in(&mut draft, plan);
         table.copy_from_slice(&draft);
         Ok(table[LIVE_COUNT])
     }
@@ -387,20 +425,23 @@ impl Shape {
         let not_live = Answer::refused(WORD_NOT_LIVE, 0);
         let spot = self.spot(table, word);
         let vector = vector_at(spot, word);
-        match self.bucket_index(spot) {
+        let earlier = match self.bucket_index(spot) {
             Some(index) => {
                 let mut bucket = self.read_bucket(table, index);
                 let earlier = bucket.change(vector, plan).ok_or(not_live)?;
                 self.write_bucket(table, index, &bucket);
-                Ok(u64::from(earlier))
+                earlier
             }
             None => {
                 let index = self.find_base(table, vector).map_err(|_| not_live)?;
                 let (_, earlier) = self.base_pair(table, index);
                 self.set_base_pair(table, index, (vector, u64::from(plan)));
-                Ok(earlier)
+                earlier as u8
             }
-        }
+        };
+        table[total_at(earlier)] -= 1;
+        table[total_at(plan)] += 1;
+        Ok(u64::from(earlier))
     }
 
     /// The withdrawal of a word. The table must be sound.
@@ -413,17 +454,18 @@ impl Shape {
                 let mut bucket = self.read_bucket(table, index);
                 let plan = bucket.withdraw(vector).ok_or(not_live)?;
                 self.write_bucket(table, index, &bucket);
-                u64::from(plan)
+                plan
             }
             None => {
                 let index = self.find_base(table, vector).map_err(|_| not_live)?;
                 let (_, plan) = self.base_pair(table, index);
                 self.remove_base(table, index);
-                plan
+                plan as u8
             }
         };
         table[LIVE_COUNT] -= 1;
-        Ok(plan)
+        table[total_at(plan)] -= 1;
+        Ok(u64::from(plan))
     }
 
     fn remove_base(&self, table: &mut [u64], index: usize) {
@@ -457,6 +499,17 @@ impl Shape {
         }
         words
     }
+}
+
+/// Where the total of a plan is.
+fn total_at(plan: u8) -> usize {
+    LEADING + usize::from(plan)
+}
+
+/// Counts a word that was added with a plan.
+fn count_in(table: &mut [u64], plan: u8) {
+    table[LIVE_COUNT] += 1;
+    table[total_at(plan)] += 1;
 }
 
 /// The vector under which a word is held at a spot.

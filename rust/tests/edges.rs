@@ -30,8 +30,8 @@ fn identifiers_of_20_and_21_bytes() {
 
 #[test]
 fn openings() {
-    let mut table = vec![77; 4 + 74 * 80 + 128];
-    assert_eq!(table.len(), 6052);
+    let mut table = vec![77; 4 + 256 + 74 * 80 + 128];
+    assert_eq!(table.len(), 6308);
     for (b1, b2) in [
         (0, 1),
         (1, 0),
@@ -46,19 +46,19 @@ fn openings() {
         assert_eq!(table::open(&mut [], b1, b2), refused(3, 0));
     }
     for (b1, b2) in [(47, 32), (48, 31), (1, 1)] {
-        assert_eq!(table::open(&mut table, b1, b2), refused(4, 6052));
+        assert_eq!(table::open(&mut table, b1, b2), refused(4, 6308));
     }
     assert_eq!(table::open(&mut [], 1, 1), refused(4, 0));
     assert!(table.iter().all(|&n| n == 77));
     assert_eq!(table::open(&mut table, 48, 32), accepted(0));
     assert_eq!(table, ExactTable::open(48, 32).numbers());
 
-    let mut small = vec![u64::MAX; 280];
-    assert_eq!(table::open(&mut small[..279], 1, 1), refused(4, 279));
+    let mut small = vec![u64::MAX; 536];
+    assert_eq!(table::open(&mut small[..535], 1, 1), refused(4, 535));
     assert_eq!(table::open(&mut small, 1, 1), accepted(0));
     assert_eq!(small, ExactTable::open(1, 1).numbers());
     // The same length by other numbers of buckets.
-    let mut other = vec![5; 4 + 74 * 3 + 128];
+    let mut other = vec![5; 4 + 256 + 74 * 3 + 128];
     assert_eq!(table::open(&mut other, 1, 2), accepted(0));
     assert_eq!(other, ExactTable::open(1, 2).numbers());
     assert_eq!(table::open(&mut other, 2, 1), accepted(0));

@@ -17,10 +17,14 @@ fn opened(buckets1: u64, buckets2: u64) -> Vec<u64> {
     table
 }
 
-/// Answers, bounds, base list and live words against the plain map.
+/// Counts, totals, bounds, base list and live words against the plain map.
 fn compare(table: &[u64], slow: &SlowTable) {
     let shape = table::check(table).expect("a table of a history is sound");
     assert_eq!(table[3], slow.plans.len() as u64);
+    for plan in 0..=255 {
+        let value = slow.total(plan);
+        assert_eq!(table::plan_total(table, plan), Answer { cause: 0, value });
+    }
     for (index, &bound) in slow.bounds1.iter().chain(&slow.bounds2).enumerate() {
         assert_eq!(shape.bound(table, index), bound);
     }
@@ -305,7 +309,7 @@ fn identifiers() {
 fn greatest_table_until_full() {
     let mut rng = Rng::new(10);
     let mut table = opened(48, 32);
-    assert_eq!(table.len(), 6052);
+    assert_eq!(table.len(), 6308);
     let mut slow = SlowTable::open(48, 32);
     let shape = Shape::of(&table).unwrap();
     let mut refusals = 0;

@@ -1,9 +1,9 @@
-//! Soundness of any numbers: each rule broken alone, and random damage
-//! compared with the slow test.
+//! Soundness of any numbers: each rule broken alone, that of the totals in
+//! totals.rs, and random damage compared with the slow test.
 
 mod oracle;
 
-use oracle::ExactTable;
+use oracle::{mixed, ExactTable};
 use reference::answer::Answer;
 use reference::rng::Rng;
 use reference::table;
@@ -16,22 +16,6 @@ fn soundness(table: &[u64]) -> Answer {
         Ok(_) => ACCEPTED,
         Err(refusal) => refusal,
     }
-}
-
-/// A table with words at both levels and in the base list.
-fn mixed(rng: &mut Rng, buckets1: usize, buckets2: usize) -> Vec<u64> {
-    let mut exact = ExactTable::open(buckets1, buckets2);
-    for bucket in exact.level1.iter_mut().chain(&mut exact.level2) {
-        bucket.bound = 1 + rng.below(8);
-    }
-    exact.level1[0].bound = 4;
-    exact.level2[0].bound = 4;
-    for _ in 0..30 * buckets1 {
-        exact.add(rng.next(), rng.byte());
-    }
-    let table = exact.numbers();
-    assert!(table[2] > 1 && table[2] < 64);
-    table
 }
 
 #[test]
@@ -48,12 +32,16 @@ fn each_rule_alone() {
     let mut rng = Rng::new(12);
     let table = mixed(&mut rng, 2, 2);
     assert_eq!(soundness(&table), ACCEPTED);
-    let base = 4 + 4 * 74;
+    // 4 leading numbers and 256 totals.
+    let first = 260;
+    let base = first + 4 * 74;
     let count = table[2] as usize;
 
+    // The totals are made right again: they break no rule here.
     let broken = |change: &dyn Fn(&mut Vec<u64>)| {
         let mut other = table.clone();
         change(&mut other);
+        oracle::recount(&mut other);
         assert_eq!(soundness(&other), NOT_SOUND);
         assert_eq!(oracle::soundness(&other), NOT_SOUND);
         // All calls give it, and keep the table and the output.
@@ -64,6 +52,11 @@ fn each_rule_alone() {
         assert_eq!(table::withdraw(&mut other, b"x"), NOT_SOUND);
         assert_eq!(table::query(&other, b"x"), NOT_SOUND);
         assert_eq!(reference::plane::write(&other, &mut output), NOT_SOUND);
+        // A total is answered all the same.
+        for plan in [0, 12, 255] {
+            let value = other[4 + plan as usize];
+            assert_eq!(table::plan_total(&other, plan), Answer { cause: 0, value });
+        }
         assert_eq!(
             table::add(&mut other, b"", 1),
             Answer { cause: 1, value: 0 }
@@ -83,28 +76,30 @@ fn each_rule_alone() {
     broken(&|t| t[3] += 1);
     broken(&|t| t[3] = u64::MAX);
     // A bound over 8, also in an empty bucket's place.
-    broken(&|t| t[4 + 73] = 9);
-    broken(&|t| t[4 + 3 * 74 + 73] = u64::MAX);
+    broken(&|t| t[first + 73] = 9);
+    broken(&|t| t[first + 3 * 74 + 73] = u64::MAX);
     // Columns.
-    broken(&|t| t[4 + 5] = 0);
-    broken(&|t| t[4 + 3 * 74 + 5] = t[4 + 3 * 74 + 6]);
+    broken(&|t| t[first + 5] = 0);
+    broken(&|t| t[first + 3 * 74 + 5] = t[first + 3 * 74 + 6]);
     // A free row no unit: an occupied row unmarked (live count kept right).
     broken(&|t| {
-        t[4 + 64] &= t[4 + 64] - 1;
+        t[first + 64] &= t[first + 64] - 1;
         t[3] -= 1;
     });
     // A free row marked: it makes e_j live, which is sound exactly if e_j is
     // held in that bucket.
     let (mut held, mut strange) = (0, 0);
-    for j in (0..64).filter(|&j| table[4 + 64] >> j & 1 == 0) {
+    for j in (0..64).filter(|&j| table[first + 64] >> j & 1 == 0) {
         let marked = |t: &mut Vec<u64>| {
-            t[4 + 64] |= 1 << j;
+            t[first + 64] |= 1 << j;
             t[3] += 1;
         };
         let place = oracle::mix(1 << j);
         if place % 8 < 4 && (place / 8).is_multiple_of(2) {
             let mut other = table.clone();
             marked(&mut other);
+            assert_eq!(soundness(&other), NOT_SOUND);
+            oracle::recount(&mut other);
             assert_eq!(soundness(&other), ACCEPTED);
             assert_eq!(oracle::soundness(&other), ACCEPTED);
             held += 1;
@@ -115,14 +110,14 @@ fn each_rule_alone() {
     }
     assert!(held > 0 && strange > 0);
     // Words not held where the tests send them.
-    broken(&|t| t[4 + 73] = 0);
-    broken(&|t| t[4 + 73] = 8);
-    broken(&|t| t[4 + 2 * 74 + 73] = 0);
-    broken(&|t| t[4 + 2 * 74 + 73] = 8);
+    broken(&|t| t[first + 73] = 0);
+    broken(&|t| t[first + 73] = 8);
+    broken(&|t| t[first + 2 * 74 + 73] = 0);
+    broken(&|t| t[first + 2 * 74 + 73] = 8);
     // Buckets of one level exchanged.
     broken(&|t| {
         for i in 0..74 {
-            t.swap(4 + i, 4 + 74 + i);
+            t.swap(first + i, first + 74 + i);
         }
     });
     // Base order and doubles.
@@ -149,11 +144,14 @@ fn each_rule_alone() {
         t[3] += 1;
     });
 
-    // Solutions are free.
+    // Solutions are free, if the totals agree with them.
     let mut other = table.clone();
     for c in 0..8 {
-        other[4 + 65 + c] = rng.next();
+        other[first + 65 + c] = rng.next();
     }
+    assert_eq!(soundness(&other), NOT_SOUND);
+    assert_eq!(oracle::soundness(&other), NOT_SOUND);
+    oracle::recount(&mut other);
     assert_eq!(soundness(&other), ACCEPTED);
 }
 
@@ -173,6 +171,10 @@ fn lengths_and_bucket_numbers() {
         assert_eq!(table::withdraw(&mut other, b"x"), expected);
         assert_eq!(table::query(&other, b"x"), expected);
         assert_eq!(reference::plane::write(&other, &mut output), expected);
+        for plan in 0..=255 {
+            assert_eq!(table::plan_total(&other, plan), expected);
+            assert_eq!(oracle::plan_total(&other, plan), expected);
+        }
         assert_eq!(other, table);
         assert_eq!(output, [9; 200]);
     };
@@ -181,8 +183,11 @@ fn lengths_and_bucket_numbers() {
     }
     let mut table = ExactTable::open(1, 1).numbers();
     assert_eq!(soundness(&table), ACCEPTED);
-    four(&table[..279]);
+    four(&table[..535]);
+    four(&table[..260]);
     four(&table[..4]);
+    // The length without the totals.
+    four(&table[..280]);
     table.push(0);
     four(&table);
     table.pop();
@@ -202,7 +207,7 @@ fn lengths_and_bucket_numbers() {
     }
     // Numbers out of range with the length they would give.
     for (b1, b2) in [(49, 1), (1, 33)] {
-        let mut table = vec![0; 4 + 74 * (b1 + b2) + 128];
+        let mut table = vec![0; 4 + 256 + 74 * (b1 + b2) + 128];
         table[0] = b1 as u64;
         table[1] = b2 as u64;
         four(&table);
@@ -244,7 +249,8 @@ fn a_bound_of_zero_and_w2_of_zero() {
 #[test]
 fn random_damage() {
     let mut rng = Rng::new(13);
-    let mut sound = 0;
+    // As damaged, and with the totals made right again.
+    let mut sound = [0; 2];
     for (b1, b2) in [(1, 1), (1, 2), (2, 1)] {
         let table = mixed(&mut rng, b1, b2);
         assert_eq!(oracle::soundness(&table), ACCEPTED);
@@ -259,14 +265,20 @@ fn random_damage() {
                     _ => {
                         // Bounds and header more often than chance would.
                         let bucket = rng.below((b1 + b2) as u64) as usize;
-                        other[4 + 74 * bucket + 73] = rng.below(10);
+                        other[260 + 74 * bucket + 73] = rng.below(10);
                     }
                 }
             }
-            let expected = oracle::soundness(&other);
-            assert_eq!(soundness(&other), expected);
-            sound += u32::from(expected == ACCEPTED);
+            for count in &mut sound {
+                let expected = oracle::soundness(&other);
+                assert_eq!(soundness(&other), expected);
+                *count += u32::from(expected == ACCEPTED);
+                oracle::recount(&mut other);
+            }
         }
     }
-    assert!(sound > 40 && sound < 1000, "{sound}");
+    assert!(
+        20 < sound[0] && sound[0] + 20 < sound[1] && sound[1] < 1000,
+        "{sound:?}"
+    );
 }

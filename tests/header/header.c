@@ -15,9 +15,10 @@
 #define ROOM 7000 /* for lengths and bucket numbers out of range, whatever the header says of them */
 
 /* Smallest and largest. */
-static_assert(LIMGOSHI_TABLE_NUMBERS(1, 1) == 280 && LIMGOSHI_TABLE_NUMBERS(B1_MAX, B2_MAX) == 6052, "numbers of a table");
+static_assert(LIMGOSHI_TABLE_NUMBERS(1, 1) == 536 && LIMGOSHI_TABLE_NUMBERS(B1_MAX, B2_MAX) == 6308, "numbers of a table");
 static_assert(LIMGOSHI_PLANE_BYTES(1, 1, 0) == 142 && LIMGOSHI_PLANE_BYTES(B1_MAX, B2_MAX, LIMGOSHI_BASE_MAX) == 5930, "bytes of a plane");
 static_assert(LIMGOSHI_PATCH_BYTES(0, 0, 0) == 22 && LIMGOSHI_PATCH_BYTES(B1_MAX + B2_MAX, LIMGOSHI_BASE_MAX, LIMGOSHI_BASE_MAX) == 6598, "bytes of a patch");
+static_assert(LIMGOSHI_PLANS == UINT8_MAX + 1, "plans");
 static_assert(LIMGOSHI_PATCH_BYTES(1, 0, 0) == 89, "bytes of the patch of a changed plan");
 
 static uint64_t table[ROOM], table_before[ROOM];
@@ -26,7 +27,7 @@ static uint64_t value;
 static int failed, compared;
 
 /* The function that was called last, and the causes that each has given. */
-enum { OPEN, ADD, CHANGE, WITHDRAW, QUERY, WRITE_PLANE, PLANE_LOOKUP, MAKE_PATCH, APPLY_PATCH, FUNCTIONS };
+enum { OPEN, ADD, CHANGE, WITHDRAW, QUERY, PLAN_TOTAL, WRITE_PLANE, PLANE_LOOKUP, MAKE_PATCH, APPLY_PATCH, FUNCTIONS };
 enum { NUMBERS = 64 }; /* more than there are causes */
 static int called, given[FUNCTIONS][NUMBERS];
 #define limgoshi_open(...) (called = OPEN, limgoshi_open(__VA_ARGS__))
@@ -34,6 +35,7 @@ static int called, given[FUNCTIONS][NUMBERS];
 #define limgoshi_change(...) (called = CHANGE, limgoshi_change(__VA_ARGS__))
 #define limgoshi_withdraw(...) (called = WITHDRAW, limgoshi_withdraw(__VA_ARGS__))
 #define limgoshi_query(...) (called = QUERY, limgoshi_query(__VA_ARGS__))
+#define limgoshi_plan_total(...) (called = PLAN_TOTAL, limgoshi_plan_total(__VA_ARGS__))
 #define limgoshi_write_plane(...) (called = WRITE_PLANE, limgoshi_write_plane(__VA_ARGS__))
 #define limgoshi_plane_lookup(...) (called = PLANE_LOOKUP, limgoshi_plane_lookup(__VA_ARGS__))
 #define limgoshi_make_patch(...) (called = MAKE_PATCH, limgoshi_make_patch(__VA_ARGS__))
@@ -121,7 +123,7 @@ static size_t make_plane(uint8_t to[ROOM], unsigned b1, unsigned b2, unsigned en
 }
 
 /* Every pair of bucket numbers and those next to the range: a table of the right length, one more, one less; an output of the right length, one less,
- * longer. */
+ * longer; the totals of the first plan and the last. */
 static void openings(void)
 {
     for (unsigned b1 = 0; b1 <= B1_MAX + 1; b1++) {
@@ -130,11 +132,18 @@ static void openings(void)
             size_t length = LIMGOSHI_PLANE_BYTES(b1, b2, 0);
             if (b1 < 1 || b1 > B1_MAX || b2 < 1 || b2 > B2_MAX) {
                 ANSWERS(limgoshi_open(table, n, b1, b2, &value), LIMGOSHI_WRONG_BUCKETS, 0);
+                table[0] = b1;
+                table[1] = b2;
+                ANSWERS(limgoshi_plan_total(table, n, 0, &value), LIMGOSHI_WRONG_TABLE, n);
                 continue;
             }
             ANSWERS(limgoshi_open(table, n - 1, b1, b2, &value), LIMGOSHI_WRONG_TABLE, n - 1);
             ANSWERS(limgoshi_open(table, n + 1, b1, b2, &value), LIMGOSHI_WRONG_TABLE, n + 1);
             ANSWERS(limgoshi_open(table, n, b1, b2, &value), LIMGOSHI_ACCEPTED, 0);
+            ANSWERS(limgoshi_plan_total(table, n - 1, 0, &value), LIMGOSHI_WRONG_TABLE, n - 1);
+            ANSWERS(limgoshi_plan_total(table, n + 1, 0, &value), LIMGOSHI_WRONG_TABLE, n + 1);
+            ANSWERS(limgoshi_plan_total(table, n, 0, &value), LIMGOSHI_ACCEPTED, 0);
+            ANSWERS(limgoshi_plan_total(table, n, UINT8_MAX, &value), LIMGOSHI_ACCEPTED, 0);
             ANSWERS(limgoshi_write_plane(table, n, out, length - 1, &value), LIMGOSHI_SHORT_OUTPUT, length);
             ANSWERS(limgoshi_write_plane(table, n, out, length, &value), LIMGOSHI_ACCEPTED, length);
             memset(out, 0xA5, sizeof out);
@@ -142,7 +151,7 @@ static void openings(void)
             HOLDS(memcmp(out + length, out_before + length, sizeof out - length) == 0);
         }
     }
-    ANSWERS(limgoshi_open(table, 280, UINT64_MAX, 1, &value), LIMGOSHI_WRONG_BUCKETS, 0);
+    ANSWERS(limgoshi_open(table, 536, UINT64_MAX, 1, &value), LIMGOSHI_WRONG_BUCKETS, 0);
     ANSWERS(limgoshi_open(table, 0, 1, 0, &value), LIMGOSHI_WRONG_BUCKETS, 0); /* 3 is tested before 4 */
 }
 
@@ -210,6 +219,9 @@ static void order(void)
         ANSWERS(table_call(which, table, n, bytes("bus-17"), 6), LIMGOSHI_NOT_SOUND, 0);
         ANSWERS(table_call(which, table, n, bytes("bus-99"), 6), LIMGOSHI_NOT_SOUND, 0);
         table[3]--;
+        table[4 + 8]++; /* total of the plan 8 */
+        ANSWERS(table_call(which, table, n, bytes("bus-17"), 6), LIMGOSHI_NOT_SOUND, 0);
+        table[4 + 8]--;
         table[0] = B1_MAX + 1; /* buckets of level 1 */
         n = LIMGOSHI_TABLE_NUMBERS(B1_MAX + 1, 2);
         ANSWERS(table_call(which, table, n, bytes("bus-17"), 6), LIMGOSHI_WRONG_TABLE, n);
@@ -217,10 +229,18 @@ static void order(void)
         n = LIMGOSHI_TABLE_NUMBERS(3, 2);
     }
     ANSWERS(limgoshi_write_plane(table, n - 1, out, 0, &value), LIMGOSHI_WRONG_TABLE, n - 1);
+    for (size_t k = 0; k < 5; k++)
+        ANSWERS(limgoshi_plan_total(table, k, 8, &value), LIMGOSHI_WRONG_TABLE, k);
     table[3]++;
     ANSWERS(limgoshi_write_plane(table, n, out, 0, &value), LIMGOSHI_NOT_SOUND, 0);
     ANSWERS(limgoshi_write_plane(table, n + 1, out, 0, &value), LIMGOSHI_WRONG_TABLE, n + 1);
+    ANSWERS(limgoshi_plan_total(table, n, 8, &value), LIMGOSHI_ACCEPTED, 1); /* sound or not */
+    ANSWERS(limgoshi_plan_total(table, n + 1, 8, &value), LIMGOSHI_WRONG_TABLE, n + 1);
     table[3]--;
+    table[4 + 8]++;
+    ANSWERS(limgoshi_write_plane(table, n, out, 0, &value), LIMGOSHI_NOT_SOUND, 0);
+    ANSWERS(limgoshi_plan_total(table, n, 8, &value), LIMGOSHI_ACCEPTED, 2);
+    table[4 + 8]--;
     out[0] = 9;
     ANSWERS(limgoshi_plane_lookup(bytes("bus-17-bus-17-bus-17/"), 21, out, 142, &value), LIMGOSHI_WRONG_LENGTH, 21);
     ANSWERS(limgoshi_plane_lookup(bytes("bus-17/"), 7, out, 142, &value), LIMGOSHI_WRONG_BYTE, 6);
@@ -238,6 +258,7 @@ static void nulls(void)
         ANSWERS(table_call(which, table, n, NULL, 0), LIMGOSHI_WRONG_LENGTH, 0);
         ANSWERS(table_call(which, NULL, 0, NULL, 0), LIMGOSHI_WRONG_LENGTH, 0);
     }
+    ANSWERS(limgoshi_plan_total(NULL, 0, 8, &value), LIMGOSHI_WRONG_TABLE, 0);
     ANSWERS(limgoshi_write_plane(NULL, 0, out, sizeof out, &value), LIMGOSHI_WRONG_TABLE, 0);
     ANSWERS(limgoshi_write_plane(table, n, NULL, 0, &value), LIMGOSHI_SHORT_OUTPUT, length);
     ANSWERS(limgoshi_write_plane(NULL, 0, NULL, 0, &value), LIMGOSHI_WRONG_TABLE, 0);
@@ -274,7 +295,7 @@ static void planes(void)
         plane(1, 1, entries);
         plane(B1_MAX, B2_MAX, entries);
     }
-    HOLDS(2 * LIMGOSHI_TABLE_NUMBERS(0 | 1, 0 | 1) == 560 && 2 * LIMGOSHI_PLANE_BYTES(0 | 1, 0 | 1, 1 - 1) == 284); /* brackets */
+    HOLDS(2 * LIMGOSHI_TABLE_NUMBERS(0 | 1, 0 | 1) == 1072 && 2 * LIMGOSHI_PLANE_BYTES(0 | 1, 0 | 1, 1 - 1) == 284); /* brackets */
     make_plane(out, 1, 1, 2);
     out[5 + 66 + 1] = 9; /* the second bucket's bound */
     ANSWERS(limgoshi_plane_lookup(bytes("bus-17"), 6, out, LIMGOSHI_PLANE_BYTES(1, 1, 2), &value), LIMGOSHI_WRONG_PLANE, 5 + 66);
@@ -512,10 +533,83 @@ static void full(void)
         restored[i]++;
         before();
         uint64_t answer = limgoshi_query(restored, n, bytes(card(0)), 6, &value);
+        HOLDS(i < 3 || i >= 4 + LIMGOSHI_PLANS || answer == LIMGOSHI_NOT_SOUND); /* live count, totals */
         HOLDS(answer == LIMGOSHI_ACCEPTED || answer == LIMGOSHI_WRONG_TABLE || answer == LIMGOSHI_NOT_SOUND || answer == LIMGOSHI_NOT_LIVE);
-        HOLDS(value == (answer == LIMGOSHI_WRONG_TABLE ? n : answer == LIMGOSHI_ACCEPTED ? value : 0) && value < 281);
+        HOLDS(value == (answer == LIMGOSHI_WRONG_TABLE ? n : answer == LIMGOSHI_ACCEPTED ? value : 0) && value < 537);
         restored[i]--;
     }
+}
+
+/* The identifiers live with each plan, counted beside the table. */
+static unsigned heads[UINT8_MAX + 1];
+
+static void total(size_t n, uint8_t plan) { ANSWERS(limgoshi_plan_total(table, n, plan, &value), LIMGOSHI_ACCEPTED, heads[plan]); }
+static void every_total(size_t n)
+{
+    uint64_t sum = 0;
+    for (unsigned plan = 0; plan < LIMGOSHI_PLANS; plan++) {
+        total(n, (uint8_t)plan);
+        sum += value;
+    }
+    HOLDS(sum == table[3]);
+}
+
+/* The totals of a table that is filled until it is full, whose plans are all changed and whose cards are all withdrawn: after each call those of the
+ * plans concerned, then of all plans. Between, each total is made wrong, alone and with the next one so that their sum stays: the table is not sound
+ * then, and the total is read all the same. */
+static void totals(void)
+{
+    enum { TRIED = 220 };
+    static unsigned live[TRIED];
+    unsigned count = 0, full = 0;
+    size_t n = LIMGOSHI_TABLE_NUMBERS(1, 1);
+    ANSWERS(limgoshi_open(table, n, 1, 1, &value), LIMGOSHI_ACCEPTED, 0);
+    every_total(n);
+    for (unsigned i = 0; i < TRIED; i++) {
+        uint8_t plan = (uint8_t)(i % 6 * 51); /* 0 to 255 */
+        before();
+        uint64_t answer = limgoshi_add(table, n, bytes(card(i)), strlen(card(i)), plan, &value);
+        live[i] = answer != LIMGOSHI_FULL;
+        count += live[i];
+        full += !live[i];
+        heads[plan] += live[i];
+        after(__LINE__, "limgoshi_add", answer, live[i] ? LIMGOSHI_ACCEPTED : LIMGOSHI_FULL, live[i] ? count : 0);
+        total(n, plan);
+    }
+    HOLDS(count > 128 && full > 0);
+    every_total(n);
+    for (unsigned i = 0; i < TRIED; i++) {
+        uint8_t earlier = (uint8_t)(i % 6 * 51), plan = (uint8_t)(i % 4 * 85); /* the same for some */
+        heads[earlier] -= live[i];
+        heads[plan] += live[i];
+        ANSWERS(limgoshi_change(table, n, bytes(card(i)), strlen(card(i)), plan, &value), live[i] ? LIMGOSHI_ACCEPTED : LIMGOSHI_NOT_LIVE, live[i] ? earlier : 0);
+        total(n, earlier);
+        total(n, plan);
+    }
+    every_total(n);
+    for (unsigned plan = 0; plan < LIMGOSHI_PLANS; plan++) {
+        static const uint64_t off[] = {1, UINT64_MAX, (uint64_t)1 << 32}; /* one more, one less, alike in 32 bits */
+        for (size_t k = 0; k < sizeof off / sizeof *off; k++) {
+            uint64_t *held = table + 4 + plan, right = *held;
+            *held += off[k];
+            ANSWERS(limgoshi_query(table, n, bytes(card(0)), 6, &value), LIMGOSHI_NOT_SOUND, 0);
+            ANSWERS(limgoshi_plan_total(table, n, (uint8_t)plan, &value), LIMGOSHI_ACCEPTED, right + off[k]);
+            if (plan < UINT8_MAX) {
+                held[1] -= off[k];
+                ANSWERS(limgoshi_query(table, n, bytes(card(0)), 6, &value), LIMGOSHI_NOT_SOUND, 0);
+                held[1] += off[k];
+            }
+            *held = right;
+        }
+    }
+    for (unsigned i = 0; i < TRIED; i++) {
+        uint8_t plan = (uint8_t)(i % 4 * 85);
+        heads[plan] -= live[i];
+        ANSWERS(limgoshi_withdraw(table, n, bytes(card(i)), strlen(card(i)), &value), live[i] ? LIMGOSHI_ACCEPTED : LIMGOSHI_NOT_LIVE, live[i] ? plan : 0);
+        total(n, plan);
+    }
+    HOLDS(table[3] == 0);
+    every_total(n);
 }
 
 /* The patch of each changed plan, in a bucket or in the base list, and of a plan that is set again. The table is that of `full`. */
@@ -563,7 +657,8 @@ int main(void)
     patch_order();
     full();
     plans();
-    static const char *const names[FUNCTIONS] = {"open", "add", "change", "withdraw", "query", "write_plane", "plane_lookup", "make_patch", "apply_patch"};
+    totals();
+    static const char *const names[FUNCTIONS] = {"open", "add", "change", "withdraw", "query", "plan_total", "write_plane", "plane_lookup", "make_patch", "apply_patch"};
     for (int f = 0; f < FUNCTIONS; f++) {
         printf("limgoshi_%s", names[f]);
         for (int cause = 1; cause < NUMBERS; cause++)

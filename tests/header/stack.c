@@ -14,11 +14,23 @@
 #define B2_MAX LIMGOSHI_BUCKETS2_MAX
 #define STACK_BYTES (256u * 1024u)
 #define CARDS 6000u
-#define CALLS 9u
 
-static const char *const names[CALLS] = {"open", "add", "change", "withdraw", "query", "write_plane", "plane_lookup", "make_patch", "apply_patch"};
-static const size_t bounds[CALLS] = {LIMGOSHI_STACK, LIMGOSHI_STACK_ADD,    LIMGOSHI_STACK,       LIMGOSHI_STACK,      LIMGOSHI_STACK,
-                                     LIMGOSHI_STACK, LIMGOSHI_STACK_LOOKUP, LIMGOSHI_STACK_PATCH, LIMGOSHI_STACK_PATCH};
+enum { OPEN, ADD, CHANGE, WITHDRAW, QUERY, PLAN_TOTAL, WRITE_PLANE, PLANE_LOOKUP, MAKE_PATCH, APPLY_PATCH, CALLS };
+static const struct {
+    const char *name;
+    size_t bound;
+} stated[CALLS] = {
+    {"open", LIMGOSHI_STACK},
+    {"add", LIMGOSHI_STACK_ADD},
+    {"change", LIMGOSHI_STACK},
+    {"withdraw", LIMGOSHI_STACK},
+    {"query", LIMGOSHI_STACK},
+    {"plan_total", LIMGOSHI_STACK_LOOKUP},
+    {"write_plane", LIMGOSHI_STACK},
+    {"plane_lookup", LIMGOSHI_STACK_LOOKUP},
+    {"make_patch", LIMGOSHI_STACK_PATCH},
+    {"apply_patch", LIMGOSHI_STACK_PATCH},
+};
 
 /* What a call is made with, and what it answers. */
 static uint64_t table[LIMGOSHI_TABLE_NUMBERS(B1_MAX, B2_MAX)];
@@ -42,14 +54,15 @@ static void make_call(int which)
     const uint8_t *bytes = (const uint8_t *)id;
     start = __builtin_frame_address(0);
     switch (which) {
-    case 0: cause = limgoshi_open(table, numbers, b1, b2, &value); break;
-    case 1: cause = limgoshi_add(table, numbers, bytes, id_length, plan, &value); break;
-    case 2: cause = limgoshi_change(table, numbers, bytes, id_length, plan, &value); break;
-    case 3: cause = limgoshi_withdraw(table, numbers, bytes, id_length, &value); break;
-    case 4: cause = limgoshi_query(table, numbers, bytes, id_length, &value); break;
-    case 5: cause = limgoshi_write_plane(table, numbers, plane, sizeof plane, &value); break;
-    case 6: cause = limgoshi_plane_lookup(bytes, id_length, plane, plane_length, &value); break;
-    case 7: cause = limgoshi_make_patch(old_plane, old_length, plane, plane_length, patch, room, &value); break;
+    case OPEN: cause = limgoshi_open(table, numbers, b1, b2, &value); break;
+    case ADD: cause = limgoshi_add(table, numbers, bytes, id_length, plan, &value); break;
+    case CHANGE: cause = limgoshi_change(table, numbers, bytes, id_length, plan, &value); break;
+    case WITHDRAW: cause = limgoshi_withdraw(table, numbers, bytes, id_length, &value); break;
+    case QUERY: cause = limgoshi_query(table, numbers, bytes, id_length, &value); break;
+    case PLAN_TOTAL: cause = limgoshi_plan_total(table, numbers, plan, &value); break;
+    case WRITE_PLANE: cause = limgoshi_write_plane(table, numbers, plane, sizeof plane, &value); break;
+    case PLANE_LOOKUP: cause = limgoshi_plane_lookup(bytes, id_length, plane, plane_length, &value); break;
+    case MAKE_PATCH: cause = limgoshi_make_patch(old_plane, old_length, plane, plane_length, patch, room, &value); break;
     default: cause = limgoshi_apply_patch(old_plane, old_length, patch, patch_length, new_plane, room, &value);
     }
 }
@@ -98,38 +111,38 @@ static void exchange(void)
 static void patches(unsigned char paint)
 {
     room = sizeof patch;
-    call(7);
+    call(MAKE_PATCH);
     patch_length = (size_t)value;
     room = 0;
-    call(7);
+    call(MAKE_PATCH);
     old_length--;
-    call(7);
+    call(MAKE_PATCH);
     old_length++;
     plane[2] = (uint8_t)b2; /* other bucket numbers */
     plane[3] = (uint8_t)b1;
-    call(7);
+    call(MAKE_PATCH);
     plane[2] = (uint8_t)b1;
     plane[3] = (uint8_t)b2;
-    note(7, paint);
+    note(MAKE_PATCH, paint);
     room = sizeof new_plane;
-    call(8);
+    call(APPLY_PATCH);
     if (cause != LIMGOSHI_ACCEPTED || value != plane_length || memcmp(new_plane, plane, plane_length) != 0) {
         printf("stack: a patch was not applied\n");
         status = 1;
     }
     old_length--;
-    call(8);
+    call(APPLY_PATCH);
     old_length++;
     for (size_t i = 0; i < patch_length; i++) {
         patch[i] ^= 0x80;
-        call(8);
+        call(APPLY_PATCH);
         patch[i] ^= 0x80;
     }
     room = 0;
-    call(8);
+    call(APPLY_PATCH);
     for (; patch_length > 0; patch_length--)
-        call(8);
-    note(8, paint);
+        call(APPLY_PATCH);
+    note(APPLY_PATCH, paint);
 }
 
 /* Every call on every card of a table that is filled until it is full, and on what it leaves; then calls that are turned down. */
@@ -140,27 +153,27 @@ static void fill(uint64_t n1, uint64_t n2, unsigned char paint)
     b2 = n2;
     numbers = LIMGOSHI_TABLE_NUMBERS(n1, n2);
     memset(stack, paint, sizeof stack);
-    call(0);
-    note(0, paint);
-    call(5);
+    call(OPEN);
+    note(OPEN, paint);
+    call(WRITE_PLANE);
     old_length = (size_t)value;
     memcpy(old_plane, plane, old_length);
-    note(5, paint);
+    note(WRITE_PLANE, paint);
     unsigned cards = 0;
     for (; cards < CARDS && full < 20; cards++) {
         set_card(cards);
-        call(1);
+        call(ADD);
         full += cause == LIMGOSHI_FULL;
     }
-    note(1, paint);
-    call(5);
+    note(ADD, paint);
+    call(WRITE_PLANE);
     plane_length = (size_t)value;
-    note(5, paint);
+    note(WRITE_PLANE, paint);
     patches(paint);
     exchange();
     patches(paint);
     exchange();
-    static const int asked[] = {6, 4, 2, 3};
+    static const int asked[] = {PLANE_LOOKUP, QUERY, PLAN_TOTAL, CHANGE, WITHDRAW};
     for (size_t k = 0; k < sizeof asked / sizeof *asked; k++) {
         for (unsigned i = 0; i < cards; i += cards / 200 + 1) {
             set_card(i);
@@ -168,11 +181,14 @@ static void fill(uint64_t n1, uint64_t n2, unsigned char paint)
         }
         note(asked[k], paint);
     }
-    for (int which = 0; which < (int)CALLS; which++) {
+    for (int which = 0; which < CALLS; which++) {
         set_card(0);
-        table[4] ^= 1; /* a column of the first bucket: not sound */
+        table[4] ^= 1; /* a total: not sound */
         call(which);
         table[4] ^= 1;
+        table[4 + LIMGOSHI_PLANS] ^= 1; /* a column of the first bucket: not sound */
+        call(which);
+        table[4 + LIMGOSHI_PLANS] ^= 1;
         id[0] = '/';
         call(which);
         id_length = 0;
@@ -196,8 +212,8 @@ int main(void)
     fill(12, 8, 0x5A);
     fill(B1_MAX, B2_MAX, 0xA5);
     for (size_t k = 0; k < CALLS; k++) {
-        printf("stack: %-12s %6zu bytes, at most %6zu\n", names[k], used[k], bounds[k]);
-        if (used[k] == 0 || used[k] > bounds[k])
+        printf("stack: %-12s %6zu bytes, at most %6zu\n", stated[k].name, used[k], stated[k].bound);
+        if (used[k] == 0 || used[k] > stated[k].bound)
             status = 1;
     }
     return status;

@@ -6,7 +6,7 @@ use native.Mathlib.Numerals.{add-one}
 use native.Mathlib.Omega.{arith}
 use mathlib.Core.Path.{_≡_, refl, sym, ap, _∙_}
 use mathlib.Core.Bool.{Bool, true, false, true≢false}
-use mathlib.Core.List.{List, [], _∷_, map, Sublistᴰ, Sublistᴰ·slnil, Sublistᴰ·cons, Sublistᴰ·cons-cons}
+use mathlib.Core.List.{List, [], _∷_, map}
 use lib.Dec.{eqb}
 use lib.ListN.{length, getD, take, drop, length-map, length-drop, drop-of-length-le}
 use lib.Seq.{drop-cons}
@@ -14,7 +14,7 @@ use Rattle.lists.specs.Lists.{keep}
 use Rattle.lists.specs.Entries.{Entry}
 use Rattle.lists.proofs.Tests.{by-test}
 use Rattle.lists.proofs.Parts.{first-next, first-past}
-use Rattle.lists.proofs.Keep.{length-sub}
+use Rattle.lists.proofs.Keep.{keep-within, length-sub}
 use Rattle.lists.proofs.Sorts.{sort-length}
 use Rattle.gf2.specs.Select.{putIf, chosen}
 use Rattle.gf2.proofs.Chosen.{chosen-length}
@@ -25,12 +25,6 @@ use Rattle.bucket_settle.specs.Settle.{withdrawAll}
 use Rattle.bucket_settle.specs.Outgoing.{outgoing}
 use Rattle.bucket_settle.specs.Steps.{inserted, leaves, leavingOf}
 use Rattle.bucket_settle.proofs.Arrays.{count-of, insert-law}
-
--- ---- how many
-
-pub keep-within : {A : Type 0} (p : A → Bool) (xs : List A) → Sublistᴰ (keep p xs) xs
-keep-within p [] = Sublistᴰ·slnil
-keep-within p (x ∷ xs) = by-test (λ l. Sublistᴰ l (x ∷ xs)) (p x) (λ t. Sublistᴰ·cons-cons refl (keep-within p xs)) (λ f. Sublistᴰ·cons (keep-within p xs))
 
 -- ---- row by row
 

@@ -11,7 +11,7 @@ use Rattle.lists.specs.Lists.{keep}
 use Rattle.lists.specs.Entries.{Entry, words, Distinct, Ascending}
 use Rattle.lists.proofs.Tests.{cases, by-test, and-l, and-r, T→true, nT→false, true→T, false→T}
 use Rattle.lists.proofs.Keep.{keep-perm, keep-part, perm-length}
-use Rattle.lists.proofs.Entries.{sub-ascending}
+use Rattle.lists.proofs.Entries.{keep-ascending}
 use Rattle.lists.proofs.Sorts.{sort-order, sort-same, ascending-distinct}
 use Rattle.gf2.specs.Select.{elem, sums, indep, chosen}
 use Rattle.gf2.specs.Bound.{Free, boundOf}
@@ -30,7 +30,6 @@ use Rattle.bucket_rows.proofs.Exact.{found-is}
 use Rattle.bucket_settle.specs.Settle.{SoundBucket, listed, contents, leaving, lowered, Settlement, ahead, settle}
 use Rattle.bucket_settle.specs.Steps.{leavingOf}
 use Rattle.bucket_settle.proofs.Hold.{Holds, holds-perm, fresh}
-use Rattle.bucket_settle.proofs.Leave.{keep-within}
 use Rattle.bucket_settle.proofs.Fall.{rows-of, rows-ascending, holds-lowered, held, over, seen, under-held, settle-law}
 
 -- ---- a sound bucket holds its rows
@@ -76,7 +75,7 @@ module _ {n r : ℕ} {b : Bucket} (thr : ℕ → ℕ) (t : ℕ) (h : SoundBucket
   leaving-rows : leavingOf thr t b (chosen (b .mark) (h .matrix)) ≡ leaving n thr t b
   unfolding leavingOf
   leaving-rows =
-      let up : Ascending (leaving n thr t b) = sub-ascending (keep-within (λ e. eqb (thr (e .word)) t) (contents n b)) (rows-ascending n b) in
+      let up : Ascending (leaving n thr t b) = keep-ascending (λ e. eqb (thr (e .word)) t) (contents n b) (rows-ascending n b) in
       let apart : Distinct (leaving n thr t b) = ascending-distinct (leaving n thr t b) up in
       sym (sort-order (keep-perm (λ e. eqb (thr (e .word)) t) (rows-of (sound-listed h))) apart) ∙ sort-same (leaving n thr t b) up apart
 

@@ -1,21 +1,23 @@
 -- The chosen rows: a row more, a row less, and a member by its row.
 -- Assumes nothing.
-use mathlib.Core.Path.{_≡_, refl, sym, ap, _∙_, subst, subst₂}
+use mathlib.Core.Path.{_≡_, refl, sym, ap, ap₂, _∙_, subst, subst₂}
 use mathlib.Core.Logic.{⊎-elim}
 use mathlib.Core.List.{List, [], _∷_, Sublistᴰ, Sublistᴰ·slnil, Sublistᴰ·cons, Sublistᴰ·cons-cons, List·Permᴰ, Permᴰ·refl, List·Permᴰ·cons, List·Permᴰ·swap, List·Permᴰ·trans}
-use Prim.Native.Nat.{ℕ, zero, suc, _/_, _%_, _^_, _≤_, _<_}
+use Prim.Native.Nat.{ℕ, zero, suc, _-_, _/_, _%_, _^_, _≤_, _<_}
 use native.Mathlib.Nat.{zero-lt-suc, not-suc-le-zero, le-of-suc-le-suc}
 use native.Mathlib.Omega.{arith}
-use lib.Bits.{bitOr, or-zero-r}
+use lib.Bits.{bitXor, bitAnd, bitOr, or-zero-r, differ, xor-zero-r}
+use lib.Count.{trailingZeros}
 use lib.Dec.{T, eqb, eqb→eq, eqb-refl}
 use lib.ListN.{length, getD, set, length-set}
 use lib.Seq.{set-set, set-getD}
 use Rattle.gf2.specs.Vectors.{outside, bit}
 use Rattle.gf2.specs.Select.{elem, putIf, chosen}
-use Rattle.gf2.proofs.Bit.{low2, bit-low, bit-suc, half-pow, even-pow, bit-pow-same}
+use Rattle.gf2.proofs.Bit.{low2, bit-low, bit-suc, xor-low, xor-half, half-pow, even-pow, differ-zero, bit-pow-same}
 use Rattle.lists.proofs.Tests.{or-l, or-r, or-cases}
 use Rattle.lists.proofs.Keep.{length-sub}
-use Rattle.gf2.proofs.Lowest.{or-low, or-half, bit-outside, or-outside}
+use Rattle.gf2.proofs.Lowest.{or-low, or-half, bit-outside, or-outside, tz-lt, tz-bit, tz-low}
+use Rattle.gf2.proofs.Loops.{without-lt, low-off}
 
 -- ---- how many
 
@@ -33,6 +35,33 @@ chosen-sub m (r ∷ rs) = go (m % 2) (chosen-sub (m / 2) rs)
 
 pub chosen-length : (m : ℕ) (rs : List ℕ) → length (chosen m rs) ≤ length rs
 chosen-length m rs = length-sub (chosen-sub m rs)
+
+-- ---- row by row, the lowest first
+
+chosen-at : (rs : List ℕ) (a d : ℕ) → a < length rs → bit a d ≡ 1 → ((j : ℕ) → j < a → bit j d ≡ 0) → chosen d rs ≡ getD rs a 0 ∷ chosen (bitXor d (2 ^ a)) rs
+chosen-at [] a d h e f = absurd (not-suc-le-zero h)
+chosen-at (x ∷ rs) zero d h e f =
+    let o : d % 2 ≡ 1 = sym (bit-low d) ∙ e in
+    let z : bitXor d 1 % 2 ≡ 0 = xor-low d 1 ∙ ap (λ (y : ℕ). differ y 1) o in
+    let g : bitXor d 1 / 2 ≡ d / 2 = xor-half d 1 ∙ xor-zero-r (d / 2) in
+    ap (λ (k : ℕ). putIf k x (chosen (d / 2) rs)) o ∙ ap {B = List ℕ} (λ l. x ∷ l) (sym (ap₂ (λ (k j : ℕ). putIf k x (chosen j rs)) z g))
+chosen-at (x ∷ rs) (suc a) d h e f =
+    let o : d % 2 ≡ 0 = sym (bit-low d) ∙ f 0 (omega arith) in
+    let z : bitXor d (2 ^ suc a) % 2 ≡ 0 = xor-low d (2 ^ suc a) ∙ ap (differ (d % 2)) (even-pow a) ∙ differ-zero (d % 2) ∙ o in
+    let g : bitXor d (2 ^ suc a) / 2 ≡ bitXor (d / 2) (2 ^ a) = xor-half d (2 ^ suc a) ∙ ap (bitXor (d / 2)) (half-pow a) in
+    ap (λ (k : ℕ). putIf k x (chosen (d / 2) rs)) o
+    ∙ chosen-at rs a (d / 2) (le-of-suc-le-suc h) (sym (bit-suc a d) ∙ e) (λ j l. sym (bit-suc j d) ∙ f (suc j) (omega arith))
+    ∙ ap {B = List ℕ} (λ l. getD rs a 0 ∷ l) (sym (ap₂ (λ (k j : ℕ). putIf k x (chosen j rs)) z g))
+
+-- the row of the lowest bit, then the others
+pub chosen-low : (n d : ℕ) (rs : List ℕ) → length rs ≡ n → d < 2 ^ n → (d ≡ 0 → ⊥) → chosen d rs ≡ getD rs (trailingZeros n d) 0 ∷ chosen (bitAnd d (d - 1)) rs
+chosen-low n d rs h hd ne =
+    let l : trailingZeros n d < n = tz-lt n d hd ne in
+    rw (low-off n d hd ne) (chosen-at rs (trailingZeros n d) d (omega arith) (tz-bit n d l) (λ j. tz-low n d j))
+
+-- a word without its lowest bit is less
+pub low-lt : (n d : ℕ) → d < 2 ^ n → (d ≡ 0 → ⊥) → bitAnd d (d - 1) < d
+low-lt n d hd ne = rw (low-off n d hd ne) (without-lt d (trailingZeros n d) (tz-bit n d (tz-lt n d hd ne)))
 
 -- ---- the live vectors of an occupied row more, and of one less
 

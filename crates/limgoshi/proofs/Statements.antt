@@ -1,4 +1,4 @@
--- The three statements, over the definitions that the contracts of the entries cite: `openCall`, `call`, `writeCall`, `lookupCall`, `makeCall`, `applyCall`. Each theorem stands
+-- The three statements, over the definitions that the contracts of the entries cite: `openCall`, `call`, `totalCall`, `writeCall`, `lookupCall`, `makeCall`, `applyCall`. Each theorem stands
 -- under the words that it is for; the crates named prove it. docs/READING.md lists the definitions that it takes to read this file.
 -- Assumes nothing.
 use Prim.Native.Nat.{ℕ, _^_, _≤_, _<_}
@@ -10,6 +10,7 @@ use mathlib.Core.List.{List}
 use native.Mathlib.Omega.{arith}
 use lib.ListN.{length, getD, take}
 use Rattle.lists.specs.Entries.{planLimit, words, find}
+use Rattle.lists.specs.Totals.{planCount}
 use Rattle.gf2.specs.Bound.{Largest}
 use Rattle.answer.specs.declared.Answer.{Answer}
 use Rattle.answer.specs.declared.Answer.the-variants.{Accepted, WrongLength, WrongByte, WrongBuckets, WrongTable, NotSound, Live, NotLive, Full, ShortOutput, WrongPlane, UnlikePlanes, WrongPatch, WrongSum}
@@ -22,9 +23,9 @@ use Rattle.model.specs.Model.{baseLimit, Call, add, query, wouldLeave, base}
 use Rattle.model.specs.Request.{Token, ask, wordFor}
 use Rattle.model.specs.Machine.{accepted, after, Alike}
 use Rattle.model.specs.History.{told}
-use Rattle.table.specs.Calls.{tableOf, shaped, FlatSound, openCall, queried, call}
-use Rattle.table.specs.History.{PlanFits, Put, tables, Opened, acceptedCalls, flatState, Same}
-use Rattle.table.specs.Causes.{openCauses, openReturns, callCauses, callReturns}
+use Rattle.table.specs.Calls.{tableOf, shaped, FlatSound, openCall, queried, call, totalCall}
+use Rattle.table.specs.History.{PlanFits, Put, tables, Opened, acceptedCalls, LiveWith, flatState, Same}
+use Rattle.table.specs.Causes.{openCauses, openReturns, callCauses, callReturns, totalCauses, totalReturns}
 use Rattle.table.proofs.Statements as Table
 use Rattle.plane.specs.Lookup.{lookupCall}
 use Rattle.plane.specs.Causes.{lookupCauses, lookupReturns}
@@ -66,6 +67,10 @@ open-causes = Table.open-causes
 -- the numbers of a table have 64 bits, as those of every `&[u64]`; a plan is a byte
 pub call-causes : (t : List ℕ) → ((i : ℕ) → getD t i 0 < 2 ^ 64) → (c : Call Token) → PlanFits c → Exactly (callCauses t c) (callReturns t c) (call t c .answer)
 call-causes = Table.call-causes
+
+-- document 02, order 2: 4 exactly if the table's shape is wrong, else one number is read
+pub total-causes : (t : List ℕ) (p : ℕ) → Exactly (totalCauses t) (totalReturns t p) (totalCall t p)
+total-causes = Table.total-causes
 
 pub write-causes : (t out : List ℕ) → ((i : ℕ) → getD t i 0 < 2 ^ 64) → Exactly (writeCauses t out) (writeReturns t) (writeCall t out .answer)
 write-causes = Plane.write-causes
@@ -113,6 +118,16 @@ module _ (t : List ℕ) (o : Opened t) (ps : List Put) where
     pub plane-as-table : (id : List ℕ) → lookupCall id (take n (writeCall (after tables t ps) out .output)) ≡ shownTo (tableOf (after tables t ps)) (readOf id)
     plane-as-table = Plane.list-gives t o ps out n e
 
+-- ---- head counts, document 02, order 2: "After any list the answer is the number of words then live with that plan" (`LiveWith`: they are listed, as
+-- the accepted calls tell them)
+
+pub head-count : (t : List ℕ) → Opened t → (ps : List Put) (p : ℕ) → p < planLimit → (k : ℕ) × (totalCall (after tables t ps) p ≡ Accepted k) × LiveWith p (acceptedCalls t ps) k
+head-count = Table.total-told
+
+-- any sound table, also one handed in from elsewhere: its live words are those of its occupied rows and base entries
+pub head-count-sound : (t : List ℕ) → shaped t ≡ true → FlatSound t → (p : ℕ) → p < planLimit → totalCall t p ≡ Accepted (planCount p (flatState t .live))
+head-count-sound = Table.total-exact
+
 -- ---- patches, document 02, order 1: a post that has the plane after the calls ps and applies the patch to the plane after the calls qs, of the same
 -- opening (qs may begin with ps), has that plane and answers by it
 
@@ -134,6 +149,14 @@ module _ (t : List ℕ) (o : Opened t) (ps qs : List Put) (out : List ℕ) (n : 
 pub lists-alike : (t u : List ℕ) → Opened t → Opened u → (ps qs : List Put) → Same (after tables t ps) (after tables u qs)
     → (cs : List Put) → Alike tables Same (after tables t ps) (after tables u qs) cs
 lists-alike = Table.statement-3
+
+-- such tables have equal totals too
+pub totals-alike : (t u : List ℕ) → Opened t → Opened u → (ps qs : List Put) → Same (after tables t ps) (after tables u qs)
+    → (p : ℕ) → p < planLimit → totalCall (after tables t ps) p ≡ totalCall (after tables u qs) p
+totals-alike t u o r ps qs e =
+    let a = Table.always-sound t o ps in
+    let b = Table.always-sound u r qs in
+    Table.same-totals (after tables t ps) (after tables u qs) (a .0) (a .2) (b .0) (b .2) e .1
 
 -- any sound table, also one handed in from elsewhere; a list of calls leaves one
 module _ (t : List ℕ) (k : shaped t ≡ true) (h : FlatSound t) (i : Token) (p : ℕ) (l : p < planLimit) where

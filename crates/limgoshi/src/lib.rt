@@ -5,7 +5,7 @@
 ghost use mathlib.Core.Path.{_≡_};
 ghost use Rattle.answer.specs.Numbers.{numberOf, valueOf};
 ghost use Rattle.model.specs.Model.{add, change, withdraw, query};
-ghost use Rattle.table.specs.Calls.{openCall, call};
+ghost use Rattle.table.specs.Calls.{openCall, call, totalCall};
 ghost use Rattle.plane.specs.Lookup.{lookupCall};
 ghost use Rattle.plane_write.specs.Write.{writeCall};
 ghost use Rattle.patch.specs.Calls.{makeCall, applyCall};
@@ -58,6 +58,16 @@ pub extern "C" fn limgoshi_withdraw(t: &mut [u64], id: &[u8], value: &mut u64) -
     let withdrawn = table_calls::withdraw(t, id);
     *value = answer::value(withdrawn);
     answer::number(withdrawn)
+}
+
+// The number of live identifiers with a plan, as the table has it.
+#[no_mangle]
+pub extern "C" fn limgoshi_plan_total(t: &[u64], plan: u8, value: &mut u64) -> u64
+    ensures { λ r. ⌜ (r ≡ numberOf (totalCall (now (t .entry)) plan)) × (now (value .exit) ≡ valueOf (totalCall (now (t .entry)) plan)) × (now (t .exit) ≡ now (t .entry)) ⌝ }
+{
+    let total = table_calls::plan_total(t, plan);
+    *value = answer::value(total);
+    answer::number(total)
 }
 
 // Writes the plane of a table to the front of the output.

@@ -16,6 +16,7 @@ ghost use Prim.Native.Nat.{_*_, _^_, _≤_, _<_};
 ghost use mathlib.Core.List.{[]};
 ghost use mathlib.Core.Option.{none};
 ghost use lib.ListN.{length};
+ghost use Rattle.lists.specs.Entries.{planLimit};
 ghost use Rattle.table.specs.Calls.{served, call};
 ghost use Rattle.table_calls.specs.Ready.{Ready};
 ghost use Rattle.lines_text.specs.Line.{lf, parted, opening, ask};
@@ -35,7 +36,7 @@ pub const MOST_OUTPUT: usize = lines_text::MOST_PRINTED * INPUT_LIMIT;
 
 // A call put to a sound table by its word.
 pub(crate) fn serve(t: &mut [u64], w: u64, verb: Verb, plan: u64) -> Answer
-    requires { ⌜ Ready (now t) ⌝ }
+    requires { ⌜ Ready (now t) × (plan < planLimit) ⌝ }
     ensures { λ r. ⌜ (r ≡ served (now (t .entry)) w (callOf verb [] plan) .answer) × (now (t .exit) ≡ served (now (t .entry)) w (callOf verb [] plan) .table) ⌝ }
 {
     match verb {
@@ -48,7 +49,7 @@ pub(crate) fn serve(t: &mut [u64], w: u64, verb: Verb, plan: u64) -> Answer
 
 // A call put to a sound table.
 pub(crate) fn ask(t: &mut [u64], id: &[u8], verb: Verb, plan: u64) -> Answer
-    requires { ⌜ Ready (now t) ⌝ }
+    requires { ⌜ Ready (now t) × (plan < planLimit) ⌝ }
     ensures { λ r. ⌜ (r ≡ call (now (t .entry)) (callOf verb (now (id .entry)) plan) .answer) × (now (t .exit) ≡ call (now (t .entry)) (callOf verb (now (id .entry)) plan) .table) ⌝ }
 {
     let read = Identifier::read(id);
@@ -100,7 +101,7 @@ pub(crate) fn ask_line(
     out: &mut [u8],
     at: usize,
 ) -> Progress
-    requires { ⌜ Holds held (now t) × (at < 2 ^ 31) ⌝ }
+    requires { ⌜ Holds held (now t) × (at < 2 ^ 31) × (plan < planLimit) ⌝ }
     ensures { λ r. ⌜ Did (obey tables (heldIn held (now (t .entry))) (ask (callOf verb (now (id .entry)) plan))) at (now (out .entry)) r (now (t .exit)) (now (out .exit)) ⌝ }
 {
     if held == 0 {

@@ -4,16 +4,17 @@ use Prim.Native.Nat.{ℕ, suc, _<_}
 use native.Mathlib.Nat.{lt-trans}
 use native.Mathlib.Omega.{arith}
 use mathlib.Core.Path.{_≡_, refl, sym, ap, ap₂, _∙_, subst⁻¹}
-use mathlib.Core.Bool.{true, false, cond}
+use mathlib.Core.Bool.{Bool, true, false, cond}
 use mathlib.Core.Logic.{_⊎_, inl, inr, ⊎-elim}
 use mathlib.Core.Option.{Option, none, some}
 use mathlib.Core.List.{List, [], _∷_, map, List·Memᴰ, List·Memᴰ·head, List·Memᴰ·tail, List·Memᴰ·not-nil, List·Memᴰ·cases-cons, Sublistᴰ, Sublistᴰ·slnil, Sublistᴰ·cons, Sublistᴰ·cons-cons, Sublistᴰ·refl, List·Permᴰ, List·Permᴰ·cons, List·Permᴰ·swap, List·Permᴰ·trans, Permᴰ·refl}
 use lib.Dec.{eqb, ltb}
 use lib.ListN.{length, length-map}
 use borrow.Author.Tests.{eqb-true, eqb-false, eq-eqb, ne-eqb, ltb-true, ltb-false}
+use Rattle.lists.specs.Lists.{keep}
 use Rattle.lists.specs.Entries.{Entry, find, insert, update, remove, Above, Ascending}
 use Rattle.lists.proofs.Tests.{by-test, cases, cond-true, cond-false}
-use Rattle.lists.proofs.Keep.{perm-length}
+use Rattle.lists.proofs.Keep.{keep-within, perm-length}
 
 pub none≢some : {a : ℕ} → _≡_ {A = Option ℕ} none (some a) → ⊥
 none≢some e = let z : _≡_ {A = ℕ} 0 1 = cc in omega arith
@@ -180,6 +181,9 @@ sub-ascending Sublistᴰ·slnil a = a
 sub-ascending (Sublistᴰ·cons s) a = sub-ascending s (a .1)
 sub-ascending (Sublistᴰ·cons-cons {l₁ = xs} e s) a =
     (subst⁻¹ (λ (z : Entry). Above (z .word) xs) e (sub-above _ s (a .0)), sub-ascending s (a .1))
+
+pub keep-ascending : (p : Entry → Bool) (xs : List Entry) → Ascending xs → Ascending (keep p xs)
+keep-ascending p xs = sub-ascending (keep-within p xs)
 
 pub remove-ascending : (w : ℕ) (xs : List Entry) → Ascending xs → Ascending (remove w xs)
 remove-ascending w xs = sub-ascending (remove-sub w xs)

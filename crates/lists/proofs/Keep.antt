@@ -19,6 +19,10 @@ pub keep-none : {A : Type 0} (p : A → Bool) (xs : List A) → ((x : A) → p x
 keep-none p [] h = refl
 keep-none p (x ∷ xs) h = cond-false (x ∷ keep p xs) (keep p xs) (h x) ∙ keep-none p xs h
 
+pub keep-within : {A : Type 0} (p : A → Bool) (xs : List A) → Sublistᴰ (keep p xs) xs
+keep-within p [] = Sublistᴰ·slnil
+keep-within p (x ∷ xs) = by-test (λ l. Sublistᴰ l (x ∷ xs)) (p x) (λ t. Sublistᴰ·cons-cons refl (keep-within p xs)) (λ f. Sublistᴰ·cons (keep-within p xs))
+
 pub map-sub : {A B : Type 0} (f : A → B) {xs ys : List A} → Sublistᴰ xs ys → Sublistᴰ (map f xs) (map f ys)
 map-sub f Sublistᴰ·slnil = Sublistᴰ·slnil
 map-sub f (Sublistᴰ·cons s) = Sublistᴰ·cons (map-sub f s)

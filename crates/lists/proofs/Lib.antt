@@ -6,4 +6,5 @@ pub mod Keep
 pub mod Entries
 pub mod Sorts
 pub mod Edits
+pub mod Totals
 pub mod Every

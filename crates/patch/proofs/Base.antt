@@ -13,7 +13,7 @@ use Rattle.lists.specs.Lists.{keep, Every}
 use Rattle.lists.specs.Entries.{Entry, words, find, insert, update, remove, Ascending, Distinct}
 use Rattle.lists.proofs.Tests.{cases, by-test, cond-true, cond-false}
 use Rattle.lists.proofs.Keep.{keep-in, keep-out, length-sub}
-use Rattle.lists.proofs.Entries.{none≢some, above-mem, mem-above, remove-sub, find-mem, find-none, none-find, mem-find, find-ext, insert-length, insert-ascending, insert-found, insert-other, remove-ascending, remove-found, remove-other, remove-length, update-length, update-ascending, update-found, update-other}
+use Rattle.lists.proofs.Entries.{none≢some, keep-ascending, remove-sub, find-mem, find-none, none-find, mem-find, find-ext, insert-length, insert-ascending, insert-found, insert-other, remove-ascending, remove-found, remove-other, remove-length, update-length, update-ascending, update-found, update-other}
 use Rattle.lists.proofs.Edits.{find-keep}
 use Rattle.lists.proofs.Sorts.{by-word, ascending-distinct}
 use Rattle.patch.specs.Base.{isThere, has, among, removeAll, enter, enterAll, goneOf, newsOf}
@@ -106,13 +106,6 @@ module _ (old new : List Entry) where
       (λ x m q. true≢false (sym (keep-out (λ (e : Entry). left (e .word)) old x m .1) ∙ ap left (sym q) ∙ ap (λ (o : Option ℕ). not (isThere o)) s)))
 
 -- ---- the entries new or changed
-
-keep-ascending : (t : Entry → Bool) (es : List Entry) → Ascending es → Ascending (keep t es)
-keep-ascending t [] a = tt
-keep-ascending t (e ∷ es) a =
-    by-test Ascending (t e)
-    (λ h. (mem-above (e .word) (keep t es) (λ x m. above-mem (e .word) es (a .0) x (keep-out t es x m .0)), keep-ascending t es (a .1)))
-    (λ h. keep-ascending t es (a .1))
 
 has-some : (p : ℕ) (o : Option ℕ) → has p o ≡ true → o ≡ some p
 has-some p none h = absurd (true≢false (sym h))

@@ -37,7 +37,7 @@ use Rattle.table.specs.Layout.{numbersOf}
 use Rattle.table.specs.Calls.{rows, solutions, tableOf, planIn, shaped, sound, FlatSound, Outcome, replaced, served, callRead, call}
 use Rattle.table.specs.History.{Put, tables, Opened, flatState}
 use Rattle.table.proofs.Numbers.{back}
-use Rattle.table.proofs.Calls.{call-match}
+use Rattle.table.proofs.Calls.{sound-shaped, call-match}
 use Rattle.table.proofs.Statements.{sound-exactly, causes-else, sound-stands, stands-sound, always-sound}
 use Rattle.plane.specs.Record.{format1, PlaneBucket, endLength}
 use Rattle.plane.specs.Plane.{Plane, planeBytes}
@@ -115,7 +115,7 @@ module _ (n r : ℕ) (S : ℕ → ℕ) (T : Table) (asc : Ascending (T .base)) (
       rw (e, f, gone-same (T .base) asc, news-same (T .base) asc) (omega arith)
 
   -- one record at most
-  pub change-cheap : (p : ℕ) → recordsLength (planeOf T) (planeOf (C.changedIn n r S T w p)) ≤ changeLength format1
+  pub change-cheap : (p : ℕ) → recordsLength (planeOf T) (planeOf (C.changedIn n r S T w p q)) ≤ changeLength format1
   change-cheap p =
       let e : Entry = record { word = v; plan = p } in
       let l : length (newsOf (T .base) (update e (T .base))) ≤ 1 = news-update (T .base) asc e in
@@ -128,7 +128,7 @@ module _ (n r : ℕ) (S : ℕ → ℕ) (T : Table) (asc : Ascending (T .base)) (
       (λ f. rw (changes-none 0 (A ++ Z), gone-update (T .base) asc e q f) (omega arith))
 
   -- to the plan that it has
-  pub change-same : planeOf (C.changedIn n r S T w q) ≡ planeOf T
+  pub change-same : planeOf (C.changedIn n r S T w q q) ≡ planeOf T
   change-same =
       by-level (λ (U : Table). planeOf U ≡ planeOf T)
       (λ e. ap (λ (l : List PlaneBucket). record { level1 = l; level2 = Z; base = T .base }) (map-set-same seenOf (T .level1) i1 (c1 q) (B.emptyBucket n r) (seen-same n w q _ e)))
@@ -157,7 +157,7 @@ was : (t id : List ℕ) (p q : ℕ) → call t (change id p) .answer ≡ Accepte
 unfolding call served
 was t id p q e = go (readOf id) refl (reads (change id p)) e
   where
-    found : (T : Table) (o : Option ℕ) → replaced t T o .answer ≡ Accepted q → o ≡ some q
+    found : (T : ℕ → Table) (o : Option ℕ) → replaced t T o .answer ≡ Accepted q → o ≡ some q
     found T (some x) f = cc
     found T none f = cc
 
@@ -182,17 +182,17 @@ module _ (t : List ℕ) (flat : FlatSound t) (sols : Sols (tableOf t)) (id : Lis
   T = tableOf t
 
   abbrev U : Table
-  U = C.changedIn rows solutions mixOf T (h .word) p
+  U = C.changedIn rows solutions mixOf T (h .word) p q
 
   then : u ≡ numbersOf U
   unfolding served
-  then = ap (λ (o : Outcome). o .table) (causes-else t (change id p) (h .word) (h .read) (h .shape) (h .tested) ∙ ap (replaced t U) (h .live))
+  then = ap (λ (o : Outcome). o .table) (causes-else t (change id p) (h .word) (h .read) (h .shape) (h .tested) ∙ ap (replaced t (C.changedIn rows solutions mixOf T (h .word) p)) (h .live))
 
   bounded : BoundedTable rows solutions T
-  bounded = record { level1 = level-bounded (T .level1) (flat .table .level1 .buckets) (sols .0); level2 = level-bounded (T .level2) (flat .table .level2 .buckets) (sols .1); fits = flat .table .fits }
+  bounded = record { level1 = level-bounded (T .level1) (flat .table .level1 .buckets) (sols .0); level2 = level-bounded (T .level2) (flat .table .level2 .buckets) (sols .1); fits = flat .table .fits; totalled = sound-shaped T (flat .table) .totalled }
 
   table-after : tableOf u ≡ U
-  table-after = ap tableOf then ∙ back rows solutions U (read-back rows solutions U (changed-bounded t bounded (h .word) p))
+  table-after = ap tableOf then ∙ back rows solutions U (read-back rows solutions U (changed-bounded t bounded (h .word) p q))
 
   -- the planes before and after
   abbrev P : Plane
@@ -232,7 +232,7 @@ module _ (t : List ℕ) (flat : FlatSound t) (sols : Sols (tableOf t)) (id : Lis
   if-same : p ≡ q → length (patchBytes format1 D) ≡ 22
   if-same i =
       let s : planeOf U ≡ P =
-      ap (λ (x : ℕ). planeOf (C.changedIn rows solutions mixOf T (h .word) x)) i
+      ap (λ (x : ℕ). planeOf (C.changedIn rows solutions mixOf T (h .word) x q)) i
       ∙ change-same rows solutions mixOf T (flat .table .ascending) (flat .table .level1 .some) (h .word) q (h .live) in
       let k : Q ≡ P = ap planeOf table-after ∙ s in
       size-is

@@ -3,14 +3,14 @@
 use Prim.Native.Nat.{ℕ, zero, suc, _/_, _%_, _^_, _≤_, _<_}
 use native.Mathlib.Nat.{le-trans}
 use native.Mathlib.Omega.{arith}
-use mathlib.Core.Path.{sym, ap, _∙_, subst, subst⁻¹}
+use mathlib.Core.Path.{_≡_, sym, ap, _∙_, subst, subst⁻¹}
 use mathlib.Core.Bool.{Bool, true, false}
 use mathlib.Core.List.{List, [], _∷_, map}
 use mathlib.Core.Option.{Option, none, some}
 use lib.Bits.{bitXor}
 use lib.Count.{trailingZeros}
 use lib.Dec.{ltb}
-use lib.ListN.{length, getD, set, replicate, length-set}
+use lib.ListN.{length, getD, set, replicate, length-set, length-replicate}
 use lib.Pow.{pow-pos}
 use borrow.Author.Tests.{ltb-false}
 use Rattle.lists.specs.Entries.{Entry, update, remove, words}
@@ -23,6 +23,7 @@ use Rattle.gf2.specs.Vectors.{colStep, solStep}
 use Rattle.gf2.proofs.Inverse as Inverse
 use Rattle.gf2.proofs.Inverse.{set-lt, flip-lt, colStep-lt, length-colStep}
 use Rattle.gf2.proofs.Loops.{length-solStep}
+use Rattle.lists.specs.Totals.{oneLess}
 use Rattle.hash.specs.Mix.{mixOf}
 use Rattle.identifier.specs.declared.Read.{Read}
 use Rattle.identifier.specs.declared.Read.the-variants.{Word, Refused}
@@ -141,25 +142,29 @@ module _ (n r : ℕ) where
     pub level1 : Every Bounded (T .level1)
     pub level2 : Every Bounded (T .level2)
     pub fits : length (T .base) ≤ baseLimit
+    pub totalled : length (T .totals) ≡ C.totalNumbers
 
   module _ (S : ℕ → ℕ) (T : Table) (h : BoundedTable T) where
     touched : (w : ℕ) (f : ℕ → Bucket → Bucket) (g : ℕ → List Entry → List Entry) → ((v : ℕ) (b : Bucket) → Bounded b → Bounded (f v b))
         → ((v : ℕ) → length (g v (T .base)) ≤ length (T .base)) → BoundedTable (C.touch n r S T w f g)
     touched w f g k l =
-        by-test BoundedTable (C.holds n r S (T .level1) w) (λ _. record { level1 = put (T .level1) _ (h .level1) (k _ _ (one (T .level1) _ (h .level1))); level2 = h .level2; fits = h .fits })
-        (λ _. by-test BoundedTable (C.holds n r S (T .level2) (C.second S w)) (λ _. record { level1 = h .level1; level2 = put (T .level2) _ (h .level2) (k _ _ (one (T .level2) _ (h .level2))); fits = h .fits })
-        (λ _. record { level1 = h .level1; level2 = h .level2; fits = le-trans (l (C.second S w)) (h .fits) }))
+        by-test BoundedTable (C.holds n r S (T .level1) w) (λ _. record { level1 = put (T .level1) _ (h .level1) (k _ _ (one (T .level1) _ (h .level1))); level2 = h .level2; fits = h .fits; totalled = h .totalled })
+        (λ _. by-test BoundedTable (C.holds n r S (T .level2) (C.second S w)) (λ _. record { level1 = h .level1; level2 = put (T .level2) _ (h .level2) (k _ _ (one (T .level2) _ (h .level2))); fits = h .fits; totalled = h .totalled })
+        (λ _. record { level1 = h .level1; level2 = h .level2; fits = le-trans (l (C.second S w)) (h .fits); totalled = h .totalled }))
 
     joined-levels : (e : Entry) → length (C.addedTo n r S T e .base) ≤ baseLimit → BoundedTable (C.addedTo n r S T e)
-    joined-levels e l = record { level1 = arrived S (T .level1) e (h .level1); level2 = all-arrived S (T .level2) (map (C.onSecond S) (C.arriveAt n r S (T .level1) e .out)) (h .level2); fits = l }
+    joined-levels e l = record { level1 = arrived S (T .level1) e (h .level1); level2 = all-arrived S (T .level2) (map (C.onSecond S) (C.arriveAt n r S (T .level1) e .out)) (h .level2); fits = l; totalled = length-set (T .totals) (e .plan) _ ∙ h .totalled }
 
-  -- the live count plays no part
+  -- the live count plays no part, and a total that is set leaves as many
   recounted : (T : Table) → BoundedTable T → (c : ℕ) → BoundedTable (C.withCount T c)
-  recounted T h c = record { level1 = h .level1; level2 = h .level2; fits = h .fits }
+  recounted T h c = record { level1 = h .level1; level2 = h .level2; fits = h .fits; totalled = h .totalled }
+
+  totals-set : (T : Table) → BoundedTable T → (ts : List ℕ) → length ts ≡ C.totalNumbers → BoundedTable (C.withTotals T ts)
+  totals-set T h ts l = record { level1 = h .level1; level2 = h .level2; fits = h .fits; totalled = l }
 
   -- its numbers give it back
   pub read-back : (T : Table) → BoundedTable T → ShapedTable n r T
-  read-back T h = record { first = λ i l. one (T .level1) i (h .level1) .shape; second = λ i l. one (T .level2) i (h .level2) .shape; fits = h .fits }
+  read-back T h = record { first = λ i l. one (T .level1) i (h .level1) .shape; second = λ i l. one (T .level2) i (h .level2) .shape; fits = h .fits; totalled = h .totalled }
 
 -- ---- the calls
 
@@ -173,14 +178,16 @@ module _ (t : List ℕ) (h : BoundedNumbers t) where
   abbrev Kept : Outcome → Type 0
   Kept o = BoundedNumbers (o .table)
 
-  replaced-bounded : (T : Table) → BoundedTable rows solutions T → (o : Option ℕ) → Kept (replaced t T o)
-  replaced-bounded T k (some p) = numbers T k
+  replaced-bounded : (T : ℕ → Table) → ((q : ℕ) → BoundedTable rows solutions (T q)) → (o : Option ℕ) → Kept (replaced t T o)
+  replaced-bounded T k (some q) = numbers (T q) (k q)
   replaced-bounded T k none = h
 
-  pub changed-bounded : (w p : ℕ) → BoundedTable rows solutions (C.changedIn rows solutions mixOf (tableOf t) w p)
-  changed-bounded w p =
-      touched rows solutions mixOf (tableOf t) h w (λ v b. B.change rows v p b .bucket) (λ v es. update (record { word = v; plan = p }) es) (λ v b k. changed rows solutions b k v p)
-      (λ v. let l = update-length (record { word = v; plan = p }) (tableOf t .base) in omega arith)
+  pub changed-bounded : (w p q : ℕ) → BoundedTable rows solutions (C.changedIn rows solutions mixOf (tableOf t) w p q)
+  changed-bounded w p q =
+      totals-set rows solutions _
+      (touched rows solutions mixOf (tableOf t) h w (λ v b. B.change rows v p b .bucket) (λ v es. update (record { word = v; plan = p }) es) (λ v b k. changed rows solutions b k v p)
+      (λ v. let l = update-length (record { word = v; plan = p }) (tableOf t .base) in omega arith)) _
+      (length-set (oneLess q (tableOf t .totals)) p _ ∙ length-set (tableOf t .totals) q _ ∙ h .totalled)
 
   served-bounded : (w : ℕ) (c : Call Token) → Kept (served t w c)
   unfolding served
@@ -195,7 +202,9 @@ module _ (t : List ℕ) (h : BoundedNumbers t) where
   served-bounded w (change i p) = replaced-bounded (C.changedIn rows solutions mixOf (tableOf t) w p) (changed-bounded w p) (planIn t w)
   served-bounded w (withdraw i) =
       replaced-bounded (C.withdrawnFrom rows solutions mixOf (tableOf t) w)
-      (recounted rows solutions _ (touched rows solutions mixOf (tableOf t) h w (λ v b. B.withdraw rows v b .bucket) remove (λ v b k. withdrawn rows solutions b k v) (λ v. length-sub (remove-sub v (tableOf t .base)))) _)
+      (λ q. totals-set rows solutions _ (recounted rows solutions _
+      (touched rows solutions mixOf (tableOf t) h w (λ v b. B.withdraw rows v b .bucket) remove (λ v b k. withdrawn rows solutions b k v) (λ v. length-sub (remove-sub v (tableOf t .base)))) _) _
+      (length-set (tableOf t .totals) q _ ∙ h .totalled))
       (planIn t w)
   served-bounded w (query i) = go (planIn t w)
     where
@@ -215,13 +224,17 @@ all-bounded : (t : List ℕ) → BoundedNumbers t → (ps : List Put) → Bounde
 all-bounded t h [] = h
 all-bounded t h (p ∷ ps) = all-bounded _ (request-bounded t h (p .request)) ps
 
+zeros-many : length C.zeroTotals ≡ C.totalNumbers
+unfolding C.zeroTotals
+zeros-many = length-replicate {A = ℕ} C.totalNumbers 0
+
 -- after any list of calls since an accepted opening
 after-bounded : (t : List ℕ) → Opened t → (ps : List Put) → BoundedNumbers (after tables t ps)
 after-bounded t o =
     let k = open-cases (o .size .buckets1) (o .size .buckets2) (o .before) (ap (λ (x : Outcome). x .answer) (o .accepted)) in
     all-bounded t
     (subst BoundedNumbers (sym (k .1) ∙ ap (λ (x : Outcome). x .table) (o .accepted))
-    (numbers (C.openTable rows solutions (o .size .buckets1) (o .size .buckets2)) (record { level1 = copies _ _ (o .size .buckets1) (empty rows solutions); level2 = copies _ _ (o .size .buckets2) (empty rows solutions); fits = omega arith })))
+    (numbers (C.openTable rows solutions (o .size .buckets1) (o .size .buckets2)) (record { level1 = copies _ _ (o .size .buckets1) (empty rows solutions); level2 = copies _ _ (o .size .buckets2) (empty rows solutions); fits = omega arith; totalled = zeros-many })))
 
 pub bounded-sols : (t : List ℕ) → BoundedNumbers t → Sols (tableOf t)
 bounded-sols t h = (every (λ b k. k .sols) (tableOf t .level1) (h .level1), every (λ b k. k .sols) (tableOf t .level2) (h .level2))

@@ -10,7 +10,7 @@ use Rattle.bucket.specs.declared.Bucket.{Bucket}
 use Rattle.bucket.specs.declared.Tried.{Tried}
 use Rattle.bucket.specs.Bucket.{add}
 use Rattle.bucket_settle.specs.Settle.{leaving, withdrawAll, atBound, lowered, Settlement, ahead, orElse, settle}
-use Rattle.table.specs.Table.{Table, withFirst, withSecond, withBase, withCount, Placed, thr, onSecond, put, bucketOf, arriveAt, arriveAll, addedTo}
+use Rattle.table.specs.Table.{Table, withFirst, withSecond, withBase, withOne, Placed, thr, onSecond, put, bucketOf, arriveAt, arriveAll, addedTo}
 use Rattle.table.specs.AtOnce.{leaveAll, enter, comeTo, comeTo2, addedAtOnce}
 
 cond-map : {A B : Type 0} (f : A → B) (b : Bool) (x y : A) → cond b (f x) (f y) ≡ f (cond b x y)
@@ -81,5 +81,5 @@ module _ (n r : ℕ) (S : ℕ → ℕ) where
   pub at-once : (T : Table) (e : Entry) → addedAtOnce n r S T e ≡ addedTo n r S T e
   at-once T e =
       let p : Placed = arriveAt n r S (T .level1) e in
-      ap (λ (l : List Bucket × Rest). withCount (withBase (withSecond (withFirst T (l .0)) (l .1 .0)) (l .1 .1)) (suc (T .count)))
+      ap (λ (l : List Bucket × Rest). withOne (withBase (withSecond (withFirst T (l .0)) (l .1 .0)) (l .1 .1)) (e .plan))
       (come-law (λ l e. comeTo2 n r S l (onSecond S e)) n r S (T .level1, (T .level2, T .base)) e ∙ ap (λ (l : Rest). (p .buckets, l)) (come-all (T .level2) (T .base) (p .out)))

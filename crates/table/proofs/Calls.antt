@@ -11,7 +11,9 @@ use lib.Dec.{ltb, leb}
 use lib.ListN.{length, getD}
 use borrow.Author.Tests.{eqb-true, eq-eqb, leb-true, le-leb, ltb-false}
 use Rattle.lists.specs.Entries.{Entry, find, update, remove}
+use Rattle.lists.specs.Totals.{planCount}
 use Rattle.lists.proofs.Tests.{cond-true, and-one, and-two, and-both}
+use Rattle.lists.proofs.Totals.{totals-length, totals-at}
 use Rattle.hash.specs.Mix.{mixOf, unmixOf}
 use Rattle.hash.proofs.Inverse.{mix-lt, unmix-lt, unmix-mix, mix-unmix}
 use Rattle.answer.specs.declared.Answer.the-variants.{Accepted, Full}
@@ -23,14 +25,14 @@ use Rattle.model.specs.Model as M
 use Rattle.model.specs.Model.{baseLimit, Size, State, Call, add, change, withdraw, query, opened, withLive, wouldLeave, base, stepAdd, stepLive, step}
 use Rattle.model.specs.Request.{Token, wordFor, askOf, serveRead, serve, Request, ask, respond}
 use Rattle.model.proofs.Requests.{word-small}
-use Rattle.table.specs.Table.{Table, openTable, changedIn, withdrawnFrom, addedTo}
+use Rattle.table.specs.Table.{Table, totalNumbers, openTable, changedIn, withdrawnFrom, addedTo}
 use Rattle.table.specs.Layout.{leading, buckets1At, buckets2At, mostBuckets1, inRange, numbersOf, unusedIn, lengthOf}
 use Rattle.table.specs.Content.{entriesOf}
 use Rattle.table.specs.Sound.{SoundLevel, SoundTable}
 use Rattle.table.specs.Test.{shapeTest}
-use Rattle.table.specs.Calls.{rows, solutions, tableOf, planIn, shaped, sound, FlatSound, Outcome, turnedDown, joined, replaced, queried, served, callRead, call}
+use Rattle.table.specs.Calls.{rows, solutions, tableOf, planIn, shaped, sound, FlatSound, Outcome, turnedDown, joined, replaced, queried, served, callRead, call, totalCall}
 use Rattle.table.specs.History.{PlanFits, PlansFit, request, flatState}
-use Rattle.table.proofs.Numbers.{AllShaped, ShapedTable, Laid, header-read, back, laid}
+use Rattle.table.proofs.Numbers.{AllShaped, ShapedTable, Laid, header-read, total-read, back, laid}
 use Rattle.table.proofs.Stand.{Stands, open-stands, look, change-stands, withdraw-stands, based-length, add-stands}
 use Rattle.table.proofs.Content.{table-entries, table-live}
 use Rattle.table.proofs.Sound.{one-to-one, sound-stands, stands-sound}
@@ -53,7 +55,7 @@ level-shaped : (bs : List Bucket) → SoundLevel rows solutions mixOf bs → All
 level-shaped bs h i l = let b = h .buckets i l in record { cols = b .sound .inverse .cols; sols = b .wide }
 
 pub sound-shaped : (T : Table) → SoundTable rows solutions mixOf unmixOf T → ShapedTable rows solutions T
-sound-shaped T h = record { first = level-shaped (T .level1) (h .level1); second = level-shaped (T .level2) (h .level2); fits = h .fits }
+sound-shaped T h = record { first = level-shaped (T .level1) (h .level1); second = level-shaped (T .level2) (h .level2); fits = h .fits; totalled = ap length (h .totals) ∙ totals-length totalNumbers (entriesOf rows unmixOf T) }
 
 -- ---- numbers that stand for a state
 
@@ -122,6 +124,13 @@ module _ (t : List ℕ) (s : State) (h : FlatStands t s) where
   pub stands-look : (w : ℕ) → w < 2 ^ rows → planIn t w ≡ find w (s .live)
   stands-look w l = look rows solutions mixOf keeps one T₀ s (h .stands) w l
 
+  -- the total of a plan is the number of live words with it
+  pub stands-total : (p : ℕ) → p < totalNumbers → totalCall t p ≡ Accepted (planCount p (s .live))
+  unfolding totalCall
+  stands-total p l =
+      cond-true _ _ (h .shape)
+      ∙ ap Accepted (sym (total-read rows solutions t p l) ∙ ap (λ (ts : List ℕ). getD ts p 0) (h .stands .totalled) ∙ totals-at totalNumbers (s .live) p l)
+
   -- its occupied rows and base entries are the live words
   pub stands-entries : List·Permᴰ (entriesOf rows unmixOf T₀) (s .live)
   stands-entries = table-entries rows solutions mixOf unmixOf keeps unmix-mix T₀ s (h .stands)
@@ -136,10 +145,10 @@ module _ (t : List ℕ) (s : State) (h : FlatStands t s) where
         go none = a
         go (some q) = b q
 
-    live-match : (u : Table) (es : List Entry) → ((q : ℕ) → find w (s .live) ≡ some q → Stands rows solutions mixOf u (withLive s es))
+    live-match : (u : ℕ → Table) (es : List Entry) → ((q : ℕ) → find w (s .live) ≡ some q → Stands rows solutions mixOf (u q) (withLive s es))
         → Match (replaced t u (planIn t w)) (stepLive s es (find w (s .live)))
     live-match u es k =
-        by-plan (replaced t u) (stepLive s es) (λ e. record { says = refl; stands = h }) (λ q e. record { says = refl; stands = numbers-stand u (withLive s es) (k q e) range })
+        by-plan (replaced t u) (stepLive s es) (λ e. record { says = refl; stands = h }) (λ q e. record { says = refl; stands = numbers-stand (u q) (withLive s es) (k q e) range })
 
     add-match : (p : ℕ) → p < 2 ^ solutions
         → Match (joined t (addedTo rows solutions mixOf T₀ (record { word = w; plan = p })) (planIn t w)) (step firstLevel secondLevel s (add w p))

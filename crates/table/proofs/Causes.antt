@@ -1,6 +1,6 @@
 -- Opening and each call give each number if and only if its cause is the first met.
 -- Assumes nothing.
-use Prim.Native.Nat.{ℕ, suc, _^_, _<_}
+use Prim.Native.Nat.{ℕ, suc, _+_, _^_, _<_}
 use mathlib.Core.Path.{_≡_, refl, sym, ap, _∙_, subst⁻¹}
 use mathlib.Core.Bool.{Bool, true, false, cond, true≢false, _&&_}
 use mathlib.Core.Logic.{_⊎_, inl, inr, ⊎-elim, _↔_}
@@ -26,11 +26,11 @@ use Rattle.model.specs.Levels.{firstLevel, secondLevel}
 use Rattle.model.specs.Model as M
 use Rattle.model.specs.Model.{baseLimit, Call, add, change, withdraw, query, wouldLeave, base, stepAdd, stepLive, step}
 use Rattle.model.specs.Request.{Token, subject, askOf}
-use Rattle.table.specs.Layout.{leading, buckets1At, buckets2At, inRange, lengthOf}
+use Rattle.table.specs.Layout.{leading, buckets1At, buckets2At, totalsAt, inRange, lengthOf}
 use Rattle.table.specs.Test.{shapeTest}
-use Rattle.table.specs.Calls.{rows, solutions, shaped, sound, FlatSound, Outcome, turnedDown, openCall, served, callRead, call}
+use Rattle.table.specs.Calls.{rows, solutions, shaped, sound, FlatSound, Outcome, turnedDown, openCall, served, callRead, call, totalCall}
 use Rattle.table.specs.History.{PlanFits, flatState}
-use Rattle.table.specs.Causes.{wrongRoom, Misshapen, wrongTable, notSound, LivePlan, notLive, openCauses, openReturns, wordCauses, callCauses, soundCauses, callReturns}
+use Rattle.table.specs.Causes.{wrongRoom, Misshapen, wrongTable, notSound, LivePlan, notLive, openCauses, openReturns, wordCauses, callCauses, soundCauses, callReturns, totalCauses, totalReturns}
 use Rattle.table.proofs.Calls.{stands-test, served-match, sound-stands-flat, sound-exactly}
 
 -- ---- tests and what they say
@@ -75,6 +75,14 @@ open-exactly b1 b2 t =
     exactly (openCauses b1 b2 t) openReturns (openCall b1 b2 t .answer) (one-if 3 _ 0, (one-if 4 _ (length t), one-value 0))
     (unless-met answerOf 3 _ 0 (wrongRoom b1 b2 t ∷ []) openReturns (inRange b1 b2) _ _ (λ e. e, λ e. e) (refl, refl)
     (λ r. unless-met answerOf 4 _ (length t) [] openReturns (eqb (length t) (lengthOf rows solutions b1 b2)) _ _ (eqb-false _ _, ne-eqb _ _) (refl, refl) (λ e. (refl, refl))))
+
+-- ---- the total of a plan
+
+pub total-exactly : (t : List ℕ) (p : ℕ) → Exactly (totalCauses t) (totalReturns t p) (totalCall t p)
+unfolding totalCall
+total-exactly t p =
+    exactly (totalCauses t) (totalReturns t p) (totalCall t p) (one-if 4 _ (length t), one-value (getD t (totalsAt + p) 0))
+    (unless-met (λ (a : Answer). a) 4 _ (length t) [] (totalReturns t p) (shaped t) _ _ (shape-exactly t) (refl, refl) (λ e. (refl, refl)))
 
 -- ---- the calls
 

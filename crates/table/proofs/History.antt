@@ -73,7 +73,7 @@ module _ (t : List ℕ) where
   kept-by f a b none = a
   kept-by f a b (some q) = b q
 
-  kept-replaced : (u : Table) (o : Option ℕ) → Kept (replaced t u o)
+  kept-replaced : (u : ℕ → Table) (o : Option ℕ) → Kept (replaced t u o)
   kept-replaced u = kept-by (replaced t u) (λ r. refl) (λ q r. absurd (true≢false r))
 
   kept-served : (w : ℕ) (c : Call Token) → Kept (served t w c)

@@ -227,6 +227,12 @@ module _ (n r : ℕ) (S : ℕ → ℕ) where
       let Kept : Table → Type 0 = λ (U : Table). U .count ≡ T .count in
       by-test Kept (holds n r S (T .level1) w) (λ _. refl) (λ _. by-test Kept (holds n r S (T .level2) (second S w)) (λ _. refl) (λ _. refl))
 
+  -- and so do the totals
+  pub touch-totals : (T : Table) (w : ℕ) (f : ℕ → Bucket → Bucket) (g : ℕ → List Entry → List Entry) → touch n r S T w f g .totals ≡ T .totals
+  touch-totals T w f g =
+      let Kept : Table → Type 0 = λ (U : Table). U .totals ≡ T .totals in
+      by-test Kept (holds n r S (T .level1) w) (λ _. refl) (λ _. by-test Kept (holds n r S (T .level2) (second S w)) (λ _. refl) (λ _. refl))
+
   -- ---- an edit of one word's entry: f in a bucket is g on its entries
 
   pub record Edit (f : ℕ → Bucket → Bucket) (g : ℕ → List Entry → List Entry) : Type 0 where

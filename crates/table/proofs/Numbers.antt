@@ -5,16 +5,17 @@ use native.Mathlib.Nat.{add-mul, not-suc-le-zero, le-of-suc-le-suc}
 use native.Mathlib.Omega.{arith}
 use mathlib.Core.Path.{_≡_, refl, sym, ap, ap₂, _∙_, subst}
 use mathlib.Core.List.{List, [], _∷_, _++_, append-assoc}
-use lib.ListN.{length, getD, set, take, drop, replicate, length-append, length-drop, length-set, length-replicate}
-use lib.Seq.{take-append-add, drop-append-add, take-at, drop-at, getD-take, getD-drop, take-take, drop-drop}
+use lib.ListN.{length, getD, set, take, drop, replicate, length-append, length-drop, length-set, length-replicate, take-append-drop, List·getD-append}
+use lib.Seq.{take-append-add, drop-append-add, take-at, drop-at, getD-take, getD-drop, take-take, drop-drop, set-append-left}
 use Rattle.lists.specs.Entries.{Entry}
+use Rattle.lists.specs.Totals.{oneMore, oneLess}
 use Rattle.lists.proofs.Parts.{drop-take, zeros, zero-at}
 use Rattle.bucket.specs.declared.Bucket.{Bucket}
 use Rattle.bucket_words.specs.Words.{bucketWords, wordsOf, bucketFrom, Shaped}
 use Rattle.bucket_words.proofs.Words.{length-words, from-words, words-from}
 use Rattle.model.specs.Model.{baseLimit}
-use Rattle.table.specs.Table.{Table, withFirst, withSecond, withBase, withCount, nth}
-use Rattle.table.specs.Layout.{buckets1At, buckets2At, baseCountAt, liveCountAt, header, baseNumbers, levelNumbers, pairNumbers, basePairs, heads, numbersOf, levelFrom, pairsFrom, bucketPlace, tableFrom, lengthOf, unusedIn}
+use Rattle.table.specs.Table.{Table, totalNumbers, withFirst, withSecond, withBase, withCount, withTotals, nth}
+use Rattle.table.specs.Layout.{leading, buckets1At, buckets2At, baseCountAt, liveCountAt, totalsAt, header, baseNumbers, levelNumbers, pairNumbers, basePairs, heads, numbersOf, levelFrom, pairsFrom, bucketPlace, tableFrom, lengthOf, unusedIn}
 
 -- ---- pairs
 
@@ -63,6 +64,7 @@ module _ (n r : ℕ) where
     pub first : AllShaped (T .level1)
     pub second : AllShaped (T .level2)
     pub fits : length (T .base) ≤ baseLimit
+    pub totalled : length (T .totals) ≡ totalNumbers
 
   -- numbers that have the layout
   pub record Laid (xs : List ℕ) : Type 0 where
@@ -180,10 +182,13 @@ module _ (n r : ℕ) where
     size2 : length l2 ≡ m2 * bucketWords n r
     size2 = length-level (T .level2) (h .second)
 
+    size0 : length (heads T) ≡ header
+    size0 = let e = h .totalled in omega arith
+
     -- the numbers from a place on
     pub drop-heads : (k : ℕ) → drop (header + k) (numbersOf T) ≡ drop k from1
     unfolding numbersOf
-    drop-heads = drop-append-add (heads T) from1
+    drop-heads k = ap (λ (j : ℕ). drop (j + k) (numbersOf T)) (sym size0) ∙ drop-append-add (heads T) from1 k
 
     drop-first : (k : ℕ) → drop (bucketPlace n r m1 + k) (numbersOf T) ≡ drop k from2
     drop-first k =
@@ -202,7 +207,7 @@ module _ (n r : ℕ) where
     -- and before it
     take-heads : (k : ℕ) → take (header + k) (numbersOf T) ≡ heads T ++ take k from1
     unfolding numbersOf
-    take-heads = take-append-add (heads T) from1
+    take-heads k = ap (λ (j : ℕ). take (j + k) (numbersOf T)) (sym size0) ∙ take-append-add (heads T) from1 k
 
     take-first : (k : ℕ) → take (bucketPlace n r m1 + k) (numbersOf T) ≡ heads T ++ (l1 ++ take k from2)
     take-first k =
@@ -212,7 +217,7 @@ module _ (n r : ℕ) where
     -- the numbers give the table back
     pub back : tableFrom n r (numbersOf T) ≡ T
     unfolding numbersOf tableFrom
-    back = λ i. record { level1 = one i; level2 = two i; base = three i; count = T .count }
+    back = λ i. record { level1 = one i; level2 = two i; base = three i; count = T .count; totals = take-at (T .totals) from1 totalNumbers (h .totalled) i }
       where
         one : levelFrom n r m1 (drop (bucketPlace n r 0) (numbersOf T)) ≡ T .level1
         one = ap (levelFrom n r m1) (let e : 0 * bucketWords n r ≡ 0 = omega arith in ap (λ (k : ℕ). drop (header + k) (numbersOf T)) e ∙ drop-heads 0) ∙ back-level (T .level1) from2 (h .first)
@@ -230,6 +235,7 @@ module _ (n r : ℕ) where
       size = omega (
         arith,
         length-append (heads T) from1,
+        size0,
         length-append l1 from2,
         length-append l2 (basePairs (T .base)),
         length-base (T .base) (h .fits),
@@ -250,7 +256,7 @@ module _ (n r : ℕ) where
     write-first i b l =
         let w : ℕ = bucketWords n r in
         let e : bucketPlace n r i + w ≡ header + (i * w + w) = omega arith in
-        ap₂ (λ (k : ℕ) (q : List ℕ). k ∷ m2 ∷ length (T .base) ∷ T .count ∷ q) (length-set (T .level1) i b) (write-level (T .level1) from2 i b (h .first) l)
+        ap₂ (λ (k : ℕ) (q : List ℕ). k ∷ m2 ∷ length (T .base) ∷ T .count ∷ (T .totals ++ q)) (length-set (T .level1) i b) (write-level (T .level1) from2 i b (h .first) l)
         ∙ sym (append-assoc (heads T) (take (i * w) from1) (wordsOf b ++ drop (i * w + w) from1))
         ∙ sym (ap₂ (λ (p q : List ℕ). p ++ (wordsOf b ++ q)) (take-heads (i * w)) (ap (λ (j : ℕ). drop j (numbersOf T)) e ∙ drop-heads (i * w + w)))
 
@@ -262,7 +268,7 @@ module _ (n r : ℕ) where
         let w : ℕ = bucketWords n r in
         let e : bucketPlace n r (m1 + i) ≡ bucketPlace n r m1 + i * w = omega (arith, add-mul m1 i w) in
         let g : bucketPlace n r (m1 + i) + w ≡ bucketPlace n r m1 + (i * w + w) = omega (arith, add-mul m1 i w) in
-        ap₂ (λ (k : ℕ) (q : List ℕ). m1 ∷ k ∷ length (T .base) ∷ T .count ∷ (l1 ++ q)) (length-set (T .level2) i b) (write-level (T .level2) (basePairs (T .base)) i b (h .second) l)
+        ap₂ (λ (k : ℕ) (q : List ℕ). m1 ∷ k ∷ length (T .base) ∷ T .count ∷ (T .totals ++ (l1 ++ q))) (length-set (T .level2) i b) (write-level (T .level2) (basePairs (T .base)) i b (h .second) l)
         ∙ ap (λ (l : List ℕ). heads T ++ l) (sym (append-assoc l1 (take (i * w) from2) (wordsOf b ++ drop (i * w + w) from2)))
         ∙ sym (append-assoc (heads T) (l1 ++ take (i * w) from2) (wordsOf b ++ drop (i * w + w) from2))
         ∙ sym (ap₂ (λ (p q : List ℕ). p ++ (wordsOf b ++ q)) (ap (λ (j : ℕ). take j (numbersOf T)) e ∙ take-first (i * w)) (ap (λ (j : ℕ). drop j (numbersOf T)) g ∙ drop-first (i * w + w)))
@@ -282,6 +288,34 @@ module _ (n r : ℕ) where
   pub write-count : (T : Table) (c : ℕ) → numbersOf (withCount T c) ≡ set (numbersOf T) liveCountAt c
   unfolding numbersOf
   write-count T c = refl
+
+  -- the header's numbers are among them
+  pub long-numbers : (T : Table) → totalsAt + length (T .totals) ≤ length (numbersOf T)
+  unfolding numbersOf
+  long-numbers T = omega (arith, length-append (heads T) (levelNumbers (T .level1) ++ (levelNumbers (T .level2) ++ basePairs (T .base))))
+
+  -- the total of a plan is read and replaced
+  module _ (T : Table) (p : ℕ) (l : p < length (T .totals)) where
+    pub read-total : getD (numbersOf T) (totalsAt + p) 0 ≡ getD (T .totals) p 0
+    unfolding numbersOf
+    read-total =
+        let e : totalsAt + p ≡ suc (suc (suc (suc p))) = omega arith in
+        ap (λ (j : ℕ). getD (numbersOf T) j 0) e ∙ List·getD-append (T .totals) (levelNumbers (T .level1) ++ (levelNumbers (T .level2) ++ basePairs (T .base))) 0 p l
+
+    pub write-total : (x : ℕ) → numbersOf (withTotals T (set (T .totals) p x)) ≡ set (numbersOf T) (totalsAt + p) x
+    unfolding numbersOf
+    write-total x =
+        let e : totalsAt + p ≡ suc (suc (suc (suc p))) = omega arith in
+        sym (ap (λ (j : ℕ). set (numbersOf T) j x) e
+        ∙ ap {B = List ℕ} (λ q. length (T .level1) ∷ length (T .level2) ∷ length (T .base) ∷ T .count ∷ q)
+        (set-append-left (T .totals) (levelNumbers (T .level1) ++ (levelNumbers (T .level2) ++ basePairs (T .base))) p x l))
+
+    -- one word more has the plan p, or one less
+    pub write-more : numbersOf (withTotals T (oneMore p (T .totals))) ≡ oneMore (totalsAt + p) (numbersOf T)
+    write-more = write-total (suc (getD (T .totals) p 0)) ∙ ap (λ (x : ℕ). set (numbersOf T) (totalsAt + p) (suc x)) (sym read-total)
+
+    pub write-less : numbersOf (withTotals T (oneLess p (T .totals))) ≡ oneLess (totalsAt + p) (numbersOf T)
+    write-less = write-total (getD (T .totals) p 0 - 1) ∙ ap (λ (x : ℕ). set (numbersOf T) (totalsAt + p) (x - 1)) (sym read-total)
 
   -- ---- numbers that have the layout
 
@@ -306,6 +340,11 @@ module _ (n r : ℕ) where
   unfolding tableFrom
   header-read xs = (length-levelFrom (getD xs buckets1At 0) _, length-levelFrom (getD xs buckets2At 0) _, length-pairsFrom (getD xs baseCountAt 0) _, refl)
 
+  -- the total of the plan p
+  pub total-read : (xs : List ℕ) (p : ℕ) → p < totalNumbers → getD (tableFrom n r xs .totals) p 0 ≡ getD xs (totalsAt + p) 0
+  unfolding tableFrom
+  total-read xs p l = getD-take totalNumbers (drop totalsAt xs) p 0 l ∙ getD-drop totalsAt xs p 0
+
   pub read-base : (xs : List ℕ) (i : ℕ) (d : Entry) → i < getD xs baseCountAt 0
       → getD (tableFrom n r xs .base) i d
       ≡ record {
@@ -315,8 +354,8 @@ module _ (n r : ℕ) where
   unfolding tableFrom
   read-base xs i d l = read-pair (getD xs baseCountAt 0) (drop (bucketPlace n r (getD xs buckets1At 0 + getD xs buckets2At 0)) xs) i d l
 
-  -- the header and the rest
-  pub four : (xs : List ℕ) → header ≤ length xs → getD xs buckets1At 0 ∷ getD xs buckets2At 0 ∷ getD xs baseCountAt 0 ∷ getD xs liveCountAt 0 ∷ drop header xs ≡ xs
+  -- the leading numbers and the rest
+  pub four : (xs : List ℕ) → leading ≤ length xs → getD xs buckets1At 0 ∷ getD xs buckets2At 0 ∷ getD xs baseCountAt 0 ∷ getD xs liveCountAt 0 ∷ drop leading xs ≡ xs
   four [] h = absurd (omega arith)
   four (a ∷ []) h = absurd (omega arith)
   four (a ∷ b ∷ []) h = absurd (omega arith)
@@ -376,5 +415,7 @@ module _ (n r : ℕ) where
         let e : bucketPlace n r 0 ≡ header = omega arith in
         ap₂ {C = List ℕ} (λ m l. m ∷ l) (length-levelFrom a (drop (bucketPlace n r 0) xs))
         (ap₂ {C = List ℕ} (λ m l. m ∷ l) (length-levelFrom b (drop (bucketPlace n r a) xs))
-        (ap₂ {C = List ℕ} (λ m l. m ∷ getD xs liveCountAt 0 ∷ l) (length-pairsFrom c tail-of) (inner ∙ ap (λ (k : ℕ). drop k xs) e)))
+        (ap₂ {C = List ℕ} (λ m l. m ∷ getD xs liveCountAt 0 ∷ (take totalNumbers (drop totalsAt xs) ++ l)) (length-pairsFrom c tail-of)
+        (inner ∙ ap (λ (k : ℕ). drop k xs) e ∙ sym (drop-drop totalNumbers totalsAt xs))))
+        ∙ ap {B = List ℕ} (λ l. a ∷ b ∷ c ∷ getD xs liveCountAt 0 ∷ l) (take-append-drop totalNumbers (drop totalsAt xs))
         ∙ four xs (omega (arith, h .size))

@@ -13,9 +13,11 @@ use lib.ListN.{length, getD}
 use borrow.Author.Tests.{eqb-true, eq-eqb, ltb-true, lt-ltb, not-true}
 use Rattle.lists.specs.Lists.{keep, countFrom}
 use Rattle.lists.specs.Entries.{Entry, words, sort, Ascending, Distinct, planLimit}
+use Rattle.lists.specs.Totals.{totalsOf}
+use Rattle.lists.proofs.Totals.{totals-perm}
 use Rattle.lists.proofs.Keep.{keep-in, keep-out, count-in, count-lt}
 use Rattle.lists.proofs.Entries.{ascending-ext}
-use Rattle.lists.proofs.Sorts.{mem-perm, sort-mem, mem-sort, sort-ascending, sort-length, keep-distinct, ascending-distinct, distinct-ext}
+use Rattle.lists.proofs.Sorts.{mem-perm, sort-perm, sort-mem, mem-sort, sort-ascending, sort-length, keep-distinct, ascending-distinct, distinct-ext}
 use Rattle.lists.proofs.Edits.{distinct-append, distinct-renamed}
 use Rattle.gf2.specs.Bound.{Free}
 use Rattle.gf2.proofs.Linear.{product-lt}
@@ -29,12 +31,12 @@ use Rattle.model.specs.Levels.{due, passed}
 use Rattle.model.specs.Model.{baseLimit, State}
 use Rattle.model.proofs.Levels.{passed-words}
 use Rattle.model.proofs.Valid.{Valid}
-use Rattle.table.specs.Table.{Table, bounds, thr, index, onSecond, nth, holds}
+use Rattle.table.specs.Table.{Table, totalNumbers, bounds, thr, index, onSecond, nth, holds}
 use Rattle.table.specs.Content.{occupied, allRows, backOf, entriesOf, liveOf, stateOf}
 use Rattle.table.specs.Sound.{Row, SoundLevel, SoundTable}
 use Rattle.table.proofs.Level.{Fits, Small, bounds-length, bound-at, firstLevel, secondLevel, within, dueIn, due-in, LevelHolds, holds-test}
 use Rattle.table.proofs.Stand.{passes, later, last, due-map, words-second, last-length, Stands, test1, test2, distinct-later, distinct-last}
-use Rattle.table.proofs.Content.{all-length, entries-length, table-count}
+use Rattle.table.proofs.Content.{all-length, entries-length, table-entries, table-count}
 
 -- ---- the entries of a bucket are its live vectors
 
@@ -288,6 +290,10 @@ module _ (n r : ℕ) (S U : ℕ → ℕ) (keeps : (x : ℕ) → x < 2 ^ n → S 
         h .counts
         ∙ sym (sort-length (entriesOf n U T) ∙ entries-length n U T (level-count n r S (T .level1) (h .level1)) (level-count n r S (T .level2) (h .level2)))
 
+    totals-are : T .totals ≡ totalsOf totalNumbers (s .live)
+    unfolding liveOf
+    totals-are = h .totals ∙ sym (totals-perm totalNumbers (sort-perm (entriesOf n U T)))
+
     pub sound-stands : Stands n r S T (stateOf n U T)
     sound-stands = record {
       valid = valid;
@@ -300,6 +306,7 @@ module _ (n r : ℕ) (S U : ℕ → ℕ) (keeps : (x : ℕ) → x < 2 ^ n → S 
       bounds2 = refl;
       based = base-is;
       counted = count-is;
+      totalled = totals-are;
     }
 
   -- ---- and a table that stands for a state is sound
@@ -321,6 +328,7 @@ module _ (n r : ℕ) (S U : ℕ → ℕ) (keeps : (x : ℕ) → x < 2 ^ n → S 
     stands-sound = record {
       fits = subst⁻¹ (λ (k : ℕ). k ≤ baseLimit) (ap length (st .based) ∙ sort-length (last S s) ∙ last-length S s) (st .valid .fits);
       counts = table-count n r S U keeps undo T s st;
+      totals = st .totalled ∙ sym (totals-perm totalNumbers (table-entries n r S U keeps undo T s st));
       level1 = holds-level n r S (s .size .buckets1) (T .level1) (s .live) (st .level1) (st .pos1) (s .bounds1) (st .bounds1) (st .valid .low1);
       level2 = holds-level n r S (s .size .buckets2) (T .level2) (later S s) (st .level2) (st .pos2) (s .bounds2) (st .bounds2) (st .valid .low2);
       passed = λ i v q.

@@ -12,11 +12,13 @@ use lib.Dec.{eqb}
 use lib.ListN.{length, getD, set, replicate, length-replicate, getD-replicate, length-map}
 use Rattle.lists.specs.Lists.{keep, tabulate, joined}
 use Rattle.lists.specs.Entries.{Entry, words, find, insert, update, remove, sort, insertAll, Ascending, Distinct}
+use Rattle.lists.specs.Totals.{totalsOf, oneMore, oneLess}
 use Rattle.lists.proofs.Tests.{by-test}
 use Rattle.lists.proofs.Keep.{keep-perm, keep-map, keep-out, map-sub, perm-length, joined-perm}
 use Rattle.lists.proofs.Entries.{insert-perm, insert-length, insert-ascending, update-words, update-ascending, update-length, update-perm, remove-sub, remove-ascending, remove-length, remove-perm}
 use Rattle.lists.proofs.Sorts.{sort-perm, mem-perm, keep-distinct, ascending-distinct}
 use Rattle.lists.proofs.Edits.{find-keep, find-renamed, distinct-renamed, find-sort, insert-all-perm, insert-all-sort}
+use Rattle.lists.proofs.Totals.{totals-none, totals-insert, totals-remove, totals-update}
 use Rattle.gf2.specs.Bound.{Due}
 use Rattle.gf2.proofs.Bound.{fall}
 use Rattle.bucket.specs.declared.Bucket.{Bucket}
@@ -27,7 +29,7 @@ use Rattle.model.specs.Model.{baseLimit, Size, State, opened, withLive, wouldLe
 use Rattle.model.proofs.Levels.{passed-words}
 use Rattle.model.proofs.Arrivals.{arrive, arrives, first, first-settled, second-settled}
 use Rattle.model.proofs.Valid.{Valid, valid-opened, valid-live, valid-settled}
-use Rattle.table.specs.Table.{Table, withCount, Placed, bounds, index, second, onSecond, bucketOf, put, holds, planIn, openTable, touch, changedIn, withdrawnFrom, arriveAt, arriveAll, addedTo}
+use Rattle.table.specs.Table.{Table, totalNumbers, zeroTotals, withCount, withTotals, Placed, bounds, index, second, onSecond, bucketOf, put, holds, planIn, openTable, touch, changedIn, withdrawnFrom, arriveAt, arriveAll, addedTo}
 use Rattle.table.proofs.Level.{Fits, Small, firstLevel, secondLevel, within, pass, LevelHolds, level-perm, Arrived, arrive-law, ArrivedAll, arrive-all, Edit, withdraw-edit, change-edit, holds-test, level-find, level-past, level-touch, touch-bounds, touch-keeps}
 
 module _ (S : ℕ → ℕ) where
@@ -83,6 +85,7 @@ module _ (n r : ℕ) (S : ℕ → ℕ) where
     pub bounds2 : bounds (T .level2) ≡ s .bounds2
     pub based : T .base ≡ sort (last S s)
     pub counted : T .count ≡ length (s .live)
+    pub totalled : T .totals ≡ totalsOf totalNumbers (s .live)
 
   -- ---- opening
 
@@ -97,6 +100,10 @@ module _ (n r : ℕ) (S : ℕ → ℕ) where
     each = λ i h. subst⁻¹ (λ (b : Bucket). Holds n r b []) (getD-replicate m i (emptyBucket n r) (emptyBucket n r) h) (holds-empty n r);
   }
 
+  open-totals : zeroTotals ≡ totalsOf totalNumbers []
+  unfolding zeroTotals
+  open-totals = sym (totals-none totalNumbers)
+
   pub open-stands : (z : Size) → 0 < z .buckets1 → 0 < z .buckets2 → Stands (openTable n r (z .buckets1) (z .buckets2)) (opened z)
   open-stands z p1 p2 = record {
     valid = valid-opened (firstLevel S) (secondLevel S) z;
@@ -109,6 +116,7 @@ module _ (n r : ℕ) (S : ℕ → ℕ) where
     bounds2 = open-bounds (z .buckets2);
     based = refl;
     counted = refl;
+    totalled = open-totals;
   }
 
 -- ---- live words that stay below 2 ^ n, plans below 2 ^ r
@@ -195,13 +203,13 @@ module _ (n r : ℕ) (S : ℕ → ℕ) (keeps : (x : ℕ) → x < 2 ^ n → S x 
             ap (map (onSecond S)) (edit .inside (λ v. not (within S (s .size .buckets1) (s .bounds1) v)) w (s .live) (pass1 w t))
             ∙ edit .twice w (passes S s) l (λ e m. small-passes s (st .small) e m .0)
 
-        touch-stands : (c : ℕ) → c ≡ length (g w (s .live)) → Stands n r S (withCount (touch n r S T w f g) c) s′
-        touch-stands c count =
-            by-test (λ (U : Table). Stands n r S (withCount U c) s′) (holds n r S (T .level1) w)
+        touch-stands : (c : ℕ) (ts : List ℕ) → c ≡ length (g w (s .live)) → ts ≡ totalsOf totalNumbers (g w (s .live)) → Stands n r S (withTotals (withCount (touch n r S T w f g) c) ts) s′
+        touch-stands c ts count total =
+            by-test (λ (U : Table). Stands n r S (withTotals (withCount U c) ts) s′) (holds n r S (T .level1) w)
             (λ t. now (level-touch n r S w (st .pos1) (st .level1) l f g edit q live t) (touch-bounds n r S w (st .pos1) (st .level1) l f g edit q live t ∙ st .bounds1)
             (subst⁻¹ (λ (es : List Entry). LevelHolds n r S (s .size .buckets2) (T .level2) (map (onSecond S) es)) (passes-out t) (st .level2)) (st .bounds2)
             (st .based ∙ sym (ap (λ (es : List Entry). sort (pass S (s .size .buckets2) (s .bounds2) (map (onSecond S) es))) (passes-out t))))
-            (λ t. by-test (λ (U : Table). Stands n r S (withCount U c) s′) (holds n r S (T .level2) w′)
+            (λ t. by-test (λ (U : Table). Stands n r S (withTotals (withCount U c) ts) s′) (holds n r S (T .level2) w′)
             (λ u. now (level-past n r S w (st .pos1) (st .level1) l f g edit t) (st .bounds1)
             (subst⁻¹ (LevelHolds n r S (s .size .buckets2) (put S (T .level2) w′ (f w′ (bucketOf n r S (T .level2) w′)))) (later-in t)
             (level-touch n r S w′ (st .pos2) (st .level2) l′ f g edit q (find-later t ∙ live) u))
@@ -214,32 +222,34 @@ module _ (n r : ℕ) (S : ℕ → ℕ) (keeps : (x : ℕ) → x < 2 ^ n → S x 
           where
             -- levels and a base list that stand for those of s′
             now : {b1 b2 : List Bucket} {es : List Entry} → LevelHolds n r S (s .size .buckets1) b1 (s′ .live) → bounds b1 ≡ s .bounds1
-                → LevelHolds n r S (s .size .buckets2) b2 (later S s′) → bounds b2 ≡ s .bounds2 → es ≡ sort (last S s′) → Stands n r S (record { level1 = b1; level2 = b2; base = es; count = c }) s′
-            now l1 e1 l2 e2 b = record { valid = valid; pos1 = st .pos1; pos2 = st .pos2; small = small; level1 = l1; bounds1 = e1; level2 = l2; bounds2 = e2; based = b; counted = count }
+                → LevelHolds n r S (s .size .buckets2) b2 (later S s′) → bounds b2 ≡ s .bounds2 → es ≡ sort (last S s′) → Stands n r S (record { level1 = b1; level2 = b2; base = es; count = c; totals = ts }) s′
+            now l1 e1 l2 e2 b = record { valid = valid; pos1 = st .pos1; pos2 = st .pos2; small = small; level1 = l1; bounds1 = e1; level2 = l2; bounds2 = e2; based = b; counted = count; totalled = total }
 
             last-in : holds n r S (T .level1) w ≡ false → sort (last S s′) ≡ sort (pass S (s .size .buckets2) (s .bounds2) (g w′ (later S s)))
             last-in t = ap (λ (es : List Entry). sort (pass S (s .size .buckets2) (s .bounds2) es)) (later-in t)
 
         -- the live count stays
-        touch-stays : T .count ≡ length (g w (s .live)) → Stands n r S (touch n r S T w f g) s′
-        touch-stays e = touch-stands _ (touch-keeps n r S T w f g ∙ e)
+        touch-stays : (ts : List ℕ) → T .count ≡ length (g w (s .live)) → ts ≡ totalsOf totalNumbers (g w (s .live)) → Stands n r S (withTotals (touch n r S T w f g) ts) s′
+        touch-stays ts e = touch-stands _ ts (touch-keeps n r S T w f g ∙ e)
 
-      pub withdraw-stands : (q : ℕ) → find w (s .live) ≡ some q → Stands n r S (withdrawnFrom n r S T w) (withLive s (remove w (s .live)))
+      pub withdraw-stands : (q : ℕ) → find w (s .live) ≡ some q → Stands n r S (withdrawnFrom n r S T w q) (withLive s (remove w (s .live)))
       withdraw-stands q f =
           touch-stands _ _ (withdraw-edit n r S inj) q f
           (valid-live (firstLevel S) (secondLevel S) s (st .valid) (remove w (s .live)) (remove-ascending w (s .live) (st .valid .ascending)) (map-sub (λ (e : Entry). e .word) (remove-sub w (s .live))))
-          (λ x m. st .small x (mem-perm (remove-perm w q (s .live) f) x (List·Memᴰ·tail m))) _
+          (λ x m. st .small x (mem-perm (remove-perm w q (s .live) f) x (List·Memᴰ·tail m))) _ _
           (let h = remove-length w q (s .live) f in let k = st .counted in omega arith)
+          (ap (oneLess q) (st .totalled) ∙ sym (totals-remove totalNumbers w q (s .live) f))
 
-      pub change-stands : (p q : ℕ) → p < 2 ^ r → find w (s .live) ≡ some q → Stands n r S (changedIn n r S T w p) (withLive s (update (record { word = w; plan = p }) (s .live)))
+      pub change-stands : (p q : ℕ) → p < 2 ^ r → find w (s .live) ≡ some q → Stands n r S (changedIn n r S T w p q) (withLive s (update (record { word = w; plan = p }) (s .live)))
       change-stands p q h f =
           let d : Entry = record { word = w; plan = p } in
           touch-stays _ _ (change-edit n r S inj p h) q f
           (valid-live (firstLevel S) (secondLevel S) s (st .valid) (update d (s .live)) (update-ascending d (s .live) (st .valid .ascending))
           (subst⁻¹ (λ (ws : List ℕ). Sublistᴰ ws (words (s .live))) (update-words d (s .live)) (Sublistᴰ·refl (words (s .live)))))
           (small-perm n r (Permᴰ·symm (update-perm d q (s .live) f))
-          (small-cons n r d (remove w (s .live)) (l, h) (λ x m. st .small x (mem-perm (remove-perm w q (s .live) f) x (List·Memᴰ·tail m)))))
+          (small-cons n r d (remove w (s .live)) (l, h) (λ x m. st .small x (mem-perm (remove-perm w q (s .live) f) x (List·Memᴰ·tail m))))) _
           (st .counted ∙ sym (update-length d (s .live)))
+          (ap (λ (ts : List ℕ). oneMore p (oneLess q ts)) (st .totalled) ∙ sym (totals-update totalNumbers w q (s .live) f p))
 
     -- ---- add
 
@@ -330,4 +340,5 @@ module _ (n r : ℕ) (S : ℕ → ℕ) (keeps : (x : ℕ) → x < 2 ^ n → S x 
             bounds2 = now2;
             based = ap (insertAll (p2 .out)) (st .based) ∙ insert-all-sort (p2 .out) (last S s) (last S t) based-now (distinct-last s (st .valid) (st .small)) (distinct-last t valid small);
             counted = ap suc (st .counted) ∙ sym (insert-length e (s .live));
+            totalled = ap (oneMore (e .plan)) (st .totalled) ∙ sym (totals-insert totalNumbers e (s .live));
           }

@@ -8,9 +8,15 @@ use mathlib.Core.Bool.{true, false}
 use mathlib.Core.Logic.{_↔_}
 use mathlib.Core.Option.{none, some}
 use mathlib.Core.List.{List, _∷_, _++_, List·Permᴰ}
+use lib.Dec.{eqb}
 use lib.ListN.{length, getD, set, take, drop}
-use Rattle.lists.specs.Entries.{Entry, words, find}
+use borrow.Author.Tests.{eqb-true, eq-eqb}
+use Rattle.lists.specs.Lists.{keep}
+use Rattle.lists.specs.Entries.{Entry, words, planLimit, find}
+use Rattle.lists.specs.Totals.{planCount, totalsOf, sumOf}
 use Rattle.lists.proofs.Tests.{cond-true}
+use Rattle.lists.proofs.Keep.{keep-in, keep-out}
+use Rattle.lists.proofs.Entries.{find-mem, mem-find, keep-ascending}
 use Rattle.gf2.specs.Bound.{Largest}
 use Rattle.hash.specs.Mix.{mixOf, unmixOf}
 use Rattle.answer.specs.declared.Answer.{Answer}
@@ -31,16 +37,17 @@ use Rattle.model.proofs.Valid.{valid-opened}
 use Rattle.model.proofs.Calls.{count-after, told-after}
 use Rattle.model.proofs.Requests.{word-small}
 use Rattle.model.proofs.Statements as Model
-use Rattle.table.specs.Table.{Table, withFirst, withSecond, bounds, nth, addedTo}
-use Rattle.table.specs.Layout.{buckets1At, buckets2At, baseCountAt, liveCountAt, numbersOf, tableFrom, bucketPlace}
+use Rattle.table.specs.Table.{Table, totalNumbers, withFirst, withSecond, bounds, nth, addedTo}
+use Rattle.table.specs.Layout.{buckets1At, buckets2At, baseCountAt, liveCountAt, numbersOf, tableFrom, bucketPlace, lengthOf, longest}
 use Rattle.table.specs.Content.{entriesOf}
 use Rattle.table.specs.AtOnce.{addedAtOnce}
 use Rattle.table.specs.Sound.{SoundTable}
-use Rattle.table.specs.Calls.{rows, solutions, tableOf, planIn, shaped, sound, FlatSound, openCall, queried, served, callRead, call}
-use Rattle.table.specs.History.{PlanFits, Put, request, tables, states, callsOf, Opened, acceptedCalls, flatState, Same}
-use Rattle.table.specs.Causes.{openCauses, openReturns, callCauses, soundCauses, callReturns}
+use Rattle.table.specs.Calls.{rows, solutions, tableOf, planIn, shaped, sound, FlatSound, openCall, queried, served, callRead, call, totalCall}
+use Rattle.table.specs.History.{PlanFits, Put, request, tables, states, callsOf, Opened, acceptedCalls, LiveWith, flatState, Same}
+use Rattle.table.specs.Causes.{openCauses, openReturns, callCauses, soundCauses, callReturns, totalCauses, totalReturns}
 use Rattle.table.proofs.Numbers as Numbers
 use Rattle.table.proofs.Numbers.{ShapedTable}
+use Rattle.lists.proofs.Totals as Totals
 use Rattle.table.proofs.AtOnce as AtOnce
 use Rattle.table.proofs.Calls as Calls
 use Rattle.table.proofs.Calls.{FlatStands}
@@ -60,6 +67,10 @@ table-numbers t k h = Numbers.forth rows solutions t (Calls.sound-laid t k h)
 -- the header: buckets of level 1, of level 2, base count, live count
 pub header-read : (t : List ℕ) → (length (tableOf t .level1) ≡ getD t buckets1At 0) × (length (tableOf t .level2) ≡ getD t buckets2At 0) × (length (tableOf t .base) ≡ getD t baseCountAt 0) × (tableOf t .count ≡ getD t liveCountAt 0)
 header-read = Numbers.header-read rows solutions
+
+-- document 02, order 2: "its length is 4 + 256 + 74 × buckets + 128", 536 for the smallest table and 6,308 for the largest
+pub lengths : (lengthOf rows solutions 1 1 ≡ 536) × (longest rows solutions ≡ 6308)
+lengths = (refl, refl)
 
 -- "74 per bucket, level 1 first": bucket i is read from its own stretch
 pub read-first : (t : List ℕ) (i : ℕ) → i < getD t buckets1At 0
@@ -128,6 +139,10 @@ module _ (t : List ℕ) (b : (i : ℕ) → getD t i 0 < 2 ^ 64) (c : Call Token)
       → ((numberOf (call t c .answer) ≡ 0) × (valueOf (call t c .answer) ≡ v)) ↔ (NoneMet (callCauses t c) × callReturns t c v)
   call-accepted = accepted-exactly (callCauses t c) (callReturns t c) (call t c .answer) (in-order-apart 0 (callCauses t c) (Causes.call-order t c)) call-causes
 
+-- document 02, order 2, "The question for one plan tests only cause 4 and reads one number": 4 exactly if the shape is wrong, else the number
+pub total-causes : (t : List ℕ) (p : ℕ) → Exactly (totalCauses t) (totalReturns t p) (totalCall t p)
+total-causes = Causes.total-exactly
+
 -- "Order is the table's order"
 pub open-order : (b1 b2 : ℕ) (t : List ℕ) → InOrder 0 (openCauses b1 b2 t)
 open-order = Causes.open-order
@@ -192,6 +207,18 @@ module _ (t : List ℕ) (k : shaped t ≡ true) (h : FlatSound t) where
   unfolding tableFrom
   live-count = sound-stands t k h .stands .counted
 
+  -- document 02, order 2, "each total is the number of live words with that plan"
+  pub totals : tableOf t .totals ≡ totalsOf totalNumbers (flatState t .live)
+  totals = sound-stands t k h .stands .totalled
+
+  pub total-exact : (p : ℕ) → p < planLimit → totalCall t p ≡ Accepted (planCount p (flatState t .live))
+  total-exact = Calls.stands-total t (flatState t) (sound-stands t k h)
+
+  -- the totals sum to the live count
+  pub totals-sum : sumOf (tableOf t .totals) ≡ getD t liveCountAt 0
+  totals-sum =
+      ap sumOf totals ∙ Totals.totals-sum totalNumbers (flatState t .live) (λ e m. sound-stands t k h .stands .small e m .1) ∙ sym live-count
+
   query-plan : (i : Token) (w : ℕ) → wordFor (query i) ≡ Word w → call t (query i) ≡ queried t (find w (flatState t .live))
   unfolding served
   query-plan i w e = causes-else t (query i) w e k (stands-sound t _ (sound-stands t k h) .1) ∙ ap (queried t) (live-plans w (word-small (query i) w e))
@@ -231,6 +258,15 @@ module _ (t : List ℕ) (k : shaped t ≡ true) (h : FlatSound t) where
     full-exactly w q f =
         subst⁻¹ (λ (a : Answer). (a ≡ Full) ↔ (64 < length (base firstLevel secondLevel (wouldLeave firstLevel secondLevel (flatState t) (record { word = w; plan = p })))))
         (History.m t k h i p l .says ∙ ap (λ (x : Read). serveRead (flatState t) (add i p) x .answer) q) (Model.full-exactly firstLevel secondLevel (flatState t) _ f)
+
+-- two sound tables that statement 3 calls equal have equal totals, so they answer each question for one alike
+pub same-totals : (t u : List ℕ) → shaped t ≡ true → FlatSound t → shaped u ≡ true → FlatSound u → Same t u
+    → (tableOf t .totals ≡ tableOf u .totals) × ((p : ℕ) → p < planLimit → totalCall t p ≡ totalCall u p)
+same-totals t u k h j g e =
+    let live = ap (λ (s : State). s .live) e in (
+      totals t k h ∙ ap (totalsOf totalNumbers) live ∙ sym (totals u j g),
+      λ p l. total-exact t k h p l ∙ ap (λ (es : List Entry). Accepted (planCount p es)) live ∙ sym (total-exact u j g p l),
+    )
 
 -- ---- "A list of calls": t is what an accepted opening left, ps any requests, refused ones included
 
@@ -293,3 +329,27 @@ module _ (t : List ℕ) (o : Opened t) (ps : List Put) where
   unfolding served
   query-tells i w e =
       causes-else (after tables t ps) (query i) w e (always-sound .0) (always-sound .1) ∙ ap (queried (after tables t ps)) (plan w (word-small (query i) w e))
+
+  -- document 02, order 2: after any list the question for a plan gets the number of words then live with it, as the model has them
+  pub total-after : (p : ℕ) → p < planLimit → totalCall (after tables t ps) p ≡ Accepted (planCount p (after states (opened (o .size)) ps .live))
+  total-after = Calls.stands-total (after tables t ps) _ (History.after-stands t o ps)
+
+  -- and as the accepted calls tell them
+  pub total-told : (p : ℕ) → p < planLimit → (k : ℕ) × (totalCall (after tables t ps) p ≡ Accepted k) × LiveWith p (acceptedCalls t ps) k
+  total-told p l =
+      let s = after states (opened (o .size)) ps in
+      let st = History.after-stands t o ps in
+      let seen : (v : ℕ) → v < 2 ^ 64 → find v (s .live) ≡ told v (acceptedCalls t ps) = (λ v b. sym (Calls.stands-look (after tables t ps) s st v b) ∙ plan v b) in (
+        planCount p (s .live),
+        total-after p l,
+        record {
+          listed = keep (λ e. eqb (e .plan) p) (s .live);
+          ascending = keep-ascending (λ e. eqb (e .plan) p) (s .live) (st .stands .valid .ascending);
+          fits = λ e m. let q = keep-out _ (s .live) e m in (st .stands .small e (q .0) .0, eqb-true _ _ (q .1));
+          exactly = λ v b. (
+            λ m. sym (seen v b) ∙ mem-find (s .live) (st .stands .valid .ascending) _ (keep-out _ (s .live) _ m .0),
+            λ f. keep-in _ (s .live) (find-mem v p (s .live) (seen v b ∙ f)) (eq-eqb p p refl),
+          );
+          number = refl;
+        },
+      )

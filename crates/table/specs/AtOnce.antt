@@ -10,7 +10,7 @@ use Rattle.bucket.specs.declared.Bucket.{Bucket}
 use Rattle.bucket.specs.declared.Tried.{Tried}
 use Rattle.bucket.specs.Bucket.{add, withdraw}
 use Rattle.bucket_settle.specs.Settle.{leaving, atBound}
-use Rattle.table.specs.Table.{Table, withFirst, withSecond, withBase, withCount, thr, onSecond, put, bucketOf}
+use Rattle.table.specs.Table.{Table, withFirst, withSecond, withBase, withOne, thr, onSecond, put, bucketOf}
 
 -- X is what comes after the bucket, and `go` the arrival of a word there
 module _ (n : ℕ) (thr : ℕ → ℕ) {X : Type 0} (go : X → Entry → X) where
@@ -48,4 +48,4 @@ module _ (n r : ℕ) (S : ℕ → ℕ) where
   abbrev pub addedAtOnce : Table → Entry → Table
   addedAtOnce T e =
       let q : List Bucket × (List Bucket × List Entry) = comeTo1 (T .level1, (T .level2, T .base)) e in
-      withCount (withBase (withSecond (withFirst T (q .0)) (q .1 .0)) (q .1 .1)) (suc (T .count))
+      withOne (withBase (withSecond (withFirst T (q .0)) (q .1 .0)) (q .1 .1)) (e .plan)

@@ -1,12 +1,12 @@
 -- What each call of the table answers, and every number of the table after it: for any numbers as table and any bytes as identifier.
 -- The causes stand in the order of document 01's table; a call that is turned down leaves the table as it was.
 -- Assumes nothing.
-use Prim.Native.Nat.{ℕ}
+use Prim.Native.Nat.{ℕ, _+_}
 use mathlib.Core.Bool.{Bool, cond}
 use mathlib.Core.List.{List}
 use mathlib.Core.Option.{Option, none, some}
 use lib.Dec.{eqb, ltb}
-use lib.ListN.{length}
+use lib.ListN.{length, getD}
 use Rattle.hash.specs.Mix.{mixOf, unmixOf}
 use Rattle.answer.specs.declared.Answer.{Answer}
 use Rattle.answer.specs.declared.Answer.the-variants.{Accepted, WrongBuckets, WrongTable, NotSound, Live, NotLive, Full}
@@ -75,9 +75,9 @@ abbrev pub queried : List ℕ → Option ℕ → Outcome
 queried t (some p) = record { answer = Accepted p; table = t }
 queried t none = turnedDown NotLive t
 
--- change and withdrawal: the earlier plan, and u the table after it
-abbrev pub replaced : List ℕ → Table → Option ℕ → Outcome
-replaced t u (some p) = record { answer = Accepted p; table = L.numbersOf u }
+-- change and withdrawal: the earlier plan, and u of it the table after it
+abbrev pub replaced : List ℕ → (ℕ → Table) → Option ℕ → Outcome
+replaced t u (some q) = record { answer = Accepted q; table = L.numbersOf (u q) }
 replaced t u none = turnedDown NotLive t
 
 -- add: u is the table after it, unless its base list is too long
@@ -101,3 +101,7 @@ callRead t c (Word w) = cond (shaped t) (cond (sound t) (served t w c) (turnedDo
 -- what a call does
 unfoldable pub call : List ℕ → Call Token → Outcome
 call t c = callRead t c (wordFor c)
+
+-- document 02, order 2: the total of the plan p, as the table has it. Cause 4 alone; the table stays
+unfoldable pub totalCall : List ℕ → ℕ → Answer
+totalCall t p = cond (shaped t) (Accepted (getD t (L.totalsAt + p) 0)) (WrongTable (length t))

@@ -1,7 +1,7 @@
--- The causes of opening and of each call in document 01's words and order, with what is returned with each and what an accepted call returns.
+-- The causes of opening, of each call and of the question for a total in document 01's words and order, with what is returned with each and what an accepted call returns.
 -- t is the list of the table's numbers, i any bytes as identifier; causes 1 and 2 are those of the identifier crate.
 -- Assumes nothing.
-use Prim.Native.Nat.{ℕ, suc, _<_}
+use Prim.Native.Nat.{ℕ, suc, _+_, _<_}
 use mathlib.Core.Path.{_≡_}
 use mathlib.Core.Logic.{_⊎_}
 use mathlib.Core.Bool.{false}
@@ -15,7 +15,7 @@ use Rattle.identifier.specs.Causes.{wrongLength, wrongByte}
 use Rattle.model.specs.Levels.{firstLevel, secondLevel}
 use Rattle.model.specs.Model.{baseLimit, Call, add, change, withdraw, query, wouldLeave, base}
 use Rattle.model.specs.Request.{Token, subject}
-use Rattle.table.specs.Layout.{leading, buckets1At, buckets2At, inRange, lengthOf}
+use Rattle.table.specs.Layout.{leading, buckets1At, buckets2At, totalsAt, inRange, lengthOf}
 use Rattle.table.specs.Calls.{rows, solutions, FlatSound}
 use Rattle.table.specs.History.{flatState}
 
@@ -88,3 +88,11 @@ callReturns t (add i p) v = v ≡ suc (length (flatState t .live))
 callReturns t (change i p) v = LivePlan t i v
 callReturns t (withdraw i) v = LivePlan t i v
 callReturns t (query i) v = LivePlan t i v
+
+-- document 02, order 2: "The question for one plan tests only cause 4"
+abbrev pub totalCauses : List ℕ → List Cause
+totalCauses t = wrongTable t ∷ []
+
+-- "and reads one number": the total of the plan p
+abbrev pub totalReturns : List ℕ → ℕ → ℕ → Type 0
+totalReturns t p v = v ≡ getD t (totalsAt + p) 0

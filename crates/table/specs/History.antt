@@ -1,16 +1,19 @@
 -- Lists of requests put to a table; document 01, "A list of calls".
 -- Assumes nothing.
-use Prim.Native.Nat.{ℕ, _<_}
+use Prim.Native.Nat.{ℕ, _^_, _<_}
 use mathlib.Core.Path.{_≡_}
-use mathlib.Core.List.{List}
-use Rattle.lists.specs.Entries.{planLimit}
+use mathlib.Core.Logic.{_↔_}
+use mathlib.Core.Option.{some}
+use mathlib.Core.List.{List, List·Memᴰ}
+use lib.ListN.{length}
+use Rattle.lists.specs.Entries.{Entry, planLimit, Ascending}
 use Rattle.hash.specs.Mix.{unmixOf}
 use Rattle.answer.specs.declared.Answer.the-variants.{Accepted}
 use Rattle.model.specs.Model.{Size, State, Call, add, change, withdraw, query}
 use Rattle.model.specs.Request as R
 use Rattle.model.specs.Request.{Token, Request, ask, respond}
 use Rattle.model.specs.Machine.{Machine, acceptedOf}
-use Rattle.model.specs.History.{callsIn}
+use Rattle.model.specs.History.{callsIn, told}
 use Rattle.table.specs.Content.{stateOf}
 use Rattle.table.specs.Calls.{rows, tableOf, Outcome, openCall, call}
 
@@ -55,6 +58,15 @@ pub record Opened (t : List ℕ) : Type 0 where
 -- the calls of ps that the table accepts, by the words of their identifiers
 abbrev pub acceptedCalls : List ℕ → List Put → List (Call ℕ)
 acceptedCalls t ps = callsIn callsOf (acceptedOf tables t ps)
+
+-- document 02, order 2: k is the number of words then live with the plan p. They are listed, ascending: of each word of 64 bits the
+-- accepted calls tell the plan p exactly if it is in the list
+pub record LiveWith (p : ℕ) (calls : List (Call ℕ)) (k : ℕ) : Type 0 where
+  pub listed : List Entry
+  pub ascending : Ascending listed
+  pub fits : (e : Entry) → List·Memᴰ e listed → (e .word < 2 ^ 64) × (e .plan ≡ p)
+  pub exactly : (v : ℕ) → v < 2 ^ 64 → List·Memᴰ (record { word = v; plan = p }) listed ↔ (told v calls ≡ some p)
+  pub number : length listed ≡ k
 
 -- the bucket numbers of each level, live words, plans and bounds of the table: the live words are those of its occupied rows and base entries
 abbrev pub flatState : List ℕ → State

@@ -4,12 +4,12 @@ use Prim.Native.Nat.{ℕ, zero, suc, _+_, _-_, _*_}
 use mathlib.Core.Bool.{Bool, _&&_}
 use mathlib.Core.List.{List, [], _∷_, _++_}
 use lib.Dec.{leb}
-use lib.ListN.{length, getD, drop, replicate}
+use lib.ListN.{length, getD, take, drop, replicate}
 use Rattle.lists.specs.Entries.{Entry}
 use Rattle.bucket.specs.declared.Bucket.{Bucket}
 use Rattle.bucket_words.specs.Words.{bucketWords, wordsOf, bucketFrom}
 use Rattle.model.specs.Model.{baseLimit}
-use Rattle.table.specs.Table.{Table}
+use Rattle.table.specs.Table.{Table, totalNumbers}
 
 -- level 1 has 1 to this many buckets
 abbrev pub mostBuckets1 : ℕ
@@ -43,9 +43,13 @@ baseCountAt = 2
 abbrev pub liveCountAt : ℕ
 liveCountAt = 3
 
+-- then the totals, plan 0 first
+abbrev pub totalsAt : ℕ
+totalsAt = leading
+
 -- the numbers before the buckets
 abbrev pub header : ℕ
-header = leading
+header = leading + totalNumbers
 
 -- the numbers of the base list: a pair for each entry, used or not
 abbrev pub baseNumbers : ℕ
@@ -67,7 +71,7 @@ basePairs es = pairNumbers es ++ replicate (baseNumbers - 2 * length es) 0
 
 -- the numbers before the buckets of a table
 abbrev pub heads : Table → List ℕ
-heads T = length (T .level1) ∷ length (T .level2) ∷ length (T .base) ∷ T .count ∷ []
+heads T = length (T .level1) ∷ length (T .level2) ∷ length (T .base) ∷ T .count ∷ T .totals
 
 -- the numbers of a table: header, level 1, level 2, base pairs
 unfoldable pub numbersOf : Table → List ℕ
@@ -97,6 +101,7 @@ tableFrom n r xs =
       level2 = levelFrom n r b2 (drop (bucketPlace n r b1) xs);
       base = pairsFrom (getD xs baseCountAt 0) (drop (bucketPlace n r (b1 + b2)) xs);
       count = getD xs liveCountAt 0;
+      totals = take totalNumbers (drop totalsAt xs);
     }
 
 -- the length that the bucket numbers give

@@ -1,4 +1,4 @@
--- A sound table, as document 01 lists it. S is the mix, U its inverse, n the number of rows, r of solution words.
+-- A sound table, as document 01 lists it, with the totals of document 02, order 2. S is the mix, U its inverse, n the number of rows, r of solution words.
 -- Assumes nothing.
 use Prim.Native.Nat.{ℕ, _+_, _^_, _≤_, _<_}
 use mathlib.Core.Path.{_≡_}
@@ -6,13 +6,14 @@ use mathlib.Core.Bool.{true, false}
 use mathlib.Core.List.{List, List·Memᴰ}
 use lib.ListN.{length, getD}
 use Rattle.lists.specs.Entries.{Entry, Ascending, planLimit}
+use Rattle.lists.specs.Totals.{totalsOf}
 use Rattle.bucket.specs.declared.Bucket.{Bucket}
 use Rattle.bucket.specs.Bucket.{live}
 use Rattle.bucket_settle.specs.Settle.{SoundBucket}
 use Rattle.model.specs.Model.{baseLimit}
-use Rattle.table.specs.Table.{Table, thr, index, nth, holds}
+use Rattle.table.specs.Table.{Table, totalNumbers, thr, index, nth, holds}
 use Rattle.table.specs.Layout.{tableFrom, unusedIn}
-use Rattle.table.specs.Content.{occupied}
+use Rattle.table.specs.Content.{occupied, entriesOf}
 
 -- v is an occupied row of bucket i of the level
 pub record Row (n r : ℕ) (bs : List Bucket) (i v : ℕ) : Type 0 where
@@ -33,6 +34,8 @@ module _ (n r : ℕ) (S U : ℕ → ℕ) where
   pub record SoundTable (T : Table) : Type 0 where
     pub fits : length (T .base) ≤ baseLimit
     pub counts : T .count ≡ occupied (T .level1) + (occupied (T .level2) + length (T .base))
+    -- each total is the number of live words with that plan
+    pub totals : T .totals ≡ totalsOf totalNumbers (entriesOf n U T)
     pub level1 : SoundLevel n r S (T .level1)
     pub level2 : SoundLevel n r S (T .level2)
     -- a level 2 word also by its level 1 form

@@ -6,34 +6,52 @@ use mathlib.Core.List.{List, [], _∷_, _++_, map}
 use mathlib.Core.Option.{Option}
 use lib.Dec.{ltb}
 use lib.ListN.{length, getD, set, replicate}
-use Rattle.lists.specs.Entries.{Entry, find, update, remove, insertAll}
+use Rattle.lists.specs.Entries.{Entry, planLimit, find, update, remove, insertAll}
+use Rattle.lists.specs.Totals.{oneMore, oneLess}
 use Rattle.identifier.specs.Place.{thresholdAt, bucketAt}
 use Rattle.bucket.specs.declared.Bucket.{Bucket}
 use Rattle.bucket.specs.Bucket as B
 use Rattle.bucket_settle.specs.Settle.{Settlement, planOf, settle}
 
--- the buckets of each level, the base list by w', and the live count
+-- the number of totals: one for each plan
+abbrev pub totalNumbers : ℕ
+totalNumbers = planLimit
+
+-- every total 0
+unfoldable pub zeroTotals : List ℕ
+zeroTotals = replicate totalNumbers 0
+
+-- the buckets of each level, the base list by w', the live count, and the totals: how many live words each plan has
 pub record Table : Type 0 where
   pub level1 : List Bucket
   pub level2 : List Bucket
   pub base : List Entry
   pub count : ℕ
+  pub totals : List ℕ
 
 -- the table with these buckets at level 1
 abbrev pub withFirst : Table → List Bucket → Table
-withFirst T bs = record { level1 = bs; level2 = T .level2; base = T .base; count = T .count }
+withFirst T bs = record { level1 = bs; level2 = T .level2; base = T .base; count = T .count; totals = T .totals }
 
 -- with these at level 2
 abbrev pub withSecond : Table → List Bucket → Table
-withSecond T bs = record { level1 = T .level1; level2 = bs; base = T .base; count = T .count }
+withSecond T bs = record { level1 = T .level1; level2 = bs; base = T .base; count = T .count; totals = T .totals }
 
 -- with this base list
 abbrev pub withBase : Table → List Entry → Table
-withBase T es = record { level1 = T .level1; level2 = T .level2; base = es; count = T .count }
+withBase T es = record { level1 = T .level1; level2 = T .level2; base = es; count = T .count; totals = T .totals }
 
 -- with this live count
 abbrev pub withCount : Table → ℕ → Table
-withCount T c = record { level1 = T .level1; level2 = T .level2; base = T .base; count = c }
+withCount T c = record { level1 = T .level1; level2 = T .level2; base = T .base; count = c; totals = T .totals }
+
+-- with these totals
+abbrev pub withTotals : Table → List ℕ → Table
+withTotals T ts = record { level1 = T .level1; level2 = T .level2; base = T .base; count = T .count; totals = ts }
+
+-- with one live word more, whose plan is p
+abbrev pub withOne : Table → ℕ → Table
+withOne T p = withTotals (withCount T (suc (T .count))) (oneMore p (T .totals))
 
 -- the bounds of a level's buckets
 unfoldable pub bounds : List Bucket → List ℕ
@@ -70,13 +88,14 @@ module _ (n r : ℕ) where
   abbrev pub nth : List Bucket → ℕ → Bucket
   nth bs i = getD bs i (B.emptyBucket n r)
 
-  -- opened: every bucket empty
+  -- opened: every bucket empty, every total 0
   abbrev pub openTable : ℕ → ℕ → Table
   openTable b1 b2 = record {
     level1 = replicate b1 (B.emptyBucket n r);
     level2 = replicate b2 (B.emptyBucket n r);
     base = [];
     count = 0;
+    totals = zeroTotals;
   }
 
 module _ (n r : ℕ) (S : ℕ → ℕ) where
@@ -103,13 +122,15 @@ module _ (n r : ℕ) (S : ℕ → ℕ) where
       (cond (holds (T .level2) v) (withSecond T (put S (T .level2) v (f v (bucketOf (T .level2) v))))
       (withBase T (g v (T .base))))
 
-  -- the live word w gets the plan p
-  abbrev pub changedIn : Table → ℕ → ℕ → Table
-  changedIn T w p = touch T w (λ v b. B.change n v p b .bucket) (λ v es. update (record { word = v; plan = p }) es)
+  -- the live word w, whose plan is q, gets the plan p
+  abbrev pub changedIn : Table → ℕ → ℕ → ℕ → Table
+  changedIn T w p q =
+      withTotals (touch T w (λ v b. B.change n v p b .bucket) (λ v es. update (record { word = v; plan = p }) es)) (oneMore p (oneLess q (T .totals)))
 
-  -- the live word w goes
-  abbrev pub withdrawnFrom : Table → ℕ → Table
-  withdrawnFrom T w = withCount (touch T w (λ v b. B.withdraw n v b .bucket) (λ v es. remove v es)) (T .count - 1)
+  -- the live word w, whose plan is q, goes
+  abbrev pub withdrawnFrom : Table → ℕ → ℕ → Table
+  withdrawnFrom T w q =
+      withTotals (withCount (touch T w (λ v b. B.withdraw n v b .bucket) (λ v es. remove v es)) (T .count - 1)) (oneLess q (T .totals))
 
   -- the word e arrives at a level: it settles in its bucket
   abbrev pub arriveAt : List Bucket → Entry → Placed
@@ -131,4 +152,4 @@ module _ (n r : ℕ) (S : ℕ → ℕ) where
   addedTo T e =
       let p : Placed = arriveAt (T .level1) e in
       let q : Placed = arriveAll (T .level2) (map (onSecond S) (p .out)) in
-      withCount (withBase (withSecond (withFirst T (p .buckets)) (q .buckets)) (insertAll (q .out) (T .base))) (suc (T .count))
+      withOne (withBase (withSecond (withFirst T (p .buckets)) (q .buckets)) (insertAll (q .out) (T .base))) (e .plan)

@@ -9,11 +9,11 @@ use mathlib.Core.List.{List, [], _∷_, map}
 use mathlib.Core.Option.{none, some}
 use lib.Dec.{ltb}
 use lib.ListN.{length, getD, set, drop}
-use lib.Count.{ones-le}
 use borrow.Author.Tests.{leb-false, le-ltb, lt-ltb, ltb-false}
 use Rattle.answer.specs.declared.Answer.{Answer}
 use Rattle.answer.specs.declared.Answer.the-variants.{Accepted, Live, Full}
 use Rattle.lists.specs.Entries.{Entry}
+use Rattle.lists.specs.Totals.{oneMore}
 use Rattle.lists.proofs.Tests.{cond-true, cond-false}
 use Rattle.hash.specs.Mix.{mixOf}
 use Rattle.bucket.specs.declared.Bucket.{Bucket}
@@ -22,32 +22,33 @@ use Rattle.bucket_settle.specs.declared.Settled.{Settled}
 use Rattle.bucket_settle.specs.Settle.{SoundBucket, settle}
 use Rattle.bucket_settle.specs.Outgoing.{outgoing, settledOf}
 use Rattle.model.specs.Model.{baseLimit, add}
-use Rattle.table.specs.Table.{Table, withFirst, withCount, thr, index, onSecond, put, nth, bucketOf, holds, arriveAt, addedTo}
-use Rattle.table.specs.Layout.{buckets1At, liveCountAt, inRange, numbersOf, bucketPlace, tableFrom}
+use Rattle.table.specs.Table.{Table, totalNumbers, withFirst, withCount, withOne, thr, index, onSecond, put, nth, bucketOf, holds, arriveAt, addedTo}
+use Rattle.table.specs.Layout.{buckets1At, liveCountAt, totalsAt, inRange, numbersOf, bucketPlace, tableFrom}
 use Rattle.table.specs.Calls.{rows, solutions, tableOf, planIn, Outcome, turnedDown, joined, served}
-use Rattle.table.specs.Content.{occupied}
-use Rattle.table.proofs.Numbers.{header-read, write-count}
-use Rattle.table.proofs.Calls.{shape-range}
+use Rattle.table.proofs.Numbers.{header-read, write-count, long-numbers, read-total, write-more}
+use Rattle.table.proofs.Calls.{shape-range, sound-shaped}
 use Rattle.table_layout.proofs.Shape.{first-in, first-here, first-stored, stored-same}
 use Rattle.table_calls.specs.Ready.{Ready}
-use Rattle.table_calls.proofs.Touched.{flat-of}
+use Rattle.table_calls.proofs.Touched.{flat-of, live-room}
+use Rattle.table_calls.proofs.Calls.{total-few}
 use Rattle.table_arrive.specs.Arrival.{settledAt, storedAt, toSecond, Straight, Passed, Kept, FlatKept}
 use Rattle.table_arrive.proofs.Tables.{flat, first-sound, numbers-table, numbers-kept}
 use Rattle.table_arrive.proofs.Settled.{straightly, straight-is, bucket-is, out-is, out-few}
-use Rattle.table_add.specs.Arrivals.{seconds, allToSecond, entering}
+use Rattle.table_add.specs.Arrivals.{seconds, allToSecond, entering, countedIn, Countable}
 use Rattle.table_add.proofs.Arrivals.{all-law, add-law}
 use Rattle.table_add.proofs.Passing.{pass-none, pass-one}
 
 pub passed-as : (n r : ℕ) (t : List ℕ) (U : Table) (done b : Bool) (u : List ℕ) → done ≡ b → Passed n r t U done u → Passed n r t U b u
 passed-as n r t U done b u y g = subst (λ (x : Bool). Passed n r t U x u) y g
 
--- u is the table t after the add of e, but for the live count
+-- u is the table t after the add of e, but for the live count and the totals
 pub record Counted (n r : ℕ) (S : ℕ → ℕ) (t : List ℕ) (e : Entry) (u : List ℕ) : Type 0 where
-  pub long : liveCountAt < length u
+  pub long : totalsAt + totalNumbers ≤ length u
   pub count : getD u liveCountAt 0 ≡ tableFrom n r t .count
+  pub total : (p : ℕ) → p < totalNumbers → getD u (totalsAt + p) 0 ≡ getD (tableFrom n r t .totals) p 0
   pub fits : ltb baseLimit (length (addedTo n r S (tableFrom n r t) e .base)) ≡ false
   pub next : addedTo n r S (tableFrom n r t) e .count ≡ getD u liveCountAt 0 + 1
-  pub table : numbersOf (addedTo n r S (tableFrom n r t) e) ≡ set u liveCountAt (getD u liveCountAt 0 + 1)
+  pub table : e .plan < totalNumbers → numbersOf (addedTo n r S (tableFrom n r t) e) ≡ countedIn (e .plan) u
 
 module _ (n r : ℕ) (S : ℕ → ℕ) (t : List ℕ) (h : FlatKept n r t) (e : Entry) (small : e .word < 2 ^ n) (at : ℕ) (p : at ≡ bucketPlace n r (index S (getD t buckets1At 0) (e .word)))
     (m : ℕ) (s : Settled) (q : s ≡ settledOf m (settledAt n r (thr S) at e t)) where
@@ -70,10 +71,10 @@ module _ (n r : ℕ) (S : ℕ → ℕ) (t : List ℕ) (h : FlatKept n r t) (e : 
   pub enter-few : s .out .count ≤ suc n
   enter-few = out-few n r S m (T .level1) e at t s here q small sound
 
-  U-is : U ≡ withCount (withFirst D (arriveAt n r S (T .level1) e .buckets)) (suc (T .count))
+  U-is : U ≡ withOne (withFirst D (arriveAt n r S (T .level1) e .buckets)) (e .plan)
   U-is =
       add-law n r S T e
-      ∙ ap (λ (es : List Entry). withCount (withFirst (allToSecond n r S T (map (onSecond S) es)) (arriveAt n r S (T .level1) e .buckets)) (suc (T .count)))
+      ∙ ap (λ (es : List Entry). withOne (withFirst (allToSecond n r S T (map (onSecond S) es)) (arriveAt n r S (T .level1) e .buckets)) (e .plan))
       (sym (out-is n r S m (T .level1) e at t s here q))
 
   -- the words did not go on
@@ -124,17 +125,24 @@ module _ (n r : ℕ) (S : ℕ → ℕ) (t : List ℕ) (h : FlatKept n r t) (e : 
       unfolding numbersOf
       counted = ap (λ (l : List ℕ). getD l liveCountAt 0) t2-is ∙ ap (λ (X : Table). X .count) (all-law n r S T (seconds S (s .out)))
 
-      pub enter-counted : Counted n r S t e t2
+      -- one live word more
+      written : e .plan < totalNumbers → numbersOf (withOne E (e .plan)) ≡ countedIn (e .plan) t2
       unfolding numbersOf
-      enter-counted =
-          let c : suc (T .count) ≡ getD t2 liveCountAt 0 + 1 = omega (arith, counted) in
-          record {
-            long = omega (arith, ap (λ (l : List ℕ). length l) t2-is);
-            count = counted;
-            fits = le-ltb baseLimit (length (U .base)) (omega (arith, kept-D .short, ap (λ (X : Table). length (X .base)) U-is));
-            next = c;
-            table = ap numbersOf U-is ∙ write-count n r E (suc (T .count)) ∙ sym (ap₂ (λ (l : List ℕ) (k : ℕ). set l liveCountAt k) t2-is (sym c));
-          }
+      written l =
+          let c : suc (D .count) ≡ getD t2 liveCountAt 0 + 1 = omega (arith, ap (λ (l : List ℕ). getD l liveCountAt 0) t2-is) in
+          write-more n r (withCount E (suc (D .count))) (e .plan) (omega (arith, kept-D .totalled))
+          ∙ ap (oneMore (totalsAt + e .plan)) (write-count n r E (suc (D .count)) ∙ sym (ap₂ (λ (l : List ℕ) (k : ℕ). set l liveCountAt k) t2-is (sym c)))
+
+      pub enter-counted : Counted n r S t e t2
+      enter-counted = record {
+        long = omega (arith, ap length t2-is, long-numbers n r E, kept-D .totalled);
+        count = counted;
+        total = λ p l. ap (λ (u : List ℕ). getD u (totalsAt + p) 0) t2-is ∙ read-total n r E p (omega (arith, kept-D .totalled))
+            ∙ ap (λ (X : Table). getD (X .totals) p 0) (all-law n r S T (seconds S (s .out)));
+        fits = le-ltb baseLimit (length (U .base)) (omega (arith, kept-D .short, ap (λ (X : Table). length (X .base)) U-is));
+        next = omega (arith, counted);
+        table = λ l. ap numbersOf U-is ∙ written l;
+      }
 
 -- ---- a word that settles at once: straight into its bucket, or in none at level 1. Either way u is the table before it is counted
 
@@ -175,11 +183,6 @@ module _ (n r : ℕ) (S : ℕ → ℕ) (t : List ℕ) (h : FlatKept n r t) (e : 
 
 -- ---- at 64 and 8
 
-occupied-few : (n r : ℕ) (bs : List Bucket) → ((i : ℕ) → i < length bs → SoundBucket n r (nth n r bs i)) → occupied bs ≤ length bs * n
-occupied-few n r [] h = omega arith
-occupied-few n r (b ∷ bs) h =
-    omega (arith, ones-le n (b .mark) (h 0 (omega arith) .sound .mark-lt), occupied-few n r bs (λ i l. h (suc i) (omega arith)))
-
 module _ (t : List ℕ) (h : Ready t) where
   pub ready-kept : FlatKept rows solutions t
   ready-kept = record {
@@ -188,27 +191,19 @@ module _ (t : List ℕ) (h : Ready t) where
       first = h .sound .table .level1 .buckets;
       second = h .sound .table .level2 .buckets;
       short = h .sound .table .fits;
+      totalled = sound-shaped (tableOf t) (h .sound .table) .totalled;
     };
     numbers = flat-of h .numbers;
   }
 
-  -- there is room for one more in the live count
-  live-room : tableOf t .count + 1 < 2 ^ 64
-  live-room =
-      let k = h .sound .table in
-      let s = flat-of h .shape .range in
-      omega (
-        arith,
-        k .counts,
-        occupied-few rows solutions (tableOf t .level1) (k .level1 .buckets),
-        occupied-few rows solutions (tableOf t .level2) (k .level2 .buckets),
-        k .fits,
-        header-read rows solutions t .0,
-        header-read rows solutions t .1,
-      )
-
-  pub count-room : (e : Entry) (u : List ℕ) → Counted rows solutions mixOf t e u → (liveCountAt < length u) × (getD u liveCountAt 0 + 1 < 2 ^ 64)
-  count-room e u g = (g .long, subst⁻¹ (λ (k : ℕ). k + 1 < 2 ^ 64) (g .count) live-room)
+  -- there is room for one more in the live count and in each total
+  pub count-room : (e : Entry) (u : List ℕ) → Counted rows solutions mixOf t e u → e .plan < totalNumbers → Countable (e .plan) u
+  count-room e u g l = record {
+    long = g .long;
+    fits = l;
+    count = subst⁻¹ (λ (k : ℕ). k + 1 < 2 ^ 64) (g .count) (live-room h);
+    total = λ x k. omega (arith, g .total x k, total-few t h x k, live-room h);
+  }
 
 module _ (t : List ℕ) (w p : ℕ) where
   abbrev added : Table
@@ -221,11 +216,11 @@ module _ (t : List ℕ) (w p : ℕ) where
   entered-full u g = let e = cond-true (turnedDown Full t) (record { answer = Accepted (added .count); table = numbersOf added }) (g .0) in (ap (λ (o : Outcome). o .answer) (sym e), g .1 ∙ ap (λ (o : Outcome). o .table) (sym e))
 
   -- u is counted: a is the answer, v the table then
-  pub entered-done : (u : List ℕ) → Counted rows solutions mixOf t (record { word = w; plan = p }) u → (a : Answer) (v : List ℕ)
-      → (a ≡ Accepted (getD u liveCountAt 0 + 1)) × (v ≡ set u liveCountAt (getD u liveCountAt 0 + 1)) → (a ≡ outcome .answer) × (v ≡ outcome .table)
-  entered-done u g a v k =
+  pub entered-done : (u : List ℕ) → Counted rows solutions mixOf t (record { word = w; plan = p }) u → p < totalNumbers → (a : Answer) (v : List ℕ)
+      → (a ≡ Accepted (getD u liveCountAt 0 + 1)) × (v ≡ countedIn p u) → (a ≡ outcome .answer) × (v ≡ outcome .table)
+  entered-done u g l a v k =
       let e = cond-false (turnedDown Full t) (record { answer = Accepted (added .count); table = numbersOf added }) (g .fits) in
-      (k .0 ∙ ap Accepted (sym (g .next)) ∙ ap (λ (o : Outcome). o .answer) (sym e), k .1 ∙ sym (g .table) ∙ ap (λ (o : Outcome). o .table) (sym e))
+      (k .0 ∙ ap Accepted (sym (g .next)) ∙ ap (λ (o : Outcome). o .answer) (sym e), k .1 ∙ sym (g .table l) ∙ ap (λ (o : Outcome). o .table) (sym e))
 
   -- the call, by the plan of w
   pub added-live : (q : ℕ) → planIn t w ≡ some q → served t w (add [] p) ≡ turnedDown (Live q) t

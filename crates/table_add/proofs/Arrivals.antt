@@ -13,7 +13,7 @@ use Rattle.lists.specs.Entries.{Entry, words, insertAll}
 use Rattle.lists.proofs.Tests.{cases}
 use Rattle.bucket.specs.declared.Bucket.{Bucket}
 use Rattle.bucket.specs.Bucket.{emptyBucket}
-use Rattle.table.specs.Table.{Table, withFirst, withSecond, withBase, withCount, Placed, index, onSecond, put, nth, bucketOf, arriveAt, arriveAll, addedTo}
+use Rattle.table.specs.Table.{Table, withFirst, withSecond, withBase, withOne, Placed, index, onSecond, put, nth, bucketOf, arriveAt, arriveAll, addedTo}
 use Rattle.table_arrive.specs.Arrival.{toSecond}
 use Rattle.table_arrive.proofs.Settled.{insert-all-length}
 use Rattle.table_add.specs.Arrivals.{allToSecond, takeOver}
@@ -38,9 +38,9 @@ module _ (n r : ℕ) (S : ℕ → ℕ) where
   -- the table after an add
   pub add-law : (T : Table) (e : Entry)
       → addedTo n r S T e
-      ≡ withCount (withFirst (allToSecond n r S T (map (onSecond S) (arriveAt n r S (T .level1) e .out))) (arriveAt n r S (T .level1) e .buckets)) (suc (T .count))
+      ≡ withOne (withFirst (allToSecond n r S T (map (onSecond S) (arriveAt n r S (T .level1) e .out))) (arriveAt n r S (T .level1) e .buckets)) (e .plan)
   add-law T e =
-      ap (λ (U : Table). withCount (withFirst U (arriveAt n r S (T .level1) e .buckets)) (suc (T .count))) (sym (all-law T (map (onSecond S) (arriveAt n r S (T .level1) e .out))))
+      ap (λ (U : Table). withOne (withFirst U (arriveAt n r S (T .level1) e .buckets)) (e .plan)) (sym (all-law T (map (onSecond S) (arriveAt n r S (T .level1) e .out))))
 
   -- the base list grows
   pub base-grows : (T : Table) (es : List Entry) → length (T .base) ≤ length (allToSecond n r S T es .base)

@@ -186,6 +186,7 @@ module _ (n r : ℕ) (S : ℕ → ℕ) (t : List ℕ) (h : FlatKept n r t) (es :
       first = h .table .first;
       second = kept-U .second;
       short = h .table .short;
+      totalled = h .table .totalled;
     }
 
     table1 : tableFrom n r t1 ≡ T1

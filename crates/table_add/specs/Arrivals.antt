@@ -1,18 +1,19 @@
 -- An add as the code goes about it: the words that leave level 1 arrive at level 2 one after the other, more than one on a draft first;
 -- table_arrive has the arrival of one. S is the mix, n the number of rows, r of solution words.
 -- Assumes nothing.
-use Prim.Native.Nat.{ℕ}
+use Prim.Native.Nat.{ℕ, _+_, _^_, _≤_, _<_}
 use mathlib.Core.Path.{_≡_}
 use mathlib.Core.Bool.{Bool, true}
 use mathlib.Core.Option.{none}
 use mathlib.Core.List.{List, [], _∷_, map}
-use lib.ListN.{getD}
+use lib.ListN.{length, getD, set}
 use Rattle.lists.specs.Entries.{Entry}
+use Rattle.lists.specs.Totals.{oneMore}
 use Rattle.hash.specs.Mix.{mixOf}
 use Rattle.bucket_settle.specs.declared.Outgoing.{Outgoing}
-use Rattle.table.specs.Table.{Table, withSecond, onSecond, put, bucketOf, addedTo}
+use Rattle.table.specs.Table.{Table, totalNumbers, withSecond, onSecond, put, bucketOf, addedTo}
 use Rattle.table.specs.Calls.{rows, solutions, tableOf, Outcome, joined}
-use Rattle.table.specs.Layout.{buckets1At, buckets2At, numbersOf}
+use Rattle.table.specs.Layout.{buckets1At, buckets2At, liveCountAt, totalsAt, numbersOf}
 use Rattle.table_arrive.specs.Arrival.{entriesOf, toSecond, fits, Kept, FlatKept}
 
 -- the words that leave level 1, as level 2 sees them
@@ -47,3 +48,14 @@ module _ (n r : ℕ) where
 -- what an add of the word e, which is not live, does at 64 rows and 8 solution words
 abbrev pub entering : List ℕ → Entry → Outcome
 entering t e = joined t (addedTo rows solutions mixOf (tableOf t) e) none
+
+-- the numbers of a table with one live word more, whose plan is p
+abbrev pub countedIn : ℕ → List ℕ → List ℕ
+countedIn p t = oneMore (totalsAt + p) (set t liveCountAt (getD t liveCountAt 0 + 1))
+
+-- there is room for it in the live count and in each total
+pub record Countable (p : ℕ) (t : List ℕ) : Type 0 where
+  pub long : totalsAt + totalNumbers ≤ length t
+  pub fits : p < totalNumbers
+  pub count : getD t liveCountAt 0 + 1 < 2 ^ 64
+  pub total : (x : ℕ) → x < totalNumbers → getD t (totalsAt + x) 0 + 1 < 2 ^ 64

@@ -12,9 +12,9 @@ use table_base::Found;
 use table_layout::Table;
 ghost use mathlib.Core.Path.{_≡_};
 ghost use mathlib.Core.List.{[]};
-ghost use Prim.Native.Nat.{_+_, _^_, _<_, _≤_};
-ghost use lib.ListN.{length, getD, set};
-ghost use Rattle.lists.specs.Entries.{words};
+ghost use Prim.Native.Nat.{_+_, _<_, _≤_};
+ghost use lib.ListN.{length, getD};
+ghost use Rattle.lists.specs.Entries.{words, planLimit};
 ghost use Rattle.hash.specs.Mix.{mixOf};
 ghost use Rattle.answer.specs.declared.Answer.the-variants.{Accepted};
 ghost use Rattle.model.specs.Model.{add};
@@ -23,7 +23,7 @@ ghost use Rattle.table.specs.Layout.{liveCountAt, numbersOf};
 ghost use Rattle.table.specs.Calls.{rows, solutions, tableOf, served, call};
 ghost use Rattle.table_calls.specs.Ready.{Ready};
 ghost use Rattle.table_arrive.specs.Arrival.{Passed, FlatKept};
-ghost use Rattle.table_add.specs.Arrivals.{seconds, allToSecond, takeOver, Drafted, SameSize, entering};
+ghost use Rattle.table_add.specs.Arrivals.{seconds, allToSecond, takeOver, Drafted, SameSize, entering, countedIn, Countable};
 
 // The words that leave level 1 arrive at level 2 one after the other, on a draft. False as soon as the base list has no room: then nothing is
 // said of the draft.
@@ -103,19 +103,20 @@ pub(crate) fn pass_on(t: &mut [u64], out: Outgoing) -> bool
     pass_drafted(t, &mut draft[..n], out)
 }
 
-// One more live word.
-pub(crate) fn count_one(t: &mut [u64]) -> Answer
-    requires { ⌜ (liveCountAt < length (now t)) × (getD (now t) liveCountAt 0 + 1 < 2 ^ 64) ⌝ }
-    ensures { λ r. ⌜ (r ≡ Accepted (getD (now (t .entry)) liveCountAt 0 + 1)) × (now (t .exit) ≡ set (now (t .entry)) liveCountAt (getD (now (t .entry)) liveCountAt 0 + 1)) ⌝ }
+// One more live word, with its plan.
+pub(crate) fn count_one(t: &mut [u64], plan: u64) -> Answer
+    requires { ⌜ Countable plan (now t) ⌝ }
+    ensures { λ r. ⌜ (r ≡ Accepted (getD (now (t .entry)) liveCountAt 0 + 1)) × (now (t .exit) ≡ countedIn plan (now (t .entry))) ⌝ }
 {
     let count = t[Table::LIVE_COUNT_AT] + 1;
     t[Table::LIVE_COUNT_AT] = count;
+    table_layout::raise_total(t, plan);
     Answer::Accepted(count)
 }
 
 // A word that is not live settles at level 1, and what leaves that goes on.
 pub(crate) fn enter_settling(t: &mut [u64], w: u64, plan: u64) -> Answer
-    requires { ⌜ Ready (now t) ⌝ }
+    requires { ⌜ Ready (now t) × (plan < planLimit) ⌝ }
     ensures { λ r. ⌜ (r ≡ entering (now (t .entry)) (record { word = w; plan = plan }) .answer) × (now (t .exit) ≡ entering (now (t .entry)) (record { word = w; plan = plan }) .table) ⌝ }
 {
     let at = table_layout::first_place(t, w);
@@ -124,32 +125,32 @@ pub(crate) fn enter_settling(t: &mut [u64], w: u64, plan: u64) -> Answer
     if pass_on(t, out) {
         let b = s.bucket;
         table_arrive::store_at(t, at, b);
-        return count_one(t);
+        return count_one(t, plan);
     }
     Answer::Full // and the bucket stays as it was
 }
 
 // A word that is not live arrives at level 1: straight into its bucket; or, where that does not hold it, at level 2; or it settles there.
 pub(crate) fn enter(t: &mut [u64], w: u64, plan: u64) -> Answer
-    requires { ⌜ Ready (now t) ⌝ }
+    requires { ⌜ Ready (now t) × (plan < planLimit) ⌝ }
     ensures { λ r. ⌜ (r ≡ entering (now (t .entry)) (record { word = w; plan = plan }) .answer) × (now (t .exit) ≡ entering (now (t .entry)) (record { word = w; plan = plan }) .table) ⌝ }
 {
     let at = table_layout::first_place(t, w);
     if table_arrive::put_straight(t, at, w, plan) {
-        return count_one(t);
+        return count_one(t, plan);
     }
     if table_layout::holds_first(t, w) {
         return enter_settling(t, w, plan);
     }
     if table_arrive::arrive_second(t, identifier::second(w), plan) {
-        return count_one(t);
+        return count_one(t, plan);
     }
     Answer::Full
 }
 
 // An add of the word w.
 pub fn add_word(t: &mut [u64], w: u64, plan: u64) -> Answer
-    requires { ⌜ Ready (now t) ⌝ }
+    requires { ⌜ Ready (now t) × (plan < planLimit) ⌝ }
     ensures { λ r. ⌜ (r ≡ served (now (t .entry)) w (add [] plan) .answer) × (now (t .exit) ≡ served (now (t .entry)) w (add [] plan) .table) ⌝ }
 {
     let found = table_calls::plan_in(t, w);

@@ -45,6 +45,7 @@ module _ (n r : ℕ) where
       first = λ i l. let b = h .first i l in record { cols = b .sound .inverse .cols; sols = b .wide };
       second = λ i l. let b = h .second i l in record { cols = b .sound .inverse .cols; sols = b .wide };
       fits = h .short;
+      totalled = h .totalled;
     }
 
     -- one bucket of level 2 is replaced by a sound one, or the base list by one that is not too long
@@ -54,10 +55,11 @@ module _ (n r : ℕ) where
       first = h .first;
       second = set-sound (T .level2) i b (h .second) s;
       short = h .short;
+      totalled = h .totalled;
     }
 
     pub base-kept : (es : List Entry) → length es ≤ baseLimit → Kept n r (withBase T es)
-    base-kept es l = record { range = h .range; first = h .first; second = h .second; short = l }
+    base-kept es l = record { range = h .range; first = h .first; second = h .second; short = l; totalled = h .totalled }
 
     -- its numbers give it back
     module _ (t : List ℕ) (q : t ≡ numbersOf T) where

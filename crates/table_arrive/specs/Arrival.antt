@@ -14,7 +14,7 @@ use Rattle.bucket_words.specs.Words.{bucketWords, wordsOf, bucketFrom}
 use Rattle.bucket_settle.specs.declared.Outgoing.{Outgoing}
 use Rattle.bucket_settle.specs.Settle.{SoundBucket, Settlement, settle}
 use Rattle.model.specs.Model.{baseLimit}
-use Rattle.table.specs.Table.{Table, withSecond, withBase, Placed, nth, arriveAt}
+use Rattle.table.specs.Table.{Table, totalNumbers, withSecond, withBase, Placed, nth, arriveAt}
 use Rattle.table.specs.Layout.{inRange, numbersOf, tableFrom}
 
 -- k words with their plans, from the front of two lists
@@ -58,12 +58,13 @@ abbrev pub fits : Table → Bool
 fits T = leb (length (T .base)) baseLimit
 
 module _ (n r : ℕ) where
-  -- what each step keeps: bucket numbers in range, every bucket sound, the base list not too long
+  -- what each step keeps: bucket numbers in range, every bucket sound, the base list not too long, a total for each plan
   pub record Kept (T : Table) : Type 0 where
     pub range : inRange (length (T .level1)) (length (T .level2)) ≡ true
     pub first : (i : ℕ) → i < length (T .level1) → SoundBucket n r (nth n r (T .level1) i)
     pub second : (i : ℕ) → i < length (T .level2) → SoundBucket n r (nth n r (T .level2) i)
     pub short : length (T .base) ≤ baseLimit
+    pub totalled : length (T .totals) ≡ totalNumbers
 
   -- numbers that hold such a table
   pub record FlatKept (t : List ℕ) : Type 0 where

@@ -1,15 +1,18 @@
 -- The calls: what each does where its word is live or not, and where a cause before that is met.
 -- Assumes nothing.
-use Prim.Native.Nat.{ℕ, _-_, _^_, _≤_, _<_}
+use Prim.Native.Nat.{ℕ, _+_, _-_, _^_, _≤_, _<_}
 use native.Mathlib.Nat.{sub-zero}
 use native.Mathlib.Omega.{arith}
-use mathlib.Core.Path.{_≡_, refl, sym, ap, _∙_}
+use mathlib.Core.Path.{_≡_, refl, sym, ap, _∙_, subst, subst⁻¹}
 use mathlib.Core.Bool.{true, false}
 use mathlib.Core.List.{List, []}
 use mathlib.Core.Option.{Option, none, some}
-use lib.ListN.{length, getD, set}
+use lib.ListN.{length, getD, set, length-set}
 use Rattle.lists.proofs.Tests.{cases, cond-true, cond-false}
-use Rattle.lists.proofs.Entries.{remove-length}
+use Rattle.lists.specs.Entries.{Entry, find}
+use Rattle.lists.specs.Totals.{planCount, totalsOf, oneMore, oneLess}
+use Rattle.lists.proofs.Entries.{find-mem, remove-length}
+use Rattle.lists.proofs.Totals.{count-le, count-found, totals-length, totals-at, less-le}
 use Rattle.hash.specs.Mix.{mixOf}
 use Rattle.answer.specs.declared.Answer.{Answer}
 use Rattle.answer.specs.declared.Answer.the-variants.{Accepted, WrongTable, NotSound, NotLive}
@@ -18,20 +21,21 @@ use Rattle.identifier.specs.declared.Read.{Read}
 use Rattle.identifier.specs.declared.Read.the-variants.{Word, Refused}
 use Rattle.model.specs.Model.{Call, add, change, withdraw, query}
 use Rattle.model.specs.Request.{Token, wordFor, askOf}
-use Rattle.table.specs.Table.{Table, withCount}
-use Rattle.table.specs.Layout.{liveCountAt, numbersOf, tableFrom}
+use Rattle.table.specs.Table.{Table, totalNumbers, withCount, withTotals}
+use Rattle.table.specs.Layout.{liveCountAt, totalsAt, numbersOf, tableFrom}
 use Rattle.table.specs.Calls.{rows, solutions, tableOf, planIn, shaped, sound, Outcome, turnedDown, queried, replaced, served, callRead, call}
-use Rattle.table.specs.History.{flatState}
-use Rattle.table.proofs.Numbers.{write-count}
-use Rattle.table.proofs.Level.{touch-keeps}
-use Rattle.table.proofs.Calls.{stands-look, sound-stands-flat, sound-exactly}
+use Rattle.table.specs.History.{PlanFits, flatState}
+use Rattle.table.proofs.Numbers.{write-count, read-total, write-more, write-less, long-numbers}
+use Rattle.table.proofs.Level.{touch-keeps, touch-totals}
+use Rattle.table.proofs.Calls.{FlatStands, stands-look, sound-stands-flat, sound-exactly}
+use Rattle.table_calls.proofs.Touched.{live-room}
 use Rattle.table_base.specs.declared.Found.{Found}
 use Rattle.table_base.specs.declared.Found.the-variants.{Plan, Nothing}
 use Rattle.table_base.specs.Base.{foundOf}
 use Rattle.table_calls.specs.declared.Edit.{Edit}
 use Rattle.table_calls.specs.declared.Edit.the-variants.{Change, Withdraw}
 use Rattle.table_calls.specs.Ready.{Ready, admitted}
-use Rattle.table_calls.specs.Edit.{onBucket, onBase, touched, leaving, asked}
+use Rattle.table_calls.specs.Edit.{onBucket, onBase, touched, leaving, recounted, recountedIn, Movable, asked}
 
 -- ---- a word that is live, or not
 
@@ -47,12 +51,64 @@ found-none none e = refl
 abbrev edited : Edit → ℕ → Table → Table
 edited d w T = withCount (touched d w T) (T .count - leaving d)
 
-edit-served : (t : List ℕ) (w : ℕ) (i : Token) (d : Edit) → served t w (asked d i) ≡ replaced t (edited d w (tableOf t)) (planIn t w)
+-- with the totals too, where the word had the plan q
+abbrev moved : Edit → ℕ → Table → ℕ → Table
+moved d w T q = withTotals (edited d w T) (recounted d q (T .totals))
+
+edit-served : (t : List ℕ) (w : ℕ) (i : Token) (d : Edit) → served t w (asked d i) ≡ replaced t (moved d w (tableOf t)) (planIn t w)
 unfolding served
-edit-served t w i (Change q) =
-    let d : Edit = Change q in
-    ap (λ (c : ℕ). replaced t (withCount (touched d w (tableOf t)) c) (planIn t w)) (touch-keeps rows solutions mixOf (tableOf t) w (onBucket d) (onBase d) ∙ sym (sub-zero (tableOf t .count)))
+edit-served t w i (Change p) =
+    let d : Edit = Change p in
+    ap (λ (c : ℕ). replaced t (λ q. withTotals (withCount (touched d w (tableOf t)) c) (recounted d q (tableOf t .totals))) (planIn t w))
+    (touch-keeps rows solutions mixOf (tableOf t) w (onBucket d) (onBase d) ∙ sym (sub-zero (tableOf t .count)))
 edit-served t w i Withdraw = refl
+
+-- the totals of a table, moved where they lie
+moved-numbers : (d : Edit) (q : ℕ) (X : Table) → length (X .totals) ≡ totalNumbers → q < totalNumbers → PlanFits (asked d [])
+    → numbersOf (withTotals X (recounted d q (X .totals))) ≡ recountedIn d q (numbersOf X)
+moved-numbers (Change p) q X h l f =
+    let Y : Table = withTotals X (oneLess q (X .totals)) in
+    write-more rows solutions Y p (omega (arith, length-set (X .totals) q (getD (X .totals) q 0 - 1))) ∙ ap (oneMore (totalsAt + p)) (write-less rows solutions X q (omega arith))
+moved-numbers Withdraw q X h l f = write-less rows solutions X q (omega arith)
+
+-- no total is larger than the live count
+pub total-few : (t : List ℕ) → Ready t → (p : ℕ) → p < totalNumbers → getD (tableOf t .totals) p 0 ≤ tableOf t .count
+total-few t h p l =
+    let st = sound-stands-flat t (h .shape) (h .sound) in
+    omega (arith, ap (λ (ts : List ℕ). getD ts p 0) (st .stands .totalled), totals-at totalNumbers (flatState t .live) p l, count-le p (flatState t .live), st .stands .counted)
+
+-- a live word's total can be taken one off, and no total is too large for one more
+movable : (d : Edit) (q : ℕ) (X : Table) (es : List Entry) → X .totals ≡ totalsOf totalNumbers es → q < totalNumbers → 0 < planCount q es → length es + 1 < 2 ^ 64 → PlanFits (asked d [])
+    → Movable d q (numbersOf X)
+movable d q X es e l h few f = record {
+  long = numbers-long;
+  fits = l;
+  some = subst⁻¹ (λ (x : ℕ). 0 < x) (read-total rows solutions X q (omega (arith, many)) ∙ at q l) h;
+  plan = f;
+  room = room;
+}
+  where
+    many : length (X .totals) ≡ totalNumbers
+    many = ap length e ∙ totals-length totalNumbers es
+
+    at : (p : ℕ) → p < totalNumbers → getD (X .totals) p 0 ≡ planCount p es
+    at p k = ap (λ (ts : List ℕ). getD ts p 0) e ∙ totals-at totalNumbers es p k
+
+    numbers-long : totalsAt + totalNumbers ≤ length (numbersOf X)
+    numbers-long = omega (arith, long-numbers rows solutions X, many)
+
+    room : (p : ℕ) → p < totalNumbers → getD (oneLess (totalsAt + q) (numbersOf X)) (totalsAt + p) 0 + 1 < 2 ^ 64
+    room p k =
+        let Y : Table = withTotals X (oneLess q (X .totals)) in
+        let y : p < length (Y .totals) = omega (arith, length-set (X .totals) q (getD (X .totals) q 0 - 1), many) in
+        omega (
+          arith,
+          ap (λ (t : List ℕ). getD t (totalsAt + p) 0) (write-less rows solutions X q (omega (arith, many))),
+          read-total rows solutions Y p y,
+          less-le q p (X .totals),
+          at p k,
+          count-le p es,
+        )
 
 leaving-le : (d : Edit) → leaving d ≤ 1
 leaving-le (Change q) = omega arith
@@ -67,22 +123,47 @@ module _ (t : List ℕ) (w : ℕ) (i : Token) (f : Found) (e : f ≡ foundOf (pl
     unfolding served
     query-live = ap (queried t) live
 
-    pub edit-live : (d : Edit) (ys : List ℕ) → ys ≡ numbersOf (touched d w (tableOf t))
-        → served t w (asked d i) ≡ record { answer = Accepted p; table = set ys liveCountAt (getD t liveCountAt 0 - leaving d) }
-    unfolding tableFrom
-    edit-live d ys y =
-        edit-served t w i d ∙ ap (replaced t (edited d w (tableOf t))) live
-        ∙ ap {B = Outcome} (λ l. record { answer = Accepted p; table = l })
-        (write-count rows solutions (touched d w (tableOf t)) (tableOf t .count - leaving d)
-        ∙ ap (λ (l : List ℕ). set l liveCountAt (tableOf t .count - leaving d)) (sym y))
+    module _ (h : Ready t) (b : w < 2 ^ rows) where
+      st : FlatStands t (flatState t)
+      st = sound-stands-flat t (h .shape) (h .sound)
 
-    -- the live count is not 0
-    pub counted : Ready t → w < 2 ^ rows → (d : Edit) → leaving d ≤ getD t liveCountAt 0
-    unfolding tableFrom
-    counted h b d =
-        let st = sound-stands-flat t (h .shape) (h .sound) in
-        let k = remove-length w p (flatState t .live) (sym (stands-look t (flatState t) st w b) ∙ live) in
-        omega (arith, leaving-le d, st .stands .counted)
+      found : find w (flatState t .live) ≡ some p
+      found = sym (stands-look t (flatState t) st w b) ∙ live
+
+      -- the live count is not 0
+      pub counted : (d : Edit) → leaving d ≤ getD t liveCountAt 0
+      unfolding tableFrom
+      counted d = omega (arith, leaving-le d, st .stands .counted, remove-length w p (flatState t .live) found)
+
+      plan-small : p < totalNumbers
+      plan-small = st .stands .small _ (find-mem w p (flatState t .live) found) .1
+
+      -- the table once it is touched and the live count is written
+      module _ (d : Edit) (pf : PlanFits (asked d [])) (ys : List ℕ) (y : ys ≡ numbersOf (touched d w (tableOf t))) where
+        abbrev T : Table
+        T = tableOf t
+
+        abbrev X : Table
+        X = edited d w T
+
+        totals-stay : X .totals ≡ T .totals
+        totals-stay = touch-totals rows solutions mixOf T w (onBucket d) (onBase d)
+
+        numbers-X : numbersOf X ≡ set ys liveCountAt (getD t liveCountAt 0 - leaving d)
+        unfolding tableFrom
+        numbers-X = write-count rows solutions (touched d w T) (T .count - leaving d) ∙ ap (λ (l : List ℕ). set l liveCountAt (T .count - leaving d)) (sym y)
+
+        pub edit-movable : Movable d p (set ys liveCountAt (getD t liveCountAt 0 - leaving d))
+        edit-movable =
+            subst (Movable d p) numbers-X
+            (movable d p X (flatState t .live) (totals-stay ∙ st .stands .totalled) plan-small (count-found w p (flatState t .live) found) (subst (λ (k : ℕ). k + 1 < 2 ^ 64) (st .stands .counted) (live-room h)) pf)
+
+        pub edit-live : served t w (asked d i) ≡ record { answer = Accepted p; table = recountedIn d p (set ys liveCountAt (getD t liveCountAt 0 - leaving d)) }
+        edit-live =
+            edit-served t w i d ∙ ap (replaced t (moved d w T)) live
+            ∙ ap {B = Outcome} (λ l. record { answer = Accepted p; table = l })
+            (ap (λ (ts : List ℕ). numbersOf (withTotals X (recounted d p ts))) (sym totals-stay)
+            ∙ moved-numbers d p X (ap length (totals-stay ∙ st .stands .totalled) ∙ totals-length totalNumbers (flatState t .live)) plan-small pf ∙ ap (recountedIn d p) numbers-X)
 
   module _ (l : f ≡ Nothing) where
     pub gone : planIn t w ≡ none
@@ -93,7 +174,7 @@ module _ (t : List ℕ) (w : ℕ) (i : Token) (f : Found) (e : f ≡ foundOf (pl
     query-gone = ap (queried t) gone
 
     pub edit-gone : (d : Edit) → served t w (asked d i) ≡ turnedDown NotLive t
-    edit-gone d = edit-served t w i d ∙ ap (replaced t (edited d w (tableOf t))) gone
+    edit-gone d = edit-served t w i d ∙ ap (replaced t (moved d w (tableOf t))) gone
 
 -- ---- the causes before that
 

@@ -1,12 +1,13 @@
 -- One bucket, or the base list, of a table is read or written where it lies: what that does to the numbers. At every number n of rows and r of
 -- solution words and for any mix S; then of a table that is sound, at 64 and 8.
 -- Assumes nothing.
-use Prim.Native.Nat.{ℕ, _+_, _-_, _≤_, _<_}
+use Prim.Native.Nat.{ℕ, suc, _+_, _-_, _*_, _^_, _≤_, _<_}
 use native.Mathlib.Omega.{arith}
 use mathlib.Core.Path.{_≡_, sym, ap, ap₂, _∙_, subst}
 use mathlib.Core.Bool.{true, false, cond}
-use mathlib.Core.List.{List, _++_}
+use mathlib.Core.List.{List, [], _∷_, _++_}
 use mathlib.Core.Option.{Option, none, some}
+use lib.Count.{ones-le}
 use lib.ListN.{length, getD, set, take, drop}
 use borrow.Author.Tests.{lt-ltb, le-ltb}
 use borrow.Rule.Slice.PartMut.{putMid, post-is}
@@ -16,10 +17,11 @@ use Rattle.bucket.specs.declared.Bucket.{Bucket}
 use Rattle.bucket.specs.Bucket.{rowOf, lookup}
 use Rattle.bucket.proofs.Laws.{live-row}
 use Rattle.bucket_words.specs.Words.{bucketWords, wordsOf, bucketFrom}
-use Rattle.bucket_settle.specs.Settle.{planOf}
+use Rattle.bucket_settle.specs.Settle.{SoundBucket, planOf}
 use Rattle.model.specs.Model.{baseLimit}
-use Rattle.table.specs.Table.{Table, withSecond, withBase, second, index, put, bucketOf, holds, planIn, touch}
+use Rattle.table.specs.Table.{Table, withSecond, withBase, second, index, put, nth, bucketOf, holds, planIn, touch}
 use Rattle.table.specs.Layout.{buckets1At, buckets2At, baseCountAt, header, basePairs, pairsFrom, numbersOf, tableFrom, bucketPlace}
+use Rattle.table.specs.Content.{occupied}
 use Rattle.table.specs.Calls.{rows, solutions, tableOf}
 use Rattle.table.proofs.Numbers.{header-read, forth}
 use Rattle.table.proofs.Calls.{sound-shaped, sound-laid}
@@ -107,12 +109,32 @@ module _ (n r : ℕ) (S : ℕ → ℕ) (xs : List ℕ) (h : Flat n r xs) where
 
 -- ---- a table that is sound
 
+occupied-few : (n r : ℕ) (bs : List Bucket) → ((i : ℕ) → i < length bs → SoundBucket n r (nth n r bs i)) → occupied bs ≤ length bs * n
+occupied-few n r [] h = omega arith
+occupied-few n r (b ∷ bs) h =
+    omega (arith, ones-le n (b .mark) (h 0 (omega arith) .sound .mark-lt), occupied-few n r bs (λ i l. h (suc i) (omega arith)))
+
 module _ {t : List ℕ} (h : Ready t) where
   pub flat-of : Flat rows solutions t
   flat-of = record { shape = shape (h .shape); whole = sound-shaped (tableOf t) (h .sound .table); numbers = forth rows solutions t (sound-laid t (h .shape) (h .sound)) }
 
   pub long : header ≤ length t
   long = omega (arith, flat-of .shape .size)
+
+  -- there is room for one more in the live count
+  pub live-room : tableOf t .count + 1 < 2 ^ 64
+  live-room =
+      let k = h .sound .table in
+      let s = flat-of .shape .range in
+      omega (
+        arith,
+        k .counts,
+        occupied-few rows solutions (tableOf t .level1) (k .level1 .buckets),
+        occupied-few rows solutions (tableOf t .level2) (k .level2 .buckets),
+        k .fits,
+        header-read rows solutions t .0,
+        header-read rows solutions t .1,
+      )
 
 -- ---- one bucket
 

@@ -1,15 +1,19 @@
--- What a change and a withdrawal do to the bucket or the base list that has the word.
+-- What a change and a withdrawal do to the bucket or the base list that has the word, to the live count and to the totals.
 -- Assumes nothing.
-use Prim.Native.Nat.{ℕ}
-use mathlib.Core.List.{List}
+use Prim.Native.Nat.{ℕ, _+_, _^_, _≤_, _<_}
+use mathlib.Core.List.{List, []}
+use lib.ListN.{length, getD}
 use Rattle.lists.specs.Entries.{Entry, update, remove}
+use Rattle.lists.specs.Totals.{oneMore, oneLess}
 use Rattle.hash.specs.Mix.{mixOf}
 use Rattle.bucket.specs.declared.Bucket.{Bucket}
 use Rattle.bucket.specs.Bucket as B
 use Rattle.model.specs.Model.{Call, change, withdraw}
 use Rattle.model.specs.Request.{Token}
-use Rattle.table.specs.Table.{Table, touch}
+use Rattle.table.specs.Table.{Table, totalNumbers, touch}
+use Rattle.table.specs.Layout.{totalsAt}
 use Rattle.table.specs.Calls.{rows, solutions}
+use Rattle.table.specs.History.{PlanFits}
 use Rattle.table_calls.specs.declared.Edit.{Edit}
 use Rattle.table_calls.specs.declared.Edit.the-variants.{Change, Withdraw}
 
@@ -23,7 +27,7 @@ abbrev pub onBase : Edit → ℕ → List Entry → List Entry
 onBase (Change p) v es = update (record { word = v; plan = p }) es
 onBase Withdraw v es = remove v es
 
--- the table after it, but for the live count
+-- the table after it, but for the live count and the totals
 abbrev pub touched : Edit → ℕ → Table → Table
 touched e w T = touch rows solutions mixOf T w (onBucket e) (onBase e)
 
@@ -32,7 +36,25 @@ abbrev pub leaving : Edit → ℕ
 leaving (Change p) = 0
 leaving Withdraw = 1
 
+-- the totals after it, where the word had the plan q
+abbrev pub recounted : Edit → ℕ → List ℕ → List ℕ
+recounted (Change p) q ts = oneMore p (oneLess q ts)
+recounted Withdraw q ts = oneLess q ts
+
+-- the numbers of the table with these totals
+abbrev pub recountedIn : Edit → ℕ → List ℕ → List ℕ
+recountedIn (Change p) q t = oneMore (totalsAt + p) (oneLess (totalsAt + q) t)
+recountedIn Withdraw q t = oneLess (totalsAt + q) t
+
 -- the call for it
 abbrev pub asked : Edit → Token → Call Token
 asked (Change p) i = change i p
 asked Withdraw i = withdraw i
+
+-- the totals of t can be moved so: that of q is not 0, and there is room for one more in each
+pub record Movable (d : Edit) (q : ℕ) (t : List ℕ) : Type 0 where
+  pub long : totalsAt + totalNumbers ≤ length t
+  pub fits : q < totalNumbers
+  pub some : 0 < getD t (totalsAt + q) 0
+  pub plan : PlanFits (asked d [])
+  pub room : (p : ℕ) → p < totalNumbers → getD (oneLess (totalsAt + q) t) (totalsAt + p) 0 + 1 < 2 ^ 64

@@ -1,5 +1,5 @@
 // The calls of document 01's table on a lent slice of any length and contents, with an identifier of any bytes: query, change and
-// withdrawal. Each is an equation with a definition of the crate table (specs/Calls.antt): the answer, causes in document 01's order, and
+// withdrawal; and the total of a plan, document 02's order 2. Each is an equation with a definition of the crate table (specs/Calls.antt): the answer, causes in document 01's order, and
 // every number of the table afterwards. specs/Ready.antt has what every call tests first; the functions by word, which ask for a table
 // that passes, are for callers that know it does. proofs/Touched.antt has what one touched bucket or base list does to the numbers.
 // Cites table, table_layout (shape, places), table_sound, table_base, bucket and identifier. The C entries and the line program build on it.
@@ -11,16 +11,22 @@ use table_base::Found;
 use table_layout::Table;
 ghost use mathlib.Core.Path.{_≡_};
 ghost use mathlib.Core.List.{[]};
-ghost use lib.ListN.{length};
+ghost use mathlib.Core.Bool.{true};
+ghost use Prim.Native.Nat.{_+_, _<_, _≤_};
+ghost use lib.ListN.{length, getD};
+ghost use Rattle.lists.specs.Entries.{planLimit};
 ghost use Rattle.bucket_words.specs.Words.{bucketFrom, wordsOf};
 ghost use Rattle.bucket_settle.specs.Settle.{planOf};
 ghost use Rattle.table_base.specs.Base.{Pairs, foundOf};
 ghost use Rattle.identifier.specs.Identifier.{readOf};
 ghost use Rattle.model.specs.Model.{baseLimit, change, withdraw, query};
-ghost use Rattle.table.specs.Layout.{pairsFrom, basePairs, numbersOf};
-ghost use Rattle.table.specs.Calls.{rows, solutions, tableOf, planIn, served, call};
+ghost use Rattle.answer.specs.declared.Answer.the-variants.{Accepted};
+ghost use Rattle.table.specs.Table.{totalNumbers};
+ghost use Rattle.table.specs.Layout.{totalsAt, pairsFrom, basePairs, numbersOf};
+ghost use Rattle.table.specs.Calls.{rows, solutions, tableOf, planIn, shaped, served, call, totalCall};
+ghost use Rattle.table.specs.History.{PlanFits};
 ghost use Rattle.table_calls.specs.Ready.{Ready, admitted};
-ghost use Rattle.table_calls.specs.Edit.{onBucket, onBase, touched, leaving, asked};
+ghost use Rattle.table_calls.specs.Edit.{onBucket, onBase, touched, leaving, recountedIn, Movable, asked};
 
 // The plan of v in a bucket, if it is live there.
 pub(crate) fn plan_of(b: Bucket, v: u64) -> Found
@@ -104,7 +110,7 @@ pub(crate) fn edit_base(pairs: &mut [u64], count: usize, v: u64, edit: Edit) -> 
     }
 }
 
-// The edit of w in its bucket or in the base list, wherever the three tests send w. The live count stays.
+// The edit of w in its bucket or in the base list, wherever the three tests send w. The live count and the totals stay.
 pub(crate) fn touch(t: &mut [u64], w: u64, edit: Edit)
     requires { ⌜ Ready (now t) ⌝ }
     ensures { λ _. ⌜ now (t .exit) ≡ numbersOf (touched edit w (tableOf (now (t .entry)))) ⌝ }
@@ -139,9 +145,21 @@ pub fn query_word(t: &[u64], w: u64) -> Answer
     }
 }
 
+// The totals after the edit of a word that had the plan q.
+pub(crate) fn recount(t: &mut [u64], q: u64, edit: Edit)
+    requires { ⌜ Movable edit q (now t) ⌝ }
+    ensures { λ _. ⌜ now (t .exit) ≡ recountedIn edit q (now (t .entry)) ⌝ }
+{
+    table_layout::lower_total(t, q);
+    match edit {
+        Edit::Change(plan) => table_layout::raise_total(t, plan),
+        Edit::Withdraw => {}
+    }
+}
+
 // The edit of the word w: accepted, the earlier plan.
 pub(crate) fn edit_word(t: &mut [u64], w: u64, edit: Edit) -> Answer
-    requires { ⌜ Ready (now t) ⌝ }
+    requires { ⌜ Ready (now t) × PlanFits (asked edit []) ⌝ }
     ensures { λ r. ⌜ (r ≡ served (now (t .entry)) w (asked edit []) .answer) × (now (t .exit) ≡ served (now (t .entry)) w (asked edit []) .table) ⌝ }
 {
     let found = plan_in(t, w);
@@ -150,6 +168,7 @@ pub(crate) fn edit_word(t: &mut [u64], w: u64, edit: Edit) -> Answer
             let live = t[Table::LIVE_COUNT_AT] - leaving(edit);
             touch(t, w, edit);
             t[Table::LIVE_COUNT_AT] = live;
+            recount(t, p, edit);
             Answer::Accepted(p)
         }
         Found::Nothing => Answer::NotLive,
@@ -158,7 +177,7 @@ pub(crate) fn edit_word(t: &mut [u64], w: u64, edit: Edit) -> Answer
 
 // A change of the word w.
 pub fn change_word(t: &mut [u64], w: u64, plan: u64) -> Answer
-    requires { ⌜ Ready (now t) ⌝ }
+    requires { ⌜ Ready (now t) × (plan < planLimit) ⌝ }
     ensures { λ r. ⌜ (r ≡ served (now (t .entry)) w (change [] plan) .answer) × (now (t .exit) ≡ served (now (t .entry)) w (change [] plan) .table) ⌝ }
 {
     edit_word(t, w, Edit::Change(plan))
@@ -204,6 +223,7 @@ pub fn query(t: &[u64], id: &[u8]) -> Answer
 
 // The edit of an identifier's word.
 pub(crate) fn edit_identifier(t: &mut [u64], id: &[u8], edit: Edit) -> Answer
+    requires { ⌜ PlanFits (asked edit []) ⌝ }
     ensures { λ r. ⌜ (r ≡ call (now (t .entry)) (asked edit (now (id .entry))) .answer) × (now (t .exit) ≡ call (now (t .entry)) (asked edit (now (id .entry))) .table) ⌝ }
 {
     let admitted = admit(t, id);
@@ -225,4 +245,22 @@ pub fn withdraw(t: &mut [u64], id: &[u8]) -> Answer
     ensures { λ r. ⌜ (r ≡ call (now (t .entry)) (withdraw (now (id .entry))) .answer) × (now (t .exit) ≡ call (now (t .entry)) (withdraw (now (id .entry))) .table) ⌝ }
 {
     edit_identifier(t, id, Edit::Withdraw)
+}
+
+// The total of a plan in a table of the right shape, whatever else it holds.
+pub(crate) fn total_at(t: &[u64], plan: u8) -> Answer
+    requires { ⌜ (shaped (now t) ≡ true) × (totalsAt + totalNumbers ≤ length (now t)) ⌝ }
+    ensures { λ r. ⌜ r ≡ Accepted (getD (now (t .entry)) (totalsAt + plan) 0) ⌝ }
+{
+    Answer::Accepted(t[Table::TOTALS_AT + (plan as usize)])
+}
+
+// The total of a plan: cause 4 alone, and one number read.
+pub fn plan_total(t: &[u64], plan: u8) -> Answer
+    ensures { λ r. ⌜ r ≡ totalCall (now (t .entry)) plan ⌝ }
+{
+    if table_layout::shaped(t) {
+        return total_at(t, plan);
+    }
+    Answer::WrongTable(t.len() as u64)
 }

@@ -1,25 +1,26 @@
 // What a table of document 01 has where: its limits, its length, the test of its shape (cause 4), the places of buckets, their bounds, which
-// level holds a vector. Each function is an equation with a definition of the crate table (specs/Layout.antt, Table.antt, Calls.antt).
+// level holds a vector; and the totals of document 02, order 2, raised and lowered by one. Each function is an equation with a definition of the crate table (specs/Layout.antt, Table.antt, Calls.antt).
 // proofs/Shape.antt has the laws of the places, and what one bucket or the base list changes.
 // Cites table, bucket, identifier and hash; table_sound, table_arrive, table_calls, table_add, plane, plane_write, the crates of
 // patches and lines_run build on it.
 use bucket::Bucket;
 ghost use mathlib.Core.Path.{_≡_};
 ghost use mathlib.Core.Bool.{true};
-ghost use Prim.Native.Nat.{_+_, _*_, _<_, _≤_};
+ghost use Prim.Native.Nat.{_+_, _*_, _^_, _<_, _≤_};
 ghost use lib.ListN.{length, getD, drop};
+ghost use Rattle.lists.specs.Totals.{oneMore, oneLess};
 ghost use Rattle.hash.specs.Mix.{mixOf};
 ghost use Rattle.bucket_words.specs.Words.{bucketFrom};
-ghost use Rattle.table.specs.Table.{index, holds};
-ghost use Rattle.table.specs.Layout.{buckets1At, buckets2At, inRange, bucketPlace, lengthOf};
+ghost use Rattle.table.specs.Table.{totalNumbers, index, holds};
+ghost use Rattle.table.specs.Layout.{buckets1At, buckets2At, totalsAt, inRange, bucketPlace, lengthOf};
 ghost use Rattle.table.specs.Calls.{rows, solutions, tableOf, shaped};
 
 // The table of document 01: its limits and the places of its parts.
 pub struct Table {}
 
 impl Table {
-    // The numbers before the buckets, and what stands where among them.
-    pub const HEADER: usize = 4;
+    // The numbers that every table has, and what stands where among them.
+    pub const LEADING: usize = 4;
 
     pub const BUCKETS_1_AT: usize = 0;
 
@@ -28,6 +29,14 @@ impl Table {
     pub const BASE_COUNT_AT: usize = 2;
 
     pub const LIVE_COUNT_AT: usize = 3;
+
+    // Then the totals: one for each plan, plan 0 first.
+    pub const TOTALS_AT: usize = Self::LEADING;
+
+    pub const TOTALS: usize = (Self::MOST_PLAN + 1) as usize;
+
+    // The numbers before the buckets.
+    pub const HEADER: usize = Self::LEADING + Self::TOTALS;
 
     // Level 1 has 1 to this many buckets.
     pub const MOST_BUCKETS_1: u64 = 48;
@@ -87,7 +96,7 @@ pub fn length_of(b1: u64, b2: u64) -> usize
 pub fn shaped(t: &[u64]) -> bool
     ensures { λ r. ⌜ r ≡ shaped (now (t .entry)) ⌝ }
 {
-    if t.len() < Table::HEADER {
+    if t.len() < Table::LEADING {
         return false;
     }
     if in_range(t[Table::BUCKETS_1_AT], t[Table::BUCKETS_2_AT]) {
@@ -167,4 +176,22 @@ pub fn bucket_at(t: &[u64], place: usize) -> Bucket
 {
     let end = place + Bucket::WORDS;
     bucket_words::load(&t[place..end])
+}
+
+// One live word more has this plan.
+pub fn raise_total(t: &mut [u64], plan: u64)
+    requires { ⌜ (totalsAt + totalNumbers ≤ length (now t)) × ((plan < totalNumbers) × (getD (now t) (totalsAt + plan) 0 + 1 < 2 ^ 64)) ⌝ }
+    ensures { λ _. ⌜ now (t .exit) ≡ oneMore (totalsAt + plan) (now (t .entry)) ⌝ }
+{
+    let at = Table::TOTALS_AT + (plan as usize);
+    t[at] = t[at] + 1;
+}
+
+// One live word less has it.
+pub fn lower_total(t: &mut [u64], plan: u64)
+    requires { ⌜ (totalsAt + totalNumbers ≤ length (now t)) × ((plan < totalNumbers) × (0 < getD (now t) (totalsAt + plan) 0)) ⌝ }
+    ensures { λ _. ⌜ now (t .exit) ≡ oneLess (totalsAt + plan) (now (t .entry)) ⌝ }
+{
+    let at = Table::TOTALS_AT + (plan as usize);
+    t[at] = t[at] - 1;
 }

@@ -6,7 +6,7 @@ use mathlib.Core.Path.{_≡_, refl, sym, ap, ap₂, _∙_, subst, subst⁻¹}
 use mathlib.Core.Bool.{true, false}
 use mathlib.Core.List.{List, [], _∷_, _++_, append-assoc, append-nil}
 use lib.ListN.{length, set, take, drop, replicate, length-append, length-drop, length-replicate, getD-replicate, replicate-append-replicate, drop-of-length-le}
-use lib.Seq.{length-take-le, take-at, drop-at}
+use lib.Seq.{length-take-le, take-at, drop-at, drop-drop}
 use borrow.Author.Tests.{eq-eqb, ne-eqb}
 use borrow.Rule.Slice.PartMut.{putMid}
 use Rattle.lists.proofs.Tests.{cond-true, cond-false}
@@ -15,10 +15,14 @@ use Rattle.bucket.specs.declared.Bucket.{Bucket}
 use Rattle.bucket.specs.Bucket.{emptyBucket}
 use Rattle.bucket_words.specs.Words.{bucketWords, wordsOf, Shaped}
 use Rattle.bucket_words.proofs.Words.{length-words, empty-shaped}
-use Rattle.table.specs.Table.{openTable}
-use Rattle.table.specs.Layout.{buckets1At, buckets2At, baseCountAt, liveCountAt, header, baseNumbers, levelNumbers, basePairs, heads, numbersOf, bucketPlace, inRange, lengthOf}
+use Rattle.table.specs.Table.{totalNumbers, zeroTotals, openTable}
+use Rattle.table.specs.Layout.{leading, buckets1At, buckets2At, baseCountAt, liveCountAt, totalsAt, header, baseNumbers, levelNumbers, basePairs, heads, numbersOf, bucketPlace, inRange, lengthOf}
 use Rattle.table.specs.Calls.{rows, solutions, turnedDown, openCall}
 use Rattle.table.proofs.Numbers.{length-level, four}
+
+zeros-is : zeroTotals ≡ replicate totalNumbers 0
+unfolding zeroTotals
+zeros-is = refl
 
 level-append : (bs cs : List Bucket) → levelNumbers (bs ++ cs) ≡ levelNumbers bs ++ levelNumbers cs
 level-append [] cs = refl
@@ -31,12 +35,16 @@ module _ (n r : ℕ) where
   abbrev w : ℕ
   w = bucketWords n r
 
-  -- the header is written
-  pub header-set : (t : List ℕ) (b1 b2 : ℕ) → header ≤ length t
-      → set (set (set (set t buckets1At b1) buckets2At b2) baseCountAt 0) liveCountAt 0 ≡ heads (openTable n r b1 b2) ++ drop header t
-  header-set t b1 b2 h =
-      ap (λ (l : List ℕ). set (set (set (set l buckets1At b1) buckets2At b2) baseCountAt 0) liveCountAt 0) (sym (four n r t h))
-      ∙ sym (ap₂ {C = List ℕ} (λ i j. i ∷ j ∷ 0 ∷ 0 ∷ drop header t) (length-replicate b1 E) (length-replicate b2 E))
+  -- the leading numbers are written, and the totals cleared
+  pub header-set : (t : List ℕ) (b1 b2 : ℕ) → header ≤ length t → (u zs : List ℕ)
+      → u ≡ set (set (set (set t buckets1At b1) buckets2At b2) baseCountAt 0) liveCountAt 0 → zs ≡ replicate (length (take (header - totalsAt) (drop totalsAt u))) 0
+      → putMid totalsAt (header - totalsAt) u zs ≡ heads (openTable n r b1 b2) ++ drop header t
+  header-set t b1 b2 h u zs e z =
+      let leads : u ≡ b1 ∷ b2 ∷ 0 ∷ 0 ∷ drop leading t = e ∙ ap (λ (l : List ℕ). set (set (set (set l buckets1At b1) buckets2At b2) baseCountAt 0) liveCountAt 0) (sym (four n r t (omega arith))) in
+      let size : length (take totalNumbers (drop totalsAt u)) ≡ totalNumbers = length-take-le totalNumbers (drop totalsAt u) (omega (arith, length-drop totalsAt u, ap length leads, length-drop leading t)) in
+      ap₂ (λ (l zs : List ℕ). take totalsAt l ++ (zs ++ drop totalNumbers (drop totalsAt l))) leads (z ∙ ap (λ (k : ℕ). replicate k 0) size ∙ sym zeros-is)
+      ∙ ap {B = List ℕ} (λ l. b1 ∷ b2 ∷ 0 ∷ 0 ∷ (zeroTotals ++ l)) (drop-drop totalNumbers leading t)
+      ∙ sym (ap₂ {C = List ℕ} (λ i j. i ∷ j ∷ 0 ∷ 0 ∷ (zeroTotals ++ drop header t)) (length-replicate b1 E) (length-replicate b2 E))
 
   -- one more empty bucket is stored
   pub level-more : (i at : ℕ) (words part : List ℕ) (k : ℕ) → at + w ≤ length words → part ≡ wordsOf E → take at words ≡ levelNumbers (replicate i E)
@@ -67,14 +75,17 @@ module _ (n r : ℕ) where
     length-rest : length rest ≡ baseNumbers
     length-rest = omega (arith, length-drop (p - header) (drop header t), length-drop header t)
 
+    length-hs : length hs ≡ header
+    length-hs = let e : length zeroTotals ≡ totalNumbers = ap length zeros-is ∙ length-replicate {A = ℕ} totalNumbers 0 in omega arith
+
     filled-is : filled ≡ (hs ++ L) ++ rest
     filled-is =
         ap (λ (h : List ℕ). putMid header (p - header) h L) headed
-        ∙ ap₂ (λ (a b : List ℕ). a ++ (L ++ drop (p - header) b)) (take-at hs (drop header t) header refl) (drop-at hs (drop header t) header refl)
+        ∙ ap₂ (λ (a b : List ℕ). a ++ (L ++ drop (p - header) b)) (take-at hs (drop header t) header length-hs) (drop-at hs (drop header t) header length-hs)
         ∙ sym (append-assoc hs L rest)
 
     length-front : length (hs ++ L) ≡ p
-    length-front = omega (arith, length-append hs L, ap length buckets ∙ length-empty (b1 + b2))
+    length-front = omega (arith, length-append hs L, length-hs, ap length buckets ∙ length-empty (b1 + b2))
 
     back : drop p filled ≡ rest
     back = ap (drop p) filled-is ∙ drop-at (hs ++ L) rest p length-front

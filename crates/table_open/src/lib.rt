@@ -41,7 +41,7 @@ pub(crate) fn empty_buckets(words: &mut [u64], count: usize)
     }
 }
 
-// The header of an opened table.
+// The header of an opened table: its leading numbers, and every total 0.
 pub(crate) fn put_header(t: &mut [u64], b1: u64, b2: u64)
     requires { do ⌜ (← ⟦Table::HEADER⟧) ≤ length (now t) ⌝ }
     ensures { λ _. ⌜ now (t .exit) ≡ heads (openTable rows solutions b1 b2) ++ drop header (now (t .entry)) ⌝ }
@@ -50,6 +50,9 @@ pub(crate) fn put_header(t: &mut [u64], b1: u64, b2: u64)
     t[Table::BUCKETS_2_AT] = b2;
     t[Table::BASE_COUNT_AT] = 0;
     t[Table::LIVE_COUNT_AT] = 0;
+    let first = Table::TOTALS_AT;
+    let end = Table::HEADER;
+    clear(&mut t[first..end]);
 }
 
 // The numbers of an opened table: header, empty buckets, base pairs 0.

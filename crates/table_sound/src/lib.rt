@@ -1,24 +1,58 @@
-// Document 01's cause 5: the test whether a table of the right shape that is handed in is sound, for any contents. The test is an equation
-// with those of the crate table (specs/Test.antt, Calls.antt); specs/Held.antt is for the crate's own functions.
-// Cites table, bucket, bucket_rows (the rows of K), identifier, hash and table_layout (the places); table_calls and plane_write build on it.
+// Document 01's cause 5: the test whether a table of the right shape that is handed in is sound, for any contents, with the totals of
+// document 02, order 2: each row and base entry found is counted off a copy of them. The test is an equation with those of the crate table
+// (specs/Test.antt, Calls.antt); specs/Held.antt is for the crate's own functions: what is left of the totals.
+// Cites table, bucket, bucket_rows (the rows of K), bucket_settle (`listed`: rows with their plans), identifier, hash and table_layout (the places); table_calls and plane_write build on it.
 use bucket::Bucket;
 use table_layout::Table;
 ghost use mathlib.Core.Path.{_≡_};
-ghost use mathlib.Core.Bool.{true};
+ghost use mathlib.Core.Bool.{true, cond};
 ghost use Prim.Native.Nat.{_+_, _*_, _<_, _≤_};
-ghost use lib.Dec.{eqb};
-ghost use lib.ListN.{length, getD, drop};
+ghost use lib.Dec.{eqb, ltb};
+ghost use lib.ListN.{length, getD, take, drop};
+ghost use Rattle.lists.specs.Totals.{oneLess};
 ghost use Rattle.gf2.specs.Select.{chosen};
-ghost use Rattle.table.specs.Layout.{baseCountAt, levelFrom, pairsFrom};
+ghost use Rattle.bucket.specs.Bucket.{lookup};
+ghost use Rattle.bucket_words.specs.Words.{bucketFrom};
+ghost use Rattle.bucket_settle.specs.Settle.{listed};
+ghost use Rattle.table.specs.Table.{totalNumbers};
+ghost use Rattle.table.specs.Layout.{baseCountAt, totalsAt, levelFrom, pairsFrom};
 ghost use Rattle.table.specs.Content.{occupied};
 ghost use Rattle.table.specs.Test.{allOf, ascends};
 ghost use Rattle.table.specs.Calls.{rows, solutions, shaped, sound};
-ghost use Rattle.table_sound.specs.Held.{rowTest, bucketSound, levelSound, pairTest, countsSound, baseSound};
+ghost use Rattle.table_sound.specs.Held.{heldTest, rowOf, pairTest, countsSound, oneOff, countOff, bucketOff, levelLeft, baseLeft, Leaves};
 
-// An occupied row v of bucket i of m, under its bound, is held where the tests send it: at level 2 also by its level 1 form.
+// The totals of the table, plan 0 first.
+pub(crate) fn totals_of(t: &[u64]) -> [u64; Table::TOTALS]
+    requires { ⌜ shaped (now t) ≡ true ⌝ }
+    ensures { λ r. ⌜ r ≡ take totalNumbers (drop totalsAt (now (t .entry))) ⌝ }
+{
+    let mut out = [0u64; Table::TOTALS];
+    let mut i: usize = 0;
+    while i < Table::TOTALS {
+        out[i] = t[Table::TOTALS_AT + i];
+        i += 1;
+    }
+    out
+}
+
+// An entry with this plan is counted off. False where its total is 0: then nothing is written.
+pub(crate) fn count_off(left: &mut [u64], plan: u64) -> bool
+    requires { ⌜ (length (now left) ≡ totalNumbers) × (plan < totalNumbers) ⌝ }
+    ensures { λ r. ⌜ (r ≡ ltb 0 (getD (now (left .entry)) plan 0)) × (now (left .exit) ≡ cond r (oneLess plan (now (left .entry))) (now (left .entry))) ⌝ }
+{
+    let at = plan as usize;
+    let total = left[at];
+    if total == 0 {
+        return false;
+    }
+    left[at] = total - 1;
+    true
+}
+
+// A vector v in bucket i of m, under its bound, is held where the tests send it: at level 2 also by its level 1 form.
 pub(crate) fn row_held(t: &[u64], second: bool, m: u64, i: u64, bound: u64, v: u64) -> bool
     requires { ⌜ shaped (now t) ≡ true ⌝ }
-    ensures { λ r. ⌜ r ≡ rowTest (now (t .entry)) second m i bound v ⌝ }
+    ensures { λ r. ⌜ r ≡ heldTest (now (t .entry)) second m i bound v ⌝ }
 {
     if identifier::bucket(v, m) != i {
         return false;
@@ -32,24 +66,43 @@ pub(crate) fn row_held(t: &[u64], second: bool, m: u64, i: u64, bound: u64, v: u
     true
 }
 
-// Each of the rows that the mark names is held so.
-pub(crate) fn rows_held(
+// An occupied row v of the bucket b is held so, and counted off with its plan, which is looked up once it is.
+pub(crate) fn row_off(
     t: &[u64],
     second: bool,
     m: u64,
     i: u64,
-    bound: u64,
-    mark: u64,
-    vectors: [u64; Bucket::ROWS],
+    b: Bucket,
+    v: u64,
+    left: &mut [u64],
 ) -> bool
-    requires { ⌜ shaped (now t) ≡ true ⌝ }
-    ensures { λ r. ⌜ r ≡ allOf (rowTest (now (t .entry)) second m i bound) (chosen mark vectors) ⌝ }
+    requires { ⌜ (shaped (now t) ≡ true) × (length (now left) ≡ totalNumbers) ⌝ }
+    ensures { λ r. ⌜ Leaves (oneOff (rowOf (now (t .entry)) second m i b) (record { word = v; plan = lookup b v }) (now (left .entry))) r (now (left .exit)) ⌝ }
 {
-    let mut left = mark;
-    while left != 0 {
-        let a = u64::trailing_zeros(left) as usize;
-        if row_held(t, second, m, i, bound, vectors[a]) {
-            left = left & (left - 1);
+    if row_held(t, second, m, i, b.bound, v) {
+        return count_off(left, b.lookup(v));
+    }
+    false
+}
+
+// Each of the rows that the mark names is held so, and counted off.
+pub(crate) fn rows_off(
+    t: &[u64],
+    second: bool,
+    m: u64,
+    i: u64,
+    b: Bucket,
+    vectors: [u64; Bucket::ROWS],
+    left: &mut [u64],
+) -> bool
+    requires { ⌜ (shaped (now t) ≡ true) × (length (now left) ≡ totalNumbers) ⌝ }
+    ensures { λ r. ⌜ Leaves (countOff (rowOf (now (t .entry)) second m i b) (listed b (chosen (b .mark) vectors)) (now (left .entry))) r (now (left .exit)) ⌝ }
+{
+    let mut rest = b.mark;
+    while rest != 0 {
+        let a = u64::trailing_zeros(rest) as usize;
+        if row_off(t, second, m, i, b, vectors[a], left) {
+            rest = rest & (rest - 1);
         } else {
             return false;
         }
@@ -57,10 +110,17 @@ pub(crate) fn rows_held(
     true
 }
 
-// The bucket at a place, number i of m, is sound.
-pub(crate) fn bucket_sound(t: &[u64], second: bool, m: u64, i: u64, place: usize) -> bool
-    requires { do ⌜ (shaped (now t) ≡ true) × (place + (← ⟦Bucket::WORDS⟧) ≤ length (now t)) ⌝ }
-    ensures { λ r. ⌜ r ≡ bucketSound (now (t .entry)) second m i place ⌝ }
+// The bucket at a place, number i of m, is sound, and its rows are counted off.
+pub(crate) fn bucket_off(
+    t: &[u64],
+    second: bool,
+    m: u64,
+    i: u64,
+    place: usize,
+    left: &mut [u64],
+) -> bool
+    requires { do ⌜ (shaped (now t) ≡ true) × ((place + (← ⟦Bucket::WORDS⟧) ≤ length (now t)) × (length (now left) ≡ totalNumbers)) ⌝ }
+    ensures { λ r. ⌜ Leaves (bucketOff rows (rowOf (now (t .entry)) second m i (bucketFrom rows solutions (drop place (now (t .entry))))) (bucketFrom rows solutions (drop place (now (t .entry)))) (now (left .entry))) r (now (left .exit)) ⌝ }
 {
     let b = table_layout::bucket_at(t, place);
     if Bucket::LARGEST_BOUND < b.bound {
@@ -70,20 +130,20 @@ pub(crate) fn bucket_sound(t: &[u64], second: bool, m: u64, i: u64, place: usize
     let found = bucket_rows::rows_of(cols, b.mark);
     if found.ok {
         let vectors = found.rows;
-        return rows_held(t, second, m, i, b.bound, b.mark, vectors);
+        return rows_off(t, second, m, i, b, vectors, left);
     }
     false
 }
 
-// The m buckets of a level, from a place on, are sound.
-pub(crate) fn level_sound(t: &[u64], second: bool, m: u64, place: usize) -> bool
-    requires { do ⌜ (shaped (now t) ≡ true) × (place + m * (← ⟦Bucket::WORDS⟧) ≤ length (now t)) ⌝ }
-    ensures { λ r. ⌜ r ≡ levelSound (now (t .entry)) second m place ⌝ }
+// The m buckets of a level, from a place on, are sound, and their rows are counted off.
+pub(crate) fn level_off(t: &[u64], second: bool, m: u64, place: usize, left: &mut [u64]) -> bool
+    requires { do ⌜ (shaped (now t) ≡ true) × ((place + m * (← ⟦Bucket::WORDS⟧) ≤ length (now t)) × (length (now left) ≡ totalNumbers)) ⌝ }
+    ensures { λ r. ⌜ Leaves (levelLeft (now (t .entry)) second m place (now (left .entry))) r (now (left .exit)) ⌝ }
 {
     let mut i: u64 = 0;
     let mut at = place;
     while i < m {
-        if bucket_sound(t, second, m, i, at) {
+        if bucket_off(t, second, m, i, at, left) {
             i += 1;
             at += Bucket::WORDS;
         } else {
@@ -123,16 +183,27 @@ pub(crate) fn pair_held(t: &[u64], word: u64, plan: u64) -> bool
     !table_layout::holds_first(t, identifier::first(word))
 }
 
-// Each of the first pairs from a place on is held so.
-pub(crate) fn pairs_held(t: &[u64], count: u64, place: usize) -> bool
-    requires { ⌜ (shaped (now t) ≡ true) × (place + 2 * count ≤ length (now t)) ⌝ }
-    ensures { λ r. ⌜ r ≡ allOf (pairTest (now (t .entry))) (pairsFrom count (drop place (now (t .entry)))) ⌝ }
+// Such an entry is held so, and counted off.
+pub(crate) fn pair_off(t: &[u64], word: u64, plan: u64, left: &mut [u64]) -> bool
+    requires { ⌜ (shaped (now t) ≡ true) × (length (now left) ≡ totalNumbers) ⌝ }
+    ensures { λ r. ⌜ Leaves (oneOff (pairTest (now (t .entry))) (record { word = word; plan = plan }) (now (left .entry))) r (now (left .exit)) ⌝ }
 {
-    let mut left = count;
+    if pair_held(t, word, plan) {
+        return count_off(left, plan);
+    }
+    false
+}
+
+// Each of the first pairs from a place on is held so, and counted off.
+pub(crate) fn pairs_off(t: &[u64], count: u64, place: usize, left: &mut [u64]) -> bool
+    requires { ⌜ (shaped (now t) ≡ true) × ((place + 2 * count ≤ length (now t)) × (length (now left) ≡ totalNumbers)) ⌝ }
+    ensures { λ r. ⌜ Leaves (countOff (pairTest (now (t .entry))) (pairsFrom count (drop place (now (t .entry)))) (now (left .entry))) r (now (left .exit)) ⌝ }
+{
+    let mut rest = count;
     let mut at = place;
-    while 0 < left {
-        if pair_held(t, t[at], t[at + 1]) {
-            left -= 1;
+    while 0 < rest {
+        if pair_off(t, t[at], t[at + 1], left) {
+            rest -= 1;
             at += 2;
         } else {
             return false;
@@ -188,22 +259,22 @@ pub(crate) fn counts_sound(t: &[u64]) -> bool
     t[Table::LIVE_COUNT_AT] == live_count(t, buckets, Table::HEADER, count)
 }
 
-// The base list is sound.
-pub(crate) fn base_sound(t: &[u64]) -> bool
-    requires { do ⌜ (shaped (now t) ≡ true) × (getD (now t) baseCountAt 0 ≤ (← ⟦Table::BASE_ENTRIES⟧)) ⌝ }
-    ensures { λ r. ⌜ r ≡ baseSound (now (t .entry)) ⌝ }
+// The base list is sound, and its entries are counted off.
+pub(crate) fn base_off(t: &[u64], left: &mut [u64]) -> bool
+    requires { do ⌜ (shaped (now t) ≡ true) × ((getD (now t) baseCountAt 0 ≤ (← ⟦Table::BASE_ENTRIES⟧)) × (length (now left) ≡ totalNumbers)) ⌝ }
+    ensures { λ r. ⌜ Leaves (baseLeft (now (t .entry)) (now (left .entry))) r (now (left .exit)) ⌝ }
 {
     let count = t[Table::BASE_COUNT_AT];
     let place = table_layout::base_place(t);
     if pairs_ascend(t, count, place) {
         if zero_from(t, place + 2 * (count as usize)) {
-            return pairs_held(t, count, place);
+            return pairs_off(t, count, place, left);
         }
     }
     false
 }
 
-// Not cause 5. What is cheap is tested first.
+// Not cause 5. What is cheap is tested first; each entry found is counted off a copy of the totals, and nothing may be left over.
 pub fn sound(t: &[u64]) -> bool
     requires { ⌜ shaped (now t) ≡ true ⌝ }
     ensures { λ r. ⌜ r ≡ sound (now (t .entry)) ⌝ }
@@ -211,9 +282,18 @@ pub fn sound(t: &[u64]) -> bool
     let first = t[Table::BUCKETS_1_AT];
     let second = t[Table::BUCKETS_2_AT];
     if counts_sound(t) {
-        if base_sound(t) {
-            if level_sound(t, false, first, Table::HEADER) {
-                return level_sound(t, true, second, table_layout::bucket_place(first as usize));
+        let mut left = totals_of(t);
+        if base_off(t, &mut left) {
+            if level_off(t, false, first, Table::HEADER, &mut left) {
+                if level_off(
+                    t,
+                    true,
+                    second,
+                    table_layout::bucket_place(first as usize),
+                    &mut left,
+                ) {
+                    return zero_from(&left, 0);
+                }
             }
         }
     }

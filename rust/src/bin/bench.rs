@@ -420,6 +420,31 @@ fn opening_and_withdrawing(rng: &mut Rng) {
     }
 }
 
+/// The question for the total of a plan, every plan in turn.
+fn totals(rng: &mut Rng, b1: u64, b2: u64) {
+    const N: u32 = 1024;
+    let (t, inside) = filled_table(rng, b1, b2, 64);
+    let plans: Vec<u8> = (0..=255).cycle().take(N as usize).collect();
+    let sum: u64 = (0..=255).map(|plan| ours::plan_total(&t, plan).value).sum();
+    assert_eq!(sum, inside.len() as u64);
+    println!("-- totals, {b1} and {b2} buckets");
+    compare_in(
+        20 * TURNS,
+        "total of a plan",
+        N,
+        || {
+            for &plan in &plans {
+                black_box(ours::plan_total(black_box(&t), plan));
+            }
+        },
+        || {
+            for &plan in &plans {
+                black_box(table::plan_total(black_box(&t), plan));
+            }
+        },
+    );
+}
+
 /// Making and applying patches between planes of 48 and 32 buckets with 64 base records.
 fn patches(rng: &mut Rng) {
     const N: u32 = 50;
@@ -577,6 +602,7 @@ fn main() {
     buckets(&mut rng);
     tables(&mut rng);
     opening_and_withdrawing(&mut rng);
+    totals(&mut Rng::new(2028), 48, 32);
     patches(&mut Rng::new(2027));
     line_program(&mut rng);
     plane_sizes(&mut rng);

@@ -341,6 +341,11 @@ impl SlowTable {
             None => Answer { cause: 7, value: 0 },
         }
     }
+
+    /// How many live words have this plan.
+    pub fn total(&self, plan: u8) -> u64 {
+        self.plans.values().filter(|&&held| held == plan).count() as u64
+    }
 }
 
 fn accepted(plan: u8) -> Answer {
@@ -432,13 +437,17 @@ impl ExactTable {
     /// The table as its numbers.
     pub fn numbers(&self) -> Vec<u64> {
         let buckets = || self.level1.iter().chain(&self.level2);
-        let rows: usize = buckets().map(|b| b.live().len()).sum();
+        let mut plans: Vec<u64> = self.base.values().map(|&plan| plan as u64).collect();
+        for bucket in buckets() {
+            plans.extend(bucket.live().iter().map(|&k| bucket.lookup(k) as u64));
+        }
         let mut numbers = vec![
             self.level1.len() as u64,
             self.level2.len() as u64,
             self.base.len() as u64,
-            (rows + self.base.len()) as u64,
+            plans.len() as u64,
         ];
+        numbers.extend(counts(&plans));
         for bucket in buckets() {
             let bucket = bucket.as_bucket();
             numbers.extend(bucket.cols);
@@ -449,95 +458,207 @@ impl ExactTable {
         for (&v, &plan) in &self.base {
             numbers.extend([v, plan as u64]);
         }
-        numbers.resize(4 + 74 * (self.level1.len() + self.level2.len()) + 128, 0);
+        let buckets = self.level1.len() + self.level2.len();
+        numbers.resize(4 + 256 + 74 * buckets + 128, 0);
         numbers
+    }
+}
+
+/// A table with words at both levels and in the base list.
+pub fn mixed(rng: &mut Rng, buckets1: usize, buckets2: usize) -> Vec<u64> {
+    let mut exact = ExactTable::open(buckets1, buckets2);
+    for bucket in exact.level1.iter_mut().chain(&mut exact.level2) {
+        bucket.bound = 1 + rng.below(8);
+    }
+    exact.level1[0].bound = 4;
+    exact.level2[0].bound = 4;
+    for _ in 0..30 * buckets1 {
+        exact.add(rng.next(), rng.byte());
+    }
+    let table = exact.numbers();
+    assert!(table[2] > 1 && table[2] < 64);
+    table
+}
+
+/// How often each of the 256 plans is among these.
+fn counts(plans: &[u64]) -> Vec<u64> {
+    (0..256)
+        .map(|plan| plans.iter().filter(|&&other| other == plan).count() as u64)
+        .collect()
+}
+
+/// The bucket numbers of a table, or cause 4, for any numbers.
+fn bucket_numbers(table: &[u64]) -> Result<(usize, usize), Answer> {
+    let four = Answer {
+        cause: 4,
+        value: table.len() as u64,
+    };
+    if table.len() < 4 {
+        return Err(four);
+    }
+    let (b1, b2) = (table[0], table[1]);
+    if b1 == 0 || b1 > 48 || b2 == 0 || b2 > 32 {
+        return Err(four);
+    }
+    let (b1, b2) = (b1 as usize, b2 as usize);
+    if table.len() != 4 + 256 + 74 * (b1 + b2) + 128 {
+        return Err(four);
+    }
+    Ok((b1, b2))
+}
+
+/// The answer for the total of a plan, for any numbers.
+pub fn plan_total(table: &[u64], plan: u8) -> Answer {
+    match bucket_numbers(table) {
+        Ok(_) => Answer {
+            cause: 0,
+            value: table[4..260][plan as usize],
+        },
+        Err(four) => four,
+    }
+}
+
+/// The rows of K by the columns of its inverse, unless these depend.
+fn rows_by(cols: &[u64]) -> Option<Vec<u64>> {
+    if !independent(cols) {
+        return None;
+    }
+    // Row r of K has an odd number of common ones with column r only. Eight
+    // rows at a time, each in a bit of its own.
+    let mut rows = Vec::new();
+    for eight in 0..8 {
+        let goal = |i| u8::from(i / 8 == eight) << (i % 8);
+        let goals: Vec<u8> = (0..64).map(goal).collect();
+        let z = solve(cols, &goals);
+        let row = |c: u32| (0..64).fold(0, |row, j| row | (z[j] as u64 >> c & 1) << j);
+        rows.extend((0..8).map(row));
+    }
+    Some(rows)
+}
+
+/// The plan that solution words give for a vector.
+fn plan_by(solutions: &[u64], vector: u64) -> u64 {
+    let z = |j: u32| (0..8).fold(0, |z, c| z | (solutions[c] >> j & 1) << c);
+    (0..64)
+        .filter(|&j| vector >> j & 1 == 1)
+        .fold(0, |plan, j| plan ^ z(j))
+}
+
+/// A word found in a table, the place it was found at (0 up for buckets, then
+/// base) and its plan.
+struct Found {
+    word: u64,
+    at: usize,
+    plan: u64,
+}
+
+/// The numbers of a table of these bucket numbers after the totals: the
+/// buckets, and the base pairs.
+fn parts(table: &[u64], buckets: usize) -> (Vec<&[u64]>, Vec<&[u64]>) {
+    let (buckets, base) = table[4 + 256..].split_at(74 * buckets);
+    (buckets.chunks(74).collect(), base.chunks(2).collect())
+}
+
+/// The words of the occupied rows, given the rows of each bucket's K, and of
+/// the base entries.
+fn words_in(table: &[u64], rows: &[Vec<u64>]) -> Vec<Found> {
+    let (buckets, base) = parts(table, rows.len());
+    let mut found = Vec::new();
+    for (at, bucket) in buckets.iter().enumerate() {
+        for r in (0..64).filter(|r| bucket[64] >> r & 1 == 1) {
+            let row = rows[at][r];
+            let level1 = at < table[0] as usize;
+            found.push(Found {
+                word: if level1 { row } else { unsecond(row) },
+                at,
+                plan: plan_by(&bucket[65..73], row),
+            });
+        }
+    }
+    for pair in base.iter().take(table[2] as usize) {
+        found.push(Found {
+            word: unsecond(pair[0]),
+            at: rows.len(),
+            plan: pair[1],
+        });
+    }
+    found
+}
+
+/// The rows of each bucket's K, unless the columns of one depend.
+fn all_rows(buckets: &[&[u64]]) -> Option<Vec<Vec<u64>>> {
+    buckets
+        .iter()
+        .map(|bucket| rows_by(&bucket[..64]))
+        .collect()
+}
+
+/// Makes the totals right for what the rows and the base entries hold, where
+/// the numbers are a table with columns that do not depend.
+pub fn recount(table: &mut [u64]) {
+    let Ok((b1, b2)) = bucket_numbers(table) else {
+        return;
+    };
+    if let Some(rows) = all_rows(&parts(table, b1 + b2).0) {
+        let plans: Vec<u64> = words_in(table, &rows).iter().map(|f| f.plan).collect();
+        table[4..260].copy_from_slice(&counts(&plans));
     }
 }
 
 /// Cause 4, cause 5 or accepted, for any numbers.
 pub fn soundness(table: &[u64]) -> Answer {
-    let four = Answer {
-        cause: 4,
-        value: table.len() as u64,
-    };
-    let five = Answer { cause: 5, value: 0 };
-    if table.len() < 4 {
-        return four;
+    match bucket_numbers(table) {
+        Err(four) => four,
+        Ok((b1, b2)) if is_sound(table, b1, b2) => Answer { cause: 0, value: 0 },
+        Ok(_) => Answer { cause: 5, value: 0 },
     }
-    let (b1, b2, base_count, live_count) = (table[0], table[1], table[2], table[3]);
-    if b1 == 0 || b1 > 48 || b2 == 0 || b2 > 32 {
-        return four;
-    }
-    let (b1, b2) = (b1 as usize, b2 as usize);
-    if table.len() != 4 + 74 * (b1 + b2) + 128 {
-        return four;
-    }
-    if base_count > 64 {
-        return five;
-    }
-    let base_count = base_count as usize;
-    let (buckets, base) = table[4..].split_at(74 * (b1 + b2));
-    let buckets: Vec<&[u64]> = buckets.chunks(74).collect();
-    if buckets.iter().any(|b| b[73] > 8) {
-        return five;
-    }
+}
 
-    // Every word with the place it was found at: 0 up for buckets, then base.
-    let mut found: Vec<(u64, usize)> = Vec::new();
-    for (index, bucket) in buckets.iter().enumerate() {
-        let cols = &bucket[..64];
-        let mark = bucket[64];
-        if !independent(cols) {
-            return five;
-        }
-        // Row r of K has an odd number of common ones with column r only.
-        for r in 0..64 {
-            let goals: Vec<u8> = (0..64).map(|i| u8::from(i == r)).collect();
-            let row = solve(cols, &goals);
-            let row = (0..64).fold(0, |word, j| word | (row[j] as u64) << j);
-            if mark >> r & 1 == 0 {
-                if row != 1 << r {
-                    return five;
-                }
-            } else if index < b1 {
-                found.push((row, index));
-            } else {
-                found.push((unsecond(row), index));
-            }
-        }
+fn is_sound(table: &[u64], b1: usize, b2: usize) -> bool {
+    let (buckets, base) = parts(table, b1 + b2);
+    if table[2] > 64 || buckets.iter().any(|b| b[73] > 8) {
+        return false;
     }
-    for i in 0..64 {
-        let (v, plan) = (base[2 * i], base[2 * i + 1]);
-        if i >= base_count {
-            if v != 0 || plan != 0 {
-                return five;
-            }
-            continue;
-        }
-        if plan > 255 || (i > 0 && v <= base[2 * i - 2]) {
-            return five;
-        }
-        found.push((unsecond(v), b1 + b2));
+    let Some(rows) = all_rows(&buckets) else {
+        return false;
+    };
+    if !free_rows_are_units(&buckets, &rows) || !base_in_order(&base, table[2] as usize) {
+        return false;
     }
-    if found.len() as u64 != live_count {
-        return five;
+    let found = words_in(table, &rows);
+    let plans: Vec<u64> = found.iter().map(|f| f.plan).collect();
+    found.len() as u64 == table[3]
+        && counts(&plans) == table[4..260]
+        && found.iter().all(|f| due(&buckets, b1, f.word) == f.at)
+}
+
+fn free_rows_are_units(buckets: &[&[u64]], rows: &[Vec<u64>]) -> bool {
+    buckets.iter().zip(rows).all(|(bucket, rows)| {
+        let mut free = (0..64).filter(|r| bucket[64] >> r & 1 == 0);
+        free.all(|r| rows[r] == 1 << r)
+    })
+}
+
+/// Words ascending, plans bytes, unused pairs 0.
+fn base_in_order(base: &[&[u64]], count: usize) -> bool {
+    let (entries, unused) = base.split_at(count);
+    entries.windows(2).all(|two| two[0][0] < two[1][0])
+        && entries.iter().all(|pair| pair[1] < 256)
+        && unused.iter().all(|pair| *pair == [0, 0])
+}
+
+/// The place where the bounds send a word: 0 up for buckets, then base.
+fn due(buckets: &[&[u64]], b1: usize, word: u64) -> usize {
+    let v = second(word);
+    let first = bucket_of(word, b1);
+    let further = b1 + bucket_of(v, buckets.len() - b1);
+    if threshold(word) < buckets[first][73] {
+        first
+    } else if threshold(v) < buckets[further][73] {
+        further
+    } else {
+        buckets.len()
     }
-    for (w, at) in found {
-        let first = bucket_of(w, b1);
-        let v = second(w);
-        let further = b1 + bucket_of(v, b2);
-        let due = if threshold(w) < buckets[first][73] {
-            first
-        } else if threshold(v) < buckets[further][73] {
-            further
-        } else {
-            b1 + b2
-        };
-        if due != at {
-            return five;
-        }
-    }
-    Answer { cause: 0, value: 0 }
 }
 
 /// The word with this w', by undoing each step of S bit by bit.

@@ -28,7 +28,7 @@ returns c =
     let d = m .before .before in
     let start = d .before .before .before in
     let a = start .args in
-    rw (asked-word (a .t .now) (start .pre) (a .verb) (a .id .now) (a .plan) (d .read .result) (d .read .ensures) (m .read2 .given .0 .0) (m .read2 .given .1)) (done .serve .ensures)
+    rw (asked-word (a .t .now) (start .pre .0) (a .verb) (a .id .now) (a .plan) (d .read .result) (d .read .ensures) (m .read2 .given .0 .0) (m .read2 .given .1)) (done .serve .ensures)
 
 returns-2 : tie.Need-returns-2
 returns-2 c =
@@ -36,7 +36,7 @@ returns-2 c =
     let d = m .before .before in
     let start = d .before .before .before in
     let a = start .args in
-    rw (asked-refused (a .t .now) (start .pre) (a .verb) (a .id .now) (a .plan) (d .read .result) (d .read .ensures) (m .read3 .given .0 .0) (m .read3 .given .1)) (refl, refl)
+    rw (asked-refused (a .t .now) (start .pre .0) (a .verb) (a .id .now) (a .plan) (d .read .result) (d .read .ensures) (m .read3 .given .0 .0) (m .read3 .given .1)) (refl, refl)
 
 pub ask-spec : {M : Type 1} → statement M
 ask-spec =

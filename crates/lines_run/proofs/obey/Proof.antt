@@ -1,5 +1,6 @@
 -- `lines_run::obey` meets its contract.
 -- Assumes nothing.
+use native.Mathlib.Omega.{arith}
 use mathlib.Core.Path.{subst}
 use lib.ListN.{length}
 use Rattle.lines_text.specs.declared.Parsed.the-variants.{Ask}
@@ -32,7 +33,10 @@ part-ask-line-end : tie.Need-part-ask-line-end
 part-ask-line-end c = within (c .before .before) .1
 
 ask-line-requires : tie.Need-ask-line-requires
-ask-line-requires c κs = search needs
+ask-line-requires c κs =
+    let m = c .before .before .before .before in
+    let s = m .before .before .before .before .before in
+    (s .pre .1, s .pre .2, omega (arith, within m .2))
 
 enum-told : tie.Need-enum-told
 enum-told c = search needs

@@ -1,6 +1,8 @@
 -- `run_probe::add_all` meets its contract.
 -- Assumes nothing.
 use Prim.Native.Nat.{_-_, _≤_}
+use native.Mathlib.Nat.{mod-lt}
+use native.Mathlib.Omega.{arith}
 use mathlib.Core.Path.{_≡_, refl}
 use lib.ListN.{length}
 use Rattle.run_probe.proofs.Fill.{tested, Filling, filling-next, filling-stops, filling-ends}
@@ -24,7 +26,7 @@ shared-slice-read-w : tie.Need-shared-slice-read-w Inv-loop μ-loop
 shared-slice-read-w c = search needs
 
 add-word-requires : tie.Need-add-word-requires Inv-loop μ-loop
-add-word-requires c κs = c .before .before .before .loop .inv .1 .1 .ready
+add-word-requires c κs = (c .before .before .before .loop .inv .1 .1 .ready, mod-lt _ (omega arith))
 
 accepted-requires : tie.Need-accepted-requires Inv-loop μ-loop
 accepted-requires c κs = search needs

@@ -30,7 +30,7 @@ straight : (c : tie.Then1) → let s = c .before .before .before .before .before
 straight c =
     let d = c .before .before .before in
     let s = d .before .before .before .before .before in
-    counted-straight rows solutions mixOf _ (ready-kept _ (s .pre)) (word s) (s .fits .w .fits) _ (d .before .before .first-place .ensures) _
+    counted-straight rows solutions mixOf _ (ready-kept _ (s .pre .0)) (word s) (s .fits .w .fits) _ (d .before .before .first-place .ensures) _
     (straight-as rows solutions thresholdOf _ (word s) _ (c .if1 .taken) (d .put-straight .ensures))
 
 -- it did not: the table is as it was
@@ -38,7 +38,7 @@ same : (c : tie.Else1) → c .before .before .before .put-straight .last .0 ≡ 
 same c = straight-left rows solutions thresholdOf _ (word (c .before .before .before .before .before .before .before .before)) _ (c .if1 .left) (c .before .before .before .put-straight .ensures)
 
 ready : (c : tie.Else1) → Ready (c .before .before .before .put-straight .last .0)
-ready c = subst⁻¹ Ready (same c) (c .before .before .before .before .before .before .before .before .pre)
+ready c = subst⁻¹ Ready (same c) (c .before .before .before .before .before .before .before .before .pre .0)
 
 -- level 1 does not hold it, and level 2 took it
 passed : (c : tie.Then3) → let e = c .before .before .before .before .before .before .before .before .before in Counted rows solutions mixOf (e .before .before .before .put-straight .last .0) (word (e .before .before .before .before .before .before .before .before)) (c .before .before .before .arrive-second .last .0)
@@ -52,22 +52,22 @@ first-place-requires : tie.Need-first-place-requires
 first-place-requires c κs = search needs
 
 put-straight-requires : tie.Need-put-straight-requires
-put-straight-requires c κs = let s = c .before .before .before .before in first-in rows solutions _ (flat rows solutions _ (ready-kept _ (s .pre)) .shape) mixOf (s .args .w) _ (c .before .first-place .ensures)
+put-straight-requires c κs = let s = c .before .before .before .before in first-in rows solutions _ (flat rows solutions _ (ready-kept _ (s .pre .0)) .shape) mixOf (s .args .w) _ (c .before .first-place .ensures)
 
 count-one-requires : tie.Need-count-one-requires
-count-one-requires c κs = let s = c .before .before .before .before .before .before .before .before .before in count-room _ (s .pre) (word s) _ (straight (c .before))
+count-one-requires c κs = let s = c .before .before .before .before .before .before .before .before .before in count-room _ (s .pre .0) (word s) _ (straight (c .before)) (s .pre .1)
 
 same-length : tie.Need-same-length
 same-length c = search needs
 
 returns : tie.Need-returns
-returns c = let s = c .before .before .before .before .before .before .before .before .before .before .before .before in entered-done (s .args .t .now) (s .args .w) (s .args .plan) _ (straight (c .before .before .before .before)) _ _ (c .before .before .count-one .ensures)
+returns c = let s = c .before .before .before .before .before .before .before .before .before .before .before .before in entered-done (s .args .t .now) (s .args .w) (s .args .plan) _ (straight (c .before .before .before .before)) (s .pre .1) _ _ (c .before .before .count-one .ensures)
 
 holds-first-requires : tie.Need-holds-first-requires
 holds-first-requires c κs = ready (c .before) .shape
 
 enter-settling-requires : tie.Need-enter-settling-requires
-enter-settling-requires c κs = ready (c .before .before .before .before)
+enter-settling-requires c κs = let e = c .before .before .before .before in (ready e, e .before .before .before .before .before .before .before .before .pre .1)
 
 same-length-2 : tie.Need-same-length-2
 same-length-2 c = search needs
@@ -82,7 +82,10 @@ arrive-second-requires : tie.Need-arrive-second-requires
 arrive-second-requires c κs = ready-kept _ (ready (c .before .before .before .before .before))
 
 count-one-requires-2 : tie.Need-count-one-requires-2
-count-one-requires-2 c κs = count-room _ (ready (c .before .before .before .before .before .before .before .before .before .before)) (word (c .before .before .before .before .before .before .before .before .before .before .before .before .before .before .before .before .before .before)) _ (passed (c .before))
+count-one-requires-2 c κs =
+    let e = c .before .before .before .before .before .before .before .before .before .before in
+    let s = e .before .before .before .before .before .before .before .before in
+    count-room _ (ready e) (word s) _ (passed (c .before)) (s .pre .1)
 
 same-length-3 : tie.Need-same-length-3
 same-length-3 c = search needs
@@ -91,7 +94,7 @@ returns-3 : tie.Need-returns-3
 returns-3 c =
     let e = c .before .before .before .before .before .before .before .before .before .before .before .before .before in
     let s = e .before .before .before .before .before .before .before .before in
-    subst (As s _ _) (same e) (entered-done _ (s .args .w) (s .args .plan) _ (passed (c .before .before .before .before)) _ _ (c .before .before .count-one2 .ensures))
+    subst (As s _ _) (same e) (entered-done _ (s .args .w) (s .args .plan) _ (passed (c .before .before .before .before)) (s .pre .1) _ _ (c .before .before .count-one2 .ensures))
 
 same-length-4 : tie.Need-same-length-4
 same-length-4 c = search needs

@@ -28,7 +28,7 @@ counted : (c : tie.After-count-one-arg) → let s = c .before .before .before .b
 counted c =
     let d = c .before .before .before .before .before .before .before .before .before .before .before .before in
     let s = d .before .before .before .before .before in
-    enter-counted rows solutions mixOf _ (ready-kept _ (s .pre)) (word s) (s .fits .w .fits) _ (d .before .before .first-place .ensures) 65 _ (d .settled-at .ensures) _ (on (c .before .before .before .before .before .before)) _ (c .before .before .before .store-at .ensures)
+    enter-counted rows solutions mixOf _ (ready-kept _ (s .pre .0)) (word s) (s .fits .w .fits) _ (d .before .before .first-place .ensures) 65 _ (d .settled-at .ensures) _ (on (c .before .before .before .before .before .before)) _ (c .before .before .before .store-at .ensures)
 
 first-place-requires : tie.Need-first-place-requires
 first-place-requires c κs = search needs
@@ -36,26 +36,26 @@ first-place-requires c κs = search needs
 settled-at-requires : tie.Need-settled-at-requires
 settled-at-requires c κs =
     let s = c .before .before .before .before in
-    let k = ready-kept _ (s .pre) in
+    let k = ready-kept _ (s .pre .0) in
     let p = c .before .first-place .ensures in
     (first-in rows solutions _ (flat rows solutions _ k .shape) mixOf (s .args .w) _ p, subst⁻¹ (SoundBucket rows solutions) (first-here rows solutions _ (flat rows solutions _ k .shape) mixOf (s .args .w) _ p) (first-sound rows solutions _ k mixOf (s .args .w)))
 
 pass-on-requires : tie.Need-pass-on-requires
 pass-on-requires c κs =
     let s = c .before .before .before .before .before .before .before in
-    let k = ready-kept _ (s .pre) in
+    let k = ready-kept _ (s .pre .0) in
     (k, enter-few rows solutions mixOf _ k (word s) (s .fits .w .fits) _ (c .before .before .before .before .first-place .ensures) 65 _ (c .before .before .settled-at .ensures))
 
 store-at-requires : tie.Need-store-at-requires
 store-at-requires c κs =
     let d = c .before .before .before .before .before .before .before .before in
     let s = d .before .before .before .before .before in
-    enter-room rows solutions mixOf _ (ready-kept _ (s .pre)) (word s) (s .fits .w .fits) _ (d .before .before .first-place .ensures) 65 _ (d .settled-at .ensures) _ (on (c .before .before))
+    enter-room rows solutions mixOf _ (ready-kept _ (s .pre .0)) (word s) (s .fits .w .fits) _ (d .before .before .first-place .ensures) 65 _ (d .settled-at .ensures) _ (on (c .before .before))
 
 count-one-requires : tie.Need-count-one-requires
 count-one-requires c κs =
     let s = c .before .before .before .before .before .before .before .before .before .before .before .before .before .before .before .before .before in
-    count-room _ (s .pre) (word s) _ (counted c)
+    count-room _ (s .pre .0) (word s) _ (counted c) (s .pre .1)
 
 same-length : tie.Need-same-length
 same-length c = search needs
@@ -64,7 +64,7 @@ returns : tie.Need-returns
 returns c =
     let d = c .before .before .before in
     let s = d .before .before .before .before .before .before .before .before .before .before .before .before .before .before .before .before .before in
-    entered-done (s .args .t .now) (s .args .w) (s .args .plan) _ (counted d) _ _ (c .before .before .count-one .ensures)
+    entered-done (s .args .t .now) (s .args .w) (s .args .plan) _ (counted d) (s .pre .1) _ _ (c .before .before .count-one .ensures)
 
 same-length-2 : tie.Need-same-length-2
 same-length-2 c = search needs
@@ -73,7 +73,7 @@ returns-2 : tie.Need-returns-2
 returns-2 c =
     let d = c .before .before .before .before .before .before in
     let s = d .before .before .before .before .before in
-    entered-full (s .args .t .now) (s .args .w) (s .args .plan) _ (enter-full rows solutions mixOf _ (ready-kept _ (s .pre)) (word s) (s .fits .w .fits) _ (d .before .before .first-place .ensures) 65 _ (d .settled-at .ensures) _
+    entered-full (s .args .t .now) (s .args .w) (s .args .plan) _ (enter-full rows solutions mixOf _ (ready-kept _ (s .pre .0)) (word s) (s .fits .w .fits) _ (d .before .before .first-place .ensures) 65 _ (d .settled-at .ensures) _
     (passed-as rows solutions _ _ _ _ _ (c .if1 .left) (c .before .before .before .pass-on .ensures)))
 
 pub enter-settling-spec : {M : Type 1} → statement M

@@ -17,7 +17,8 @@ edit-word-requires : tie.Need-edit-word-requires
 edit-word-requires c κs =
     let m = c .before .before in
     let d = m .before .before in
-    ready _ _ (readOf (d .before .before .before .before .args .id .now)) _ (d .admit .ensures) (m .admitted .given .1) (λ i. d .before .before .before .slice-known .given i .fits)
+    let s = d .before .before .before .before in
+    (ready _ _ (readOf (s .args .id .now)) _ (d .admit .ensures) (m .admitted .given .1) (λ i. d .before .before .before .slice-known .given i .fits), s .pre)
 
 enum-known-admitted-2 : tie.Need-enum-known-admitted-2
 enum-known-admitted-2 c = search needs

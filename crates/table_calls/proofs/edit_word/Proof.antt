@@ -1,11 +1,15 @@
 -- `table_calls::edit_word` meets its contract.
 -- Assumes nothing.
-use mathlib.Core.Path.{refl}
-use mathlib.Core.List.{[]}
 use native.Mathlib.Omega.{arith}
-use borrow.Author.Needs.{needs}
+use Prim.Native.Nat.{ℕ, _-_}
+use mathlib.Core.Path.{refl, ap, _∙_}
+use mathlib.Core.List.{[]}
+use lib.ListN.{getD, set, length-set}
+use Rattle.table.specs.Layout.{liveCountAt}
+use Rattle.table_calls.specs.Edit.{recountedIn}
 use Rattle.table_calls.proofs.Touched.{long}
-use Rattle.table_calls.proofs.Calls.{edit-live, edit-gone, counted}
+use Rattle.table_calls.proofs.Calls.{edit-live, edit-movable, edit-gone, counted}
+use borrow.Author.Needs.{needs}
 use Rattle.table_calls.proofs.edit_word.Statement.{statement}
 use Rattle.table_calls.proofs.edit_word.Tie as tie
 
@@ -16,7 +20,7 @@ enum-known-found : tie.Need-enum-known-found
 enum-known-found c = search needs
 
 slice-read-live : tie.Need-slice-read-live
-slice-read-live c = omega (arith, long (c .before .before .before .before .before .before .before .pre))
+slice-read-live c = omega (arith, long (c .before .before .before .before .before .before .before .pre .0))
 
 leaving-requires : tie.Need-leaving-requires
 leaving-requires c κs = search needs
@@ -27,7 +31,7 @@ sub-live c =
     let r = m .before .before in
     let s = r .before .before .before in
     rw (c .leaving .ensures)
-    (counted (s .args .t .now) (s .args .w) [] (r .plan-in .result) (r .plan-in .ensures) (m .found .given .0 .0) (m .found .given .1) (s .pre) (s .fits .w .fits) (s .args .edit))
+    (counted (s .args .t .now) (s .args .w) [] (r .plan-in .result) (r .plan-in .ensures) (m .found .given .0 .0) (m .found .given .1) (s .pre .0) (s .fits .w .fits) (s .args .edit))
 
 touch-requires : tie.Need-touch-requires
 touch-requires c κs = search needs
@@ -35,23 +39,35 @@ touch-requires c κs = search needs
 slice-write-t : tie.Need-slice-write-t
 slice-write-t c =
     let done = c .before .before in
-    omega (arith, done .touch .kept .0, long (done .before .before .before .before .before .before .before .before .before .before .pre))
+    omega (arith, done .touch .kept .0, long (done .before .before .before .before .before .before .before .before .before .before .pre .0))
+
+recount-requires : tie.Need-recount-requires
+recount-requires c κs =
+    let done = c .before .before .before in
+    let l = done .before .before in
+    let m = l .before .before .before in
+    let r = m .before .before in
+    let s = r .before .before .before in
+    let a = s .args in
+    rw (l .leaving .ensures)
+    (edit-movable (a .t .now) (a .w) [] (r .plan-in .result) (r .plan-in .ensures) (m .found .given .0 .0) (m .found .given .1) (s .pre .0) (s .fits .w .fits) (a .edit) (s .pre .1) (done .touch .last .0) (done .touch .ensures))
 
 enum-told : tie.Need-enum-told
 enum-told c = search needs
 
 same-length : tie.Need-same-length
-same-length c = search needs
+same-length c = let done = c .before .before .before .before .before .before in c .before .before .recount .kept .0 ∙ length-set (done .touch .last .0) liveCountAt _ ∙ done .touch .kept .0
 
 returns : tie.Need-returns
 returns c =
-    let done = c .before .before in
+    let done = c .before .before .before .before .before .before in
     let l = done .before .before in
     let m = l .before .before .before in
     let r = m .before .before in
-    let a = r .before .before .before .args in
-    rw (edit-live (a .t .now) (a .w) [] (r .plan-in .result) (r .plan-in .ensures) (m .found .given .0 .0) (m .found .given .1) (a .edit) (done .touch .last .0) (done .touch .ensures), l .leaving .ensures)
-    (refl, refl)
+    let s = r .before .before .before in
+    let a = s .args in
+    rw (edit-live (a .t .now) (a .w) [] (r .plan-in .result) (r .plan-in .ensures) (m .found .given .0 .0) (m .found .given .1) (s .pre .0) (s .fits .w .fits) (a .edit) (s .pre .1) (done .touch .last .0) (done .touch .ensures))
+    (refl, c .before .before .recount .ensures ∙ ap (λ (k : ℕ). recountedIn (a .edit) (m .found .given .0 .0) (set (done .touch .last .0) liveCountAt (getD (a .t .now) liveCountAt 0 - k))) (l .leaving .ensures))
 
 same-length-2 : tie.Need-same-length-2
 same-length-2 c = search needs
@@ -73,6 +89,7 @@ edit-word-spec =
     sub-live
     touch-requires
     slice-write-t
+    recount-requires
     enum-told
     same-length
     returns

@@ -1,5 +1,5 @@
-//! Long lists of calls from one opening, with the plane written and read in between. Beside the two programs a plain map of the live
-//! words' plans, which settles every answer but whether the base list is full.
+//! Long lists of calls from one opening, with totals asked for and the plane written and read in between. Beside the two programs a
+//! plain map of the live words' plans, which settles every answer but whether the base list is full.
 
 use crate::compare::{differ, same, same_all, Seen};
 use crate::random::{any_identifier, cards, known_card};
@@ -9,7 +9,7 @@ use reference::{identifier, ours, plane, Answer};
 use std::collections::BTreeMap;
 
 const CALLS: u64 = 100_000;
-/// Calls between two planes.
+/// Calls between two planes, and between two times that every total is asked for.
 const INTERVAL: u64 = 1_000;
 
 #[derive(Clone, Copy, PartialEq)]
@@ -40,6 +40,8 @@ struct History {
     live: BTreeMap<u64, u8>,
     cards: Vec<Vec<u8>>,
     seen: Seen,
+    /// The answers to questions for a total.
+    asked: Seen,
 }
 
 impl History {
@@ -54,6 +56,7 @@ impl History {
             // More than the table can hold.
             cards: cards(rng, 80 * (shape.buckets() + 1)),
             seen: Seen::none(),
+            asked: Seen::none(),
         };
         history.seen.same(
             "open",
@@ -136,6 +139,23 @@ impl History {
         }
         let count = self.live.len() as u64;
         same("live count", &id, self.ours_t[LIVE_COUNT], count);
+        if rng.one_in(4) {
+            self.ask(plan);
+        }
+    }
+
+    /// The question for a plan's total put to both and to the map.
+    fn ask(&mut self, plan: u8) {
+        let answer = table::plan_total(&self.t, plan);
+        let ours = ours::plan_total(&self.ours_t, plan);
+        self.asked.same("total", plan, ours, answer);
+        let count = self.live.values().filter(|&&held| held == plan).count();
+        same(
+            "total by the map",
+            plan,
+            ours,
+            Answer::accepted(count as u64),
+        );
     }
 
     /// An opening that is refused: by its numbers, or because the table has another length.
@@ -200,6 +220,7 @@ fn history(rng: &mut Rng, b1: u64, b2: u64) {
             }
             if call % INTERVAL == 0 {
                 history.plane();
+                (0..=255).for_each(|plan| history.ask(plan));
             }
             most = most.max(history.live.len());
         }
@@ -210,6 +231,9 @@ fn history(rng: &mut Rng, b1: u64, b2: u64) {
         &format!("{CALLS} calls from one opening of {b1} and {b2} buckets, {most} live at most, {live} at the end, {base} of them in the base list"),
         &[0, 1, 2, 3, 4, 6, 7, 8],
     );
+    let asked = history.asked.total();
+    let what = format!("{asked} questions for a total along it");
+    history.asked.print(&what, &[0]);
 }
 
 /// A history at each of several bucket numbers; of the larger ones only if `all`.

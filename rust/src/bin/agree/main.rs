@@ -10,6 +10,7 @@ mod planes;
 mod random;
 mod records;
 mod tables;
+mod totals;
 
 use reference::rng::Rng;
 
@@ -27,7 +28,10 @@ fn main() {
     let mut rng = Rng::new(20261115);
     parts::identifiers(&mut rng, 300_000 * times);
     parts::buckets(&mut rng, 2_000 * times);
-    tables::tables(&mut rng, 2_000 * times);
+    tables::tables(&mut rng, if long { 20_000 } else { 1_800 });
+    totals::questions(&mut rng, 20_000 * times);
+    totals::wrong(&mut rng, 40 * times);
+    totals::one_plan(&mut rng);
     planes::planes(&mut rng, 400 * times);
     planes::edges(&mut rng);
     tables::histories(&mut rng, if long { 200 } else { 8 });

@@ -1,7 +1,7 @@
 //! Planes and lookups in them.
 
 use crate::compare::{same, same_all, Seen};
-use crate::random::{card, cards, damage, some_table};
+use crate::random::{card, cards, damage, different_cards, some_table};
 use reference::rng::Rng;
 use reference::table::{self, Shape};
 use reference::{ours, plane, Answer};
@@ -87,7 +87,7 @@ fn each_damage(seen: &mut Seen, id: &[u8], whole: &[u8], from: usize) {
 /// Every cut and every change of one byte of a small plane, and of the base list of the longest; outputs of 142 and 141 bytes.
 pub fn edges(rng: &mut Rng) {
     let cards = cards(rng, 60);
-    let mut t = vec![0; 280];
+    let mut t = vec![0; 536];
     table::open(&mut t, 1, 1);
     let mut expected = vec![0; 142];
     plane::write(&t, &mut expected);
@@ -115,11 +115,11 @@ pub fn edges(rng: &mut Rng) {
     let mut t = vec![0; shape.table_len()];
     table::open(&mut t, 48, 32);
     for bucket in 0..80 {
-        t[4 + 74 * bucket + 73] = 0;
+        t[260 + 74 * bucket + 73] = 0;
     }
     let mut ours_t = t.clone();
     let mut count = 0;
-    for id in reference_cards(65) {
+    for id in different_cards(65) {
         let answer = table::add(&mut t, &id, 9);
         same("base add", &id, ours::add(&mut ours_t, &id, 9), answer);
         same_all("table", &id, &ours_t, &t);
@@ -153,11 +153,4 @@ pub fn edges(rng: &mut Rng) {
         "planes of 142 and 5,930 bytes, every cut, every byte of the small one and of the other's base list, lookups",
         &[0, 1, 2, 10],
     );
-}
-
-/// Identifiers that are all different.
-fn reference_cards(count: usize) -> Vec<Vec<u8>> {
-    (0..count)
-        .map(|i| format!("BUS-{i}").into_bytes())
-        .collect()
 }

@@ -1,8 +1,9 @@
 //! Random identifiers, and tables, sound and damaged.
 
+use crate::totals::Wrong;
 use reference::identifier;
 use reference::rng::Rng;
-use reference::table::{self, Shape};
+use reference::table::{self, Shape, BASE_COUNT, BASE_MAX, HEADER, LEADING, TOTALS};
 
 const ALLOWED: &[u8] = b"abcxyzABCXYZ0189*-_=:+|@.";
 
@@ -29,6 +30,13 @@ pub fn any_identifier(rng: &mut Rng) -> Vec<u8> {
 pub fn cards(rng: &mut Rng, count: usize) -> Vec<Vec<u8>> {
     (0..count)
         .map(|_| (0..1 + rng.below(20)).map(|_| *rng.pick(ALLOWED)).collect())
+        .collect()
+}
+
+/// Identifiers that are all different.
+pub fn different_cards(count: usize) -> Vec<Vec<u8>> {
+    (0..count)
+        .map(|i| format!("BUS-{i}").into_bytes())
         .collect()
 }
 
@@ -78,10 +86,39 @@ pub fn some_table(rng: &mut Rng, cards: &[Vec<u8>]) -> Vec<u64> {
     t
 }
 
+/// Makes the totals those of the plans that the occupied rows and the base entries have, where the numbers are a table whose columns
+/// have inverses.
+pub fn recount(t: &mut [u64]) {
+    let Ok(shape) = Shape::of(t) else {
+        return;
+    };
+    let mut totals = [0; TOTALS];
+    for index in 0..shape.buckets() {
+        let bucket = shape.read_bucket(t, index);
+        let Some(rows) = bucket.rows() else {
+            return;
+        };
+        for j in (0..64).filter(|j| bucket.mark >> j & 1 == 1) {
+            totals[usize::from(bucket.lookup(rows[j]))] += 1;
+        }
+    }
+    for index in 0..BASE_MAX.min(t[BASE_COUNT] as usize) {
+        let (_, plan) = shape.base_pair(t, index);
+        if let Some(total) = totals.get_mut(plan as usize) {
+            *total += 1;
+        }
+    }
+    t[LEADING..HEADER].copy_from_slice(&totals);
+}
+
+/// Where one of the buckets of a table starts.
+fn some_bucket(rng: &mut Rng, t: &[u64]) -> usize {
+    260 + 74 * rng.below((t.len() as u64 - 388) / 74) as usize
+}
+
 /// A change that a table from elsewhere may have, small or large.
 pub fn damage(rng: &mut Rng, t: &mut Vec<u64>) {
-    let at = rng.below(t.len() as u64) as usize;
-    match rng.below(12) {
+    match rng.below(15) {
         0 => {
             t.pop();
         }
@@ -97,8 +134,7 @@ pub fn damage(rng: &mut Rng, t: &mut Vec<u64>) {
         }
         7 => {
             // A bound one higher or lower.
-            let bucket = rng.below((t.len() as u64 - 132) / 74) as usize;
-            let bound = 4 + 74 * bucket + 73;
+            let bound = some_bucket(rng, t) + 73;
             t[bound] = if rng.one_in(2) {
                 t[bound].wrapping_add(1)
             } else {
@@ -107,7 +143,7 @@ pub fn damage(rng: &mut Rng, t: &mut Vec<u64>) {
         }
         8 => {
             // Two columns of a bucket exchanged, or one made another's copy.
-            let bucket = 4 + 74 * rng.below((t.len() as u64 - 132) / 74) as usize;
+            let bucket = some_bucket(rng, t);
             let (i, j) = (
                 bucket + rng.below(64) as usize,
                 bucket + rng.below(64) as usize,
@@ -120,15 +156,31 @@ pub fn damage(rng: &mut Rng, t: &mut Vec<u64>) {
         }
         9 => {
             // Two buckets exchanged: words held where the tests do not send them.
-            let buckets = (t.len() as u64 - 132) / 74;
-            let (i, j) = (
-                4 + 74 * rng.below(buckets) as usize,
-                4 + 74 * rng.below(buckets) as usize,
-            );
+            let (i, j) = (some_bucket(rng, t), some_bucket(rng, t));
             for k in 0..74 {
                 t.swap(i + k, j + k);
             }
         }
-        _ => t[at] ^= 1 << rng.below(64),
+        // Bucket numbers that fit the length modulo a power of two, or by their sum alone.
+        10 => t[rng.below(2) as usize] += 1 << (8 + rng.below(56)),
+        11 => {
+            let buckets = 1 + rng.below(60);
+            t[0] = t[0].wrapping_sub(buckets);
+            t[1] += buckets;
+        }
+        12 => {
+            let wrong: &Wrong = rng.pick(&Wrong::ALL);
+            wrong.make(rng, t);
+        }
+        13 => {
+            // A bit of a bucket or of a base pair, with the totals that belong to it.
+            let at = HEADER + rng.below((t.len() - HEADER) as u64) as usize;
+            t[at] ^= 1 << rng.below(64);
+            recount(t);
+        }
+        _ => {
+            let at = rng.below(t.len() as u64) as usize;
+            t[at] ^= 1 << rng.below(64);
+        }
     }
 }

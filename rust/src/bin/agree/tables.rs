@@ -1,7 +1,8 @@
-//! Calls on tables, sound ones and damaged ones, and short histories.
+//! Calls and questions for a total on tables, sound ones and damaged ones, and short histories.
 
 use crate::compare::{same_all, Seen};
 use crate::random::{card, cards, damage, some_shape, some_table};
+use crate::totals;
 use reference::ours;
 use reference::rng::Rng;
 use reference::table::{self, Shape};
@@ -58,35 +59,41 @@ fn call_but_open(
     same_all("table", &id, ours_t, t);
 }
 
-/// Calls on tables, sound ones and damaged ones, whole tables compared after each.
+/// Calls on tables, sound ones and damaged ones, whole tables compared after each, and questions for a total.
 pub fn tables(rng: &mut Rng, cases: u64) {
-    let mut seen = Seen::none();
-    let mut calls = 0;
+    let (mut seen, mut asked) = (Seen::none(), Seen::none());
     for _ in 0..cases {
         let cards = cards(rng, 400);
         let mut t = some_table(rng, &cards);
         let mut ours_t = t.clone();
         for _ in 0..rng.below(60) {
             call(rng, &mut seen, &cards, &mut ours_t, &mut t);
-            calls += 1;
+            totals::ask_some(rng, &mut asked, &t);
             if rng.one_in(2) {
                 let mut damaged = t.clone();
                 damage(rng, &mut damaged);
+                totals::ask_some(rng, &mut asked, &damaged);
                 call(rng, &mut seen, &cards, &mut damaged.clone(), &mut damaged);
-                calls += 1;
             }
         }
     }
     seen.print(
-        &format!("{calls} calls on {cases} tables, sound and damaged"),
+        &format!(
+            "{} calls on {cases} tables, sound and damaged",
+            seen.total()
+        ),
         &[0, 1, 2, 3, 4, 5, 6, 7, 8],
+    );
+    asked.print(
+        &format!("{} questions for a total on them", asked.total()),
+        &[0, 4],
     );
 }
 
 /// Long histories from opening: filled until they refuse, then changes, withdrawals, queries and adds mixed; whole tables compared
-/// after each call.
+/// after each call, and at the end every total asked for.
 pub fn histories(rng: &mut Rng, cases: u64) {
-    let mut seen = Seen::none();
+    let (mut seen, mut asked) = (Seen::none(), Seen::none());
     let mut refused = 0;
     for case in 0..cases {
         let (b1, b2) = if case % 20 == 0 {
@@ -119,12 +126,18 @@ pub fn histories(rng: &mut Rng, cases: u64) {
             } else {
                 call_but_open(rng, &mut seen, &cards, &mut ours_t, &mut t);
             }
+            totals::ask_some(rng, &mut asked, &t);
         }
+        totals::ask_all(&mut asked, &t);
     }
     seen.print(
         &format!(
             "{cases} histories of 2,000 calls, {refused} of them filled until the first refusal"
         ),
         &[0, 1, 2, 6, 7, 8],
+    );
+    asked.print(
+        &format!("{} questions for a total along them", asked.total()),
+        &[0],
     );
 }

@@ -1,0 +1,102 @@
+-- `table_sound::rows_off` meets its contract. The loop takes the bits of the mark one by one, lowest first.
+-- Assumes nothing.
+use Prim.Native.Nat.{_^_, _<_}
+use native.Mathlib.Nat.{lt-trans}
+use native.Mathlib.Omega.{arith}
+use mathlib.Core.Path.{_≡_, refl, sym, _∙_}
+use lib.ListN.{length}
+use Rattle.gf2.specs.Select.{chosen}
+use Rattle.gf2.proofs.Chosen.{low-lt}
+use Rattle.gf2.proofs.Lowest.{tz-lt}
+use Rattle.bucket_settle.specs.Settle.{listed}
+use Rattle.table.specs.Table.{totalNumbers}
+use Rattle.table.specs.Calls.{rows}
+use Rattle.table_sound.specs.Held.{rowOf, countOff}
+use Rattle.table_sound.proofs.Held.{left-some, rows-on, rows-out, rows-end}
+use borrow.Author.Needs.{needs}
+use Rattle.table_sound.proofs.rows_off.Statement.{statement}
+use Rattle.table_sound.proofs.rows_off.Tie as tie
+
+abbrev Inv-loop : tie.InvT-loop
+Inv-loop t second m i b left₀ vectors rest₀ left rest = (rest < 2 ^ rows) × (length left ≡ totalNumbers) × (countOff (rowOf t second m i b) (listed b (chosen rest vectors)) left ≡ countOff (rowOf t second m i b) (listed b (chosen (b .mark) vectors)) left₀)
+
+abbrev μ-loop : tie.MeasureT-loop
+μ-loop t second m i b left₀ vectors rest₀ left rest = rest
+
+-- what the types of the parameters tell
+sized : (s : tie.Start Inv-loop μ-loop) → length (s .args .t6) ≡ rows
+sized s = search needs
+
+marked : (s : tie.Start Inv-loop μ-loop) → s .args .b .mark < 2 ^ rows
+marked s = search needs
+
+loop-holds : tie.Need-loop-holds Inv-loop μ-loop
+loop-holds c = let s = c .before .before in (marked s, s .pre .1, refl)
+
+cast-a : tie.Need-cast-a Inv-loop μ-loop
+cast-a c = let l = tz-lt rows (c .before .loop .rest) (c .before .loop .inv .0) (c .loop-test .taken) in omega arith
+
+mul-row-off : tie.Need-mul-row-off Inv-loop μ-loop
+mul-row-off c = let l = tz-lt rows (c .before .loop .rest) (c .before .loop .inv .0) (c .loop-test .taken) in omega arith
+
+array-read-row-off : tie.Need-array-read-row-off Inv-loop μ-loop
+array-read-row-off c = let l = tz-lt rows (c .before .loop .rest) (c .before .loop .inv .0) (c .loop-test .taken) in l
+
+row-off-requires : tie.Need-row-off-requires Inv-loop μ-loop
+row-off-requires c κs = let b = c .before .before in (b .before .before .before .pre .0, b .loop .inv .1)
+
+sub-rest : tie.Need-sub-rest Inv-loop μ-loop
+sub-rest c = search needs
+
+loop-less : tie.Need-loop-less Inv-loop μ-loop
+loop-less c = let b = c .before .before .before .before .before .before in low-lt rows (b .loop .rest) (b .loop .inv .0) (c .before .before .before .before .before .loop-test .taken)
+
+loop-again : tie.Need-loop-again Inv-loop μ-loop
+loop-again c =
+    let d = c .before .before .before in
+    let k = d .before .before in
+    let b = k .before in
+    let s = b .before .before .before in
+    let a = s .args in
+    (lt-trans (low-lt rows (b .loop .rest) (b .loop .inv .0) (k .loop-test .taken)) (b .loop .inv .0), search needs, rows-on (a .b) (rowOf (a .t .now) (a .second) (a .m) (a .i) (a .b)) rows (b .loop .rest) (a .t6) (b .loop .left) (sized s) (b .loop .inv .0) (k .loop-test .taken) (b .loop .inv .2) (d .row-off .last .1 .1 .1 .1 .1 .1 .0) (d .row-off .ensures) (c .if1 .taken))
+
+same-length : tie.Need-same-length Inv-loop μ-loop
+same-length c = search needs
+
+returns : tie.Need-returns Inv-loop μ-loop
+returns c =
+    let d = c .before .before .before in
+    let k = d .before .before in
+    let b = k .before in
+    let s = b .before .before .before in
+    let a = s .args in
+    rows-out (a .b) (rowOf (a .t .now) (a .second) (a .m) (a .i) (a .b)) rows (b .loop .rest) (a .t6) (b .loop .left) (sized s) (b .loop .inv .0) (k .loop-test .taken) (b .loop .inv .2) (d .row-off .last .1 .1 .1 .1 .1 .1 .0) _ (d .row-off .ensures) (c .if1 .left)
+
+same-length-2 : tie.Need-same-length-2 Inv-loop μ-loop
+same-length-2 c = search needs
+
+returns-2 : tie.Need-returns-2 Inv-loop μ-loop
+returns-2 c =
+    let b = c .before in
+    let a = b .before .before .before .args in
+    let z : b .loop .rest ≡ 0 = c .loop-test .left in
+    left-some (sym (b .loop .inv .2) ∙ (rw (sym z) at (rows-end (a .b) (rowOf (a .t .now) (a .second) (a .m) (a .i) (a .b)) (a .t6) (b .loop .left))))
+
+pub rows-off-spec : {M : Type 1} → statement M
+rows-off-spec =
+    tie.close
+    (tie.spec
+    Inv-loop
+    μ-loop
+    loop-holds
+    cast-a
+    mul-row-off
+    array-read-row-off
+    row-off-requires
+    sub-rest
+    loop-less
+    loop-again
+    same-length
+    returns
+    same-length-2
+    returns-2)

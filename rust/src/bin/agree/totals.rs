@@ -1,0 +1,365 @@
+//! Totals: the question for one on any numbers, tables whose totals alone are wrong, and tables with one plan for all.
+
+use crate::compare::{differ, same, same_all, Seen};
+use crate::random::{cards, different_cards, known_card, recount, some_shape, some_table};
+use reference::rng::Rng;
+use reference::table::{self, Shape, BASE_COUNT, HEADER, LEADING, LIVE_COUNT, TOTALS};
+use reference::{identifier, ours, plane};
+
+/// A plan, often the first or the last.
+fn some_plan(rng: &mut Rng) -> u8 {
+    let any = rng.byte();
+    *rng.pick(&[0, 255, any, any])
+}
+
+/// The question for a plan's total put to both.
+fn ask(asked: &mut Seen, t: &[u64], plan: u8) {
+    asked.same(
+        "total",
+        (t.len(), plan),
+        ours::plan_total(t, plan),
+        table::plan_total(t, plan),
+    );
+}
+
+pub fn ask_all(asked: &mut Seen, t: &[u64]) {
+    (0..=255).for_each(|plan| ask(asked, t, plan));
+}
+
+/// One plan's total, or now and then every plan's.
+pub fn ask_some(rng: &mut Rng, asked: &mut Seen, t: &[u64]) {
+    if rng.one_in(64) {
+        ask_all(asked, t);
+    } else {
+        ask(asked, t, some_plan(rng));
+    }
+}
+
+/// Any numbers, mostly with bucket numbers in range and of the length that these give, or nearly.
+fn some_numbers(rng: &mut Rng) -> Vec<u64> {
+    let (b1, b2) = if rng.one_in(4) {
+        *rng.pick(&[(0, 1), (1, 0), (0, 2), (49, 1), (1, 33), (48, 32), (49, 33)])
+    } else {
+        some_shape(rng)
+    };
+    let length = 4 + 256 + 74 * (b1 + b2) as usize + 128;
+    let length = match rng.below(12) {
+        0 => length - 1,
+        1 => length + 1,
+        // Without the totals, or the leading numbers and the totals alone.
+        2 => length - 256,
+        3 => 260,
+        4 => rng.below(8) as usize,
+        5 => rng.below(2 * length as u64) as usize,
+        _ => length,
+    };
+    let mut numbers: Vec<u64> = (0..length).map(|_| rng.next()).collect();
+    let leading = match rng.below(8) {
+        // They fit the length by their sum alone, or modulo a power of two.
+        0 => [b1.wrapping_sub(b2 + 1), 2 * b2 + 1],
+        1 => [b1 + (1 << 63), b2],
+        2 => [b1, b2 + (1 << (8 + rng.below(56)))],
+        _ => [b1, b2],
+    };
+    for (number, value) in numbers.iter_mut().zip(leading) {
+        *number = value;
+    }
+    numbers
+}
+
+/// The question on any numbers: it tests cause 4 alone.
+pub fn questions(rng: &mut Rng, cases: u64) {
+    let mut asked = Seen::none();
+    for _ in 0..cases {
+        let numbers = some_numbers(rng);
+        ask_some(rng, &mut asked, &numbers);
+    }
+    let what = format!("{} questions for a total on any numbers", asked.total());
+    asked.print(&what, &[0, 4]);
+}
+
+/// The ways in which the totals alone of a table are wrong.
+#[derive(Clone, Copy, Debug)]
+pub enum Wrong {
+    Raised,
+    Lowered,
+    /// 2^64 - 1.
+    Huge,
+    /// Two that differ.
+    Exchanged,
+    /// One plan's whole total given to another plan.
+    Moved,
+    /// A total of 0 raised, another lowered.
+    New,
+    /// All given to one plan.
+    Gathered,
+    /// One raised and another lowered modulo 2^64.
+    Wrapped,
+    Cleared,
+    /// The solution words give a row another plan.
+    Row,
+    /// A base entry has another plan.
+    Entry,
+}
+
+impl Wrong {
+    pub const ALL: [Wrong; 11] = [
+        Wrong::Raised,
+        Wrong::Lowered,
+        Wrong::Huge,
+        Wrong::Exchanged,
+        Wrong::Moved,
+        Wrong::New,
+        Wrong::Gathered,
+        Wrong::Wrapped,
+        Wrong::Cleared,
+        Wrong::Row,
+        Wrong::Entry,
+    ];
+
+    /// Makes a sound table wrong in this way, if it has what that takes.
+    pub fn make(self, rng: &mut Rng, t: &mut [u64]) -> Option<()> {
+        let totals = &mut t[LEADING..HEADER];
+        let any = usize::from(some_plan(rng));
+        match self {
+            Wrong::Raised => totals[any] += 1,
+            Wrong::Lowered => totals[plan_where(rng, |p| totals[p] > 0)?] -= 1,
+            Wrong::Huge => totals[any] = u64::MAX,
+            Wrong::Exchanged => {
+                let unlike = plan_where(rng, |p| totals[p] != totals[any])?;
+                totals.swap(any, unlike);
+            }
+            Wrong::Moved => {
+                let from = plan_where(rng, |p| totals[p] > 0 && p != any)?;
+                totals[any] += totals[from];
+                totals[from] = 0;
+            }
+            Wrong::New => {
+                let from = plan_where(rng, |p| totals[p] > 0)?;
+                let to = plan_where(rng, |p| totals[p] == 0)?;
+                totals[from] -= 1;
+                totals[to] = 1;
+            }
+            Wrong::Gathered => {
+                let sum = totals.iter().sum();
+                if totals[any] == sum {
+                    return None;
+                }
+                totals.fill(0);
+                totals[any] = sum;
+            }
+            Wrong::Wrapped => {
+                let other = (any + 1 + rng.below(255) as usize) % TOTALS;
+                let amounts = [1, u64::MAX, 1 << rng.below(64), 1 | rng.next()];
+                let amount = *rng.pick(&amounts);
+                totals[any] = totals[any].wrapping_add(amount);
+                totals[other] = totals[other].wrapping_sub(amount);
+            }
+            Wrong::Cleared => {
+                plan_where(rng, |p| totals[p] > 0)?;
+                totals.fill(0);
+            }
+            Wrong::Row => return other_row_plan(rng, t),
+            Wrong::Entry => return other_entry_plan(rng, t),
+        }
+        Some(())
+    }
+}
+
+/// One of the plans for which this holds.
+fn plan_where(rng: &mut Rng, wanted: impl Fn(usize) -> bool) -> Option<usize> {
+    let plans: Vec<usize> = (0..TOTALS).filter(|&plan| wanted(plan)).collect();
+    (!plans.is_empty()).then(|| *rng.pick(&plans))
+}
+
+/// XORs a row's column into solution words: its lookup alone becomes another.
+fn other_row_plan(rng: &mut Rng, t: &mut [u64]) -> Option<()> {
+    let shape = Shape::of(t).ok()?;
+    let occupied: Vec<usize> = (0..shape.buckets())
+        .filter(|&index| shape.read_bucket(t, index).mark != 0)
+        .collect();
+    if occupied.is_empty() {
+        return None;
+    }
+    let index = *rng.pick(&occupied);
+    let mut bucket = shape.read_bucket(t, index);
+    let rows: Vec<usize> = (0..64).filter(|j| bucket.mark >> j & 1 == 1).collect();
+    let col = bucket.cols[*rng.pick(&rows)];
+    let difference = 1 << rng.below(8) | rng.byte();
+    for c in (0..8).filter(|c| difference >> c & 1 == 1) {
+        bucket.sols[c] ^= col;
+    }
+    shape.write_bucket(t, index, &bucket);
+    Some(())
+}
+
+fn other_entry_plan(rng: &mut Rng, t: &mut [u64]) -> Option<()> {
+    let count = t[BASE_COUNT];
+    if count == 0 {
+        return None;
+    }
+    let entry = t.len() - 128 + 2 * rng.below(count) as usize;
+    t[entry + 1] ^= 1 + rng.below(255);
+    Some(())
+}
+
+/// Each call that tests the table put to both: the same answers; the table and the output stay.
+fn refuse(rng: &mut Rng, seen: &mut Seen, id: &[u8], t: &[u64]) {
+    let plan = rng.byte();
+    let (mut ours_t, mut their_t) = (t.to_vec(), t.to_vec());
+    let (a, b) = (&mut ours_t, &mut their_t);
+    seen.same("add", id, ours::add(a, id, plan), table::add(b, id, plan));
+    seen.same(
+        "change",
+        id,
+        ours::change(a, id, plan),
+        table::change(b, id, plan),
+    );
+    seen.same(
+        "withdraw",
+        id,
+        ours::withdraw(a, id),
+        table::withdraw(b, id),
+    );
+    seen.same("query", id, ours::query(a, id), table::query(b, id));
+    let (mut ours_out, mut out) = ([0xa5; 6000], [0xa5; 6000]);
+    seen.same(
+        "write",
+        id,
+        ours::write_plane(a, &mut ours_out),
+        plane::write(b, &mut out),
+    );
+    same_all("table", id, &ours_t, t);
+    same_all("table of the reference", id, &their_t, t);
+    same_all("output", id, &ours_out, &[0xa5; 6000]);
+    same_all("output of the reference", id, &out, &[0xa5; 6000]);
+}
+
+/// Sound tables made wrong in each of the ways: cause 5 from every call that tests the table, and from none once the totals are right
+/// again.
+pub fn wrong(rng: &mut Rng, cases: u64) {
+    let (mut refused, mut asked, mut right) = (Seen::none(), Seen::none(), Seen::none());
+    let mut counts = [0; Wrong::ALL.len()];
+    for _ in 0..cases {
+        let cards = cards(rng, 400);
+        let sound = some_table(rng, &cards);
+        for (wrong, count) in Wrong::ALL.iter().zip(&mut counts) {
+            let mut t = sound.clone();
+            if wrong.make(rng, &mut t).is_none() {
+                continue;
+            }
+            *count += 1;
+            let id = known_card(rng, &cards);
+            refuse(rng, &mut refused, &id, &t);
+            ask_some(rng, &mut asked, &t);
+            recount(&mut t);
+            right.same("query", &id, ours::query(&t, &id), table::query(&t, &id));
+        }
+    }
+    for (wrong, count) in Wrong::ALL.iter().zip(counts) {
+        if count == 0 {
+            differ("totals", wrong, "never occurred");
+        }
+    }
+    let tables: u64 = counts.iter().sum();
+    let what = format!(
+        "{tables} tables with wrong totals, {} calls",
+        refused.total()
+    );
+    refused.print(&what, &[5]);
+    asked.print("questions for a total on them", &[0]);
+    right.print("queries with the totals right again", &[0, 7]);
+}
+
+/// All live words on the first, the last or another plan until the first refusal, and then some on another plan or withdrawn.
+pub fn one_plan(rng: &mut Rng) {
+    let (mut seen, mut asked) = (Seen::none(), Seen::none());
+    for (b1, b2) in [(1, 1), (2, 1), (4, 2), (48, 32)] {
+        let shape = Shape::new(b1, b2).expect("in range");
+        for plan in [0, 255, 1 + rng.below(254) as u8] {
+            let mut filled = Filled::new(shape, plan);
+            filled.fill(&mut seen, &mut asked);
+            filled.empty(rng, &mut seen, &mut asked);
+        }
+    }
+    seen.print("tables with one plan for all, filled", &[0, 8]);
+    asked.print("questions for a total on them", &[0]);
+}
+
+/// Tables of both whose words all have one plan, and the words' identifiers.
+struct Filled {
+    ours_t: Vec<u64>,
+    t: Vec<u64>,
+    plan: u8,
+    inside: Vec<Vec<u8>>,
+    /// Those that are added by calls; the last one is refused.
+    last: Vec<Vec<u8>>,
+}
+
+impl Filled {
+    /// The tables before the last words: of a large one only these are added by calls.
+    fn new(shape: Shape, plan: u8) -> Filled {
+        let mut t = vec![0; shape.table_len()];
+        table::open(&mut t, shape.buckets1, shape.buckets2);
+        let mut all = t.clone();
+        let add = |t: &mut [u64], id: &[u8]| {
+            let word = identifier::word(id).expect("a card");
+            shape.add(t, word, plan).is_ok()
+        };
+        let mut inside = different_cards(80 * (shape.buckets() + 1));
+        let count = inside.iter().take_while(|id| add(&mut all, id)).count();
+        inside.truncate(count + 1);
+        let last = inside.split_off((count + 1).saturating_sub(2_000 / shape.buckets()));
+        for id in &inside {
+            add(&mut t, id);
+        }
+        Filled {
+            ours_t: t.clone(),
+            t,
+            plan,
+            inside,
+            last,
+        }
+    }
+
+    /// The last words added through the calls, to the first refusal.
+    fn fill(&mut self, seen: &mut Seen, asked: &mut Seen) {
+        for id in std::mem::take(&mut self.last) {
+            let ours = ours::add(&mut self.ours_t, &id, self.plan);
+            let answer = table::add(&mut self.t, &id, self.plan);
+            seen.same("add", &id, ours, answer);
+            self.compare(asked, &id);
+            if answer.is_accepted() {
+                self.inside.push(id);
+            }
+        }
+        let live = self.inside.len() as u64;
+        let total = ours::plan_total(&self.ours_t, self.plan);
+        same("total of all", self.plan, total.value, live);
+        same("live count", self.plan, self.t[LIVE_COUNT], live);
+        ask_all(asked, &self.t);
+    }
+
+    /// Some words changed, to this plan and to others, and withdrawn.
+    fn empty(&mut self, rng: &mut Rng, seen: &mut Seen, asked: &mut Seen) {
+        for _ in 0..5 {
+            let id = self
+                .inside
+                .swap_remove(rng.below(self.inside.len() as u64) as usize);
+            for plan in [self.plan, some_plan(rng), self.plan, !self.plan] {
+                let ours = ours::change(&mut self.ours_t, &id, plan);
+                seen.same("change", &id, ours, table::change(&mut self.t, &id, plan));
+                self.compare(asked, &id);
+            }
+            let ours = ours::withdraw(&mut self.ours_t, &id);
+            seen.same("withdraw", &id, ours, table::withdraw(&mut self.t, &id));
+            self.compare(asked, &id);
+        }
+        ask_all(asked, &self.t);
+    }
+
+    fn compare(&self, asked: &mut Seen, id: &[u8]) {
+        same_all("table", id, &self.ours_t, &self.t);
+        ask(asked, &self.ours_t, self.plan);
+    }
+}
