@@ -102,6 +102,9 @@ function cause(n,  id) {
     if (n == 8) {
         return "no room for it, the base list is full; a table with more buckets has more room"
     }
+    if (n == 14) {
+        return "plan 255 is given to no identifier: it means \"call the desk\""
+    }
     return "cause " n
 }
 

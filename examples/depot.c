@@ -68,7 +68,7 @@ static const char *read_card(const char *line, size_t length, int end, size_t *i
         return "no plan after the space";
     int n = read_number(space + 1, plan_length, UINT8_MAX);
     if (n < 0)
-        return "plan is not a decimal number from 0 to 255 (no sign, no leading zeros, nothing after it)";
+        return "plan is not a decimal number from 0 to 254 (no sign, no leading zeros, nothing after it)";
     *plan = (uint8_t)n;
     return NULL;
 }
@@ -82,6 +82,9 @@ static void say_cause(uint64_t cause, uint64_t value)
         break;
     case LIMGOSHI_WRONG_BYTE:
         fprintf(stderr, "byte %" PRIu64 " of the identifier is not allowed: letters, digits and * - _ = : + | @ . are\n", value + 1);
+        break;
+    case LIMGOSHI_DESK_PLAN_GIVEN:
+        fprintf(stderr, "plan %u means \"call the desk\": a card is given 0 to %u\n", LIMGOSHI_CALL_THE_DESK, LIMGOSHI_CALL_THE_DESK - 1);
         break;
     case LIMGOSHI_LIVE:
         fprintf(stderr, "identifier was given before, with plan %" PRIu64 " (capitals make no difference)\n", value);

@@ -1,7 +1,7 @@
-/* A charging post: reads a plane file and prints the plan of each identifier given.
+/* A charging post: reads a plane file and prints the plan of each identifier given, or that the driver should call the desk.
  * Use: post PLANE-FILE IDENTIFIER..
  *
- * Status 0: a plan is printed for each; 1: an identifier or the plane is turned down; 2: wrong use, or a file that cannot be read or written. */
+ * Status 0: one of these is printed for each; 1: an identifier or the plane is turned down; 2: wrong use, or a file that cannot be read or written. */
 #include <inttypes.h>
 #include <stdio.h>
 #include <string.h>
@@ -55,11 +55,13 @@ int main(int argc, char **argv)
     for (int i = 2; i < argc; i++) {
         uint64_t value;
         uint64_t cause = limgoshi_plane_lookup((const uint8_t *)argv[i], strlen(argv[i]), plane, length, &value);
-        if (cause == LIMGOSHI_ACCEPTED) {
-            printf("%s plan %" PRIu64 "\n", argv[i], value);
-        } else {
+        if (cause != LIMGOSHI_ACCEPTED) {
             say_cause(argv[1], argv[i], cause, value);
             status = 1;
+        } else if (value == LIMGOSHI_CALL_THE_DESK) {
+            printf("%s call the desk\n", argv[i]);
+        } else {
+            printf("%s plan %" PRIu64 "\n", argv[i], value);
         }
     }
     if (fflush(stdout) != 0) {

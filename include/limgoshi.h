@@ -25,10 +25,15 @@ extern "C" {
 #endif
 
 #define LIMGOSHI_ID_MAX 20u       /* an identifier is 1 to 20 bytes: letters, digits and * - _ = : + | @ . */
-#define LIMGOSHI_PLANS 256u       /* plans: 0 to 255 */
+#define LIMGOSHI_PLANS 256u       /* plans: 0 to 255; identifiers are given 0 to 254 */
 #define LIMGOSHI_BUCKETS1_MAX 48u /* buckets of level 1: 1 to 48 */
 #define LIMGOSHI_BUCKETS2_MAX 32u /* buckets of level 2: 1 to 32 */
 #define LIMGOSHI_BASE_MAX 64u     /* entries of the base list: 0 to 64 */
+
+/* The plan that means "call the desk". A plane gives it to an identifier that no bucket holds and the base list lacks. No live identifier has it: an
+ * add or change to it is turned down (14), a table in which a live identifier has it is not sound (5), a plane (10) or patch (12) with it in a base
+ * entry is wrong. A bucket may still give any number, this one too, to an identifier that is not live. */
+#define LIMGOSHI_CALL_THE_DESK 255u
 
 /* 64-bit numbers of a table with b1 and b2 buckets: 536 to 6,308. */
 #define LIMGOSHI_TABLE_NUMBERS(b1, b2) (4u + LIMGOSHI_PLANS + 74u * ((b1) + (b2)) + 128u)
@@ -46,22 +51,23 @@ extern "C" {
 #define LIMGOSHI_STACK_LOOKUP 500u  /* limgoshi_plane_lookup, limgoshi_plan_total */
 #define LIMGOSHI_STACK 8000u        /* any other */
 
-/* The causes in the order in which they are tested, but 9 last of all, each with what *value then is. */
+/* The causes in the order in which they are tested, but 14 after 2 and 9 last of all, each with what *value then is. */
 enum {
     LIMGOSHI_ACCEPTED = 0,
-    LIMGOSHI_WRONG_LENGTH = 1,   /* identifier of 0 or over 20 bytes: its length */
-    LIMGOSHI_WRONG_BYTE = 2,     /* byte of the identifier not allowed: index of the first, from 0 */
-    LIMGOSHI_WRONG_BUCKETS = 3,  /* bucket numbers out of range at opening: 0 */
-    LIMGOSHI_WRONG_TABLE = 4,    /* table of another length than its bucket numbers give, or these out of range: the length */
-    LIMGOSHI_NOT_SOUND = 5,      /* table not sound: 0 */
-    LIMGOSHI_LIVE = 6,           /* the identifier is live already: its plan */
-    LIMGOSHI_NOT_LIVE = 7,       /* the identifier is not live: 0 */
-    LIMGOSHI_FULL = 8,           /* the base list has no room for what the add would send there: 0 */
-    LIMGOSHI_SHORT_OUTPUT = 9,   /* output shorter than the plane or patch: the length needed */
-    LIMGOSHI_WRONG_PLANE = 10,   /* not a plane: offset of the first record that is wrong or cut, or of the first byte after the last */
-    LIMGOSHI_UNLIKE_PLANES = 11, /* planes that differ in bucket numbers: 0 */
-    LIMGOSHI_WRONG_PATCH = 12,   /* not a patch for this plane: offset in the patch, as for 10; a record out of its place is wrong too */
-    LIMGOSHI_WRONG_SUM = 13      /* a sum in the patch is not that of the old plane, or not that of the new one: 0 */
+    LIMGOSHI_WRONG_LENGTH = 1,    /* identifier of 0 or over 20 bytes: its length */
+    LIMGOSHI_WRONG_BYTE = 2,      /* byte of the identifier not allowed: index of the first, from 0 */
+    LIMGOSHI_WRONG_BUCKETS = 3,   /* bucket numbers out of range at opening: 0 */
+    LIMGOSHI_WRONG_TABLE = 4,     /* table of another length than its bucket numbers give, or these out of range: the length */
+    LIMGOSHI_NOT_SOUND = 5,       /* table not sound: 0 */
+    LIMGOSHI_LIVE = 6,            /* the identifier is live already: its plan */
+    LIMGOSHI_NOT_LIVE = 7,        /* the identifier is not live: 0 */
+    LIMGOSHI_FULL = 8,            /* the base list has no room for what the add would send there: 0 */
+    LIMGOSHI_SHORT_OUTPUT = 9,    /* output shorter than the plane or patch: the length needed */
+    LIMGOSHI_WRONG_PLANE = 10,    /* not a plane: offset of the first record that is wrong or cut, or of the first byte after the last */
+    LIMGOSHI_UNLIKE_PLANES = 11,  /* planes that differ in bucket numbers: 0 */
+    LIMGOSHI_WRONG_PATCH = 12,    /* not a patch for this plane: offset in the patch, as for 10; a record out of its place is wrong too */
+    LIMGOSHI_WRONG_SUM = 13,      /* a sum in the patch is not that of the old plane, or not that of the new one: 0 */
+    LIMGOSHI_DESK_PLAN_GIVEN = 14 /* plan LIMGOSHI_CALL_THE_DESK given: 0 */
 };
 
 /* The compiler warns where an answer is not looked at. */
@@ -75,12 +81,12 @@ enum {
  * Value: 0. Causes: 3, 4 (for another length alone). Time: 0.1 to 1 microseconds. Stack: LIMGOSHI_STACK. */
 LIMGOSHI_ANSWER limgoshi_open(uint64_t *table, size_t table_len, uint64_t b1, uint64_t b2, uint64_t *value);
 
-/* Adds an identifier with its plan.
- * Value: the number of live identifiers. Causes: 1, 2, 4, 5, 6, 8. Time: 6 to 300 microseconds. Stack: LIMGOSHI_STACK_ADD. */
+/* Adds an identifier with its plan, 0 to 254.
+ * Value: the number of live identifiers. Causes: 1, 2, 14, 4, 5, 6, 8. Time: 6 to 300 microseconds. Stack: LIMGOSHI_STACK_ADD. */
 LIMGOSHI_ANSWER limgoshi_add(uint64_t *table, size_t table_len, const uint8_t *id, size_t id_len, uint8_t plan, uint64_t *value);
 
-/* Changes the plan of a live identifier.
- * Value: the earlier plan. Causes: 1, 2, 4, 5, 7. Time: 6 to 300 microseconds. Stack: LIMGOSHI_STACK. */
+/* Changes the plan of a live identifier, to 0 to 254.
+ * Value: the earlier plan. Causes: 1, 2, 14, 4, 5, 7. Time: 6 to 300 microseconds. Stack: LIMGOSHI_STACK. */
 LIMGOSHI_ANSWER limgoshi_change(uint64_t *table, size_t table_len, const uint8_t *id, size_t id_len, uint8_t plan, uint64_t *value);
 
 /* Withdraws a live identifier.
@@ -93,7 +99,7 @@ LIMGOSHI_ANSWER limgoshi_query(const uint64_t *table, size_t table_len, const ui
 
 /* Reads how many live identifiers have a plan, from the totals that the table keeps. Only the table's length and bucket numbers are tested: of a table
  * that is not sound the answer is the number that stands there, right or wrong. To have the table tested, make any call that has cause 5, as
- * limgoshi_query for an identifier, live or not.
+ * limgoshi_query for an identifier, live or not. Any plan may be asked for: of a sound table the answer for LIMGOSHI_CALL_THE_DESK is 0.
  * Value: the number of live identifiers with that plan. Causes: 4. Time: some nanoseconds. Stack: LIMGOSHI_STACK_LOOKUP. */
 LIMGOSHI_ANSWER limgoshi_plan_total(const uint64_t *table, size_t table_len, uint8_t plan, uint64_t *value);
 
@@ -101,7 +107,8 @@ LIMGOSHI_ANSWER limgoshi_plan_total(const uint64_t *table, size_t table_len, uin
  * Value: the plane's length. Causes: 4, 5, 9. Time: 6 to 300 microseconds. Stack: LIMGOSHI_STACK. */
 LIMGOSHI_ANSWER limgoshi_write_plane(const uint64_t *table, size_t table_len, uint8_t *out, size_t out_len, uint64_t *value);
 
-/* Finds the plan that a plane gives an identifier: for a live one its plan, for any other some number. The whole plane is checked at each call.
+/* Finds the plan that a plane gives an identifier: to a live one its plan, to any other LIMGOSHI_CALL_THE_DESK, or some number where a bucket holds
+ * it. The whole plane is checked at each call.
  * Value: the plan. Causes: 1, 2, 10. Time: 0.1 microseconds. Stack: LIMGOSHI_STACK_LOOKUP. */
 LIMGOSHI_ANSWER limgoshi_plane_lookup(const uint8_t *id, size_t id_len, const uint8_t *plane, size_t plane_len, uint64_t *value);
 

@@ -11,6 +11,7 @@
 //! - An empty ID needs its space: `get ` is a call (`no 1`), `get` is `bad`;
 //!   `add  5` has an empty ID.
 //! - `0` is a number without leading zeros; `00` and the empty field are not.
+//! - `add ID 255` is a call (`no 14`), `add ID 256` is `bad`.
 //! - A refused open prints `no 3` and keeps the earlier table, if any; before
 //!   an accepted one every call but open prints `bad`.
 //! - Every line printed ends with LF.

@@ -125,7 +125,7 @@ pub fn bucket_matrix(part: &[u64], i: usize) -> u64 {
     unsafe { probe_matrix(part.as_ptr(), part.len(), i) }
 }
 
-/// Opens a table and adds the words, each with its low byte as plan, until the first refusal, with no test of the table: how many
+/// Opens a table and adds the words, each with the plan word mod 128, until the first refusal, with no test of the table: how many
 /// were accepted, 0 if the opening is refused.
 pub fn fill(t: &mut [u64], b1: u64, b2: u64, words: &[u64]) -> u64 {
     unsafe { probe_fill(t.as_mut_ptr(), t.len(), b1, b2, words.as_ptr(), words.len()) }

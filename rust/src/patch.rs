@@ -1,5 +1,5 @@
 //! The patch: made from two planes, applied to the old one (document 02,
-//! order 1).
+//! orders 1 and 3).
 //!
 //! Decisions:
 //! - In both calls cause 9 is tested last. Making tests the old plane before
@@ -18,7 +18,7 @@ use crate::answer::*;
 use crate::bucket::BOUND_MAX;
 use crate::identifier::fnv1a64;
 use crate::plane::{self, Plane, BASE_LEN, BUCKET_LEN, END_LEN};
-use crate::table::BASE_MAX;
+use crate::table::{may_be_given, BASE_MAX};
 
 pub const KIND_SUMS: u8 = 5;
 pub const KIND_CHANGE: u8 = 6;
@@ -143,7 +143,7 @@ impl Patch {
         while let Some((at, record)) = records.take(KIND_NEW, NEW_LEN)? {
             let (word, plan) = plane::entry(record);
             let ascends = before.is_none_or(|before| before < word);
-            if !ascends || gone.binary_search(&word).is_ok() {
+            if !ascends || !may_be_given(plan) || gone.binary_search(&word).is_ok() {
                 return Err(at);
             }
             match find(&base, word) {

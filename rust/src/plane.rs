@@ -1,10 +1,13 @@
-//! The plane: its writer and its reader (document 01, "The plane").
+//! The plane: its writer and its reader (document 01, "The plane"; document 02,
+//! order 3).
 //!
 //! Decisions:
 //! - The first record that is missing altogether counts as cut: its offset is
 //!   the length of the plane.
 //! - "A base record must exceed the one before" compares w' alone, strictly;
 //!   the first base record may have w' = 0.
+//! - Only base records are tested for the desk's plan: a bucket may answer any
+//!   number to a word that is not live, the desk's plan too.
 //! - The reader does not ask whether a base record belongs in the base list by
 //!   the bounds: no cause names that. Such a record is never reached.
 //! - A kind 4 whose body is not the four bytes has a value not allowed: the
@@ -15,7 +18,7 @@
 use crate::answer::*;
 use crate::bucket::{parity, BOUND_MAX, PLAN_BITS};
 use crate::identifier::{self, level1_vector, level2_vector};
-use crate::table::{self, Shape, BASE_COUNT, BASE_MAX};
+use crate::table::{self, may_be_given, Shape, BASE_COUNT, BASE_MAX, DESK_PLAN};
 
 pub const FORMAT: u8 = 1;
 pub const KIND_HEADER: u8 = 1;
@@ -150,8 +153,8 @@ impl<'a> Plane<'a> {
         let base_start = at;
         let mut before = None;
         for _ in 0..entries {
-            let vector = number(&record(bytes, at, KIND_BASE, BASE_LEN)?[1..]);
-            if before.is_some_and(|before| vector <= before) {
+            let (vector, plan) = entry(record(bytes, at, KIND_BASE, BASE_LEN)?);
+            if before.is_some_and(|before| vector <= before) || !may_be_given(plan) {
                 return Err(at);
             }
             before = Some(vector);
@@ -167,7 +170,7 @@ impl<'a> Plane<'a> {
     }
 
     /// The plan of a word: by the first level that holds it, else by the base
-    /// list, else 0.
+    /// list, else the desk's.
     pub fn plan(&self, word: u64) -> u8 {
         let vector = level1_vector(word);
         let place = identifier::place(vector);
@@ -185,7 +188,7 @@ impl<'a> Plane<'a> {
         self.base
             .chunks_exact(BASE_LEN)
             .find(|entry| number(&entry[1..]) == vector)
-            .map_or(0, |entry| entry[BASE_LEN - 1])
+            .map_or(DESK_PLAN, |entry| entry[BASE_LEN - 1])
     }
 
     fn bucket(&self, index: u64) -> &'a [u8] {

@@ -1,16 +1,18 @@
 //! The whole table as one slice of 64-bit numbers (document 01, "The whole
-//! table"; document 02, order 2).
+//! table"; document 02, orders 2 and 3).
 //!
 //! Decisions:
 //! - Every call but opening and the question for a plan's total tests the whole
 //!   table for causes 4 and 5 before it looks for its word, as the order of the
 //!   causes demands.
 //! - The question for a plan's total tests cause 4 alone and answers what the
-//!   table holds, sound or not, for every plan.
+//!   table holds, sound or not, for every plan, the desk's too.
+//! - Cause 14 comes before 4, 5, 6, 7 and 8: an add or change to the desk's plan
+//!   is refused by it whatever the table is, and whether the word is live or not.
 //! - Opening meets 3 before 4: with bucket numbers out of range the length is
 //!   not looked at. Cause 4 returns the number of 64-bit numbers in the slice.
 //! - Solution words may be anything in a sound table, as long as the plans they
-//!   give to the occupied rows agree with the totals.
+//!   give to the occupied rows may be given and agree with the totals.
 //! - A bound of 0 with no occupied row is sound, as is any bound whose words
 //!   pass the three tests: bounds need not be the greatest possible.
 //! - w' = 0 is an ordinary base word; only the base count tells an entry from
@@ -27,6 +29,14 @@ pub const LEVEL1_MAX: u64 = 48;
 pub const LEVEL2_MAX: u64 = 32;
 pub const BASE_MAX: usize = 64;
 pub const PLAN_MAX: u64 = 255;
+
+/// The plan that means "call the desk".
+pub const DESK_PLAN: u8 = 255;
+
+/// Whether a plan may be given to a word.
+pub fn may_be_given(plan: impl Into<u64>) -> bool {
+    plan.into() < u64::from(DESK_PLAN)
+}
 
 /// What the leading numbers are.
 pub const BUCKETS1: usize = 0;
@@ -115,16 +125,18 @@ pub fn plan_total(table: &[u64], plan: u8) -> Answer {
     Shape::of(table).map(|_| table[total_at(plan)]).into()
 }
 
-/// `add` from the word on: causes 4, 5, 6, 8.
+/// `add` from the word on: causes 14, 4, 5, 6, 8.
 pub fn add_word(table: &mut [u64], word: u64, plan: u8) -> Answer {
-    check(table)
+    check_plan(plan)
+        .and_then(|()| check(table))
         .and_then(|shape| shape.add(table, word, plan))
         .into()
 }
 
-/// `change` from the word on: causes 4, 5, 7.
+/// `change` from the word on: causes 14, 4, 5, 7.
 pub fn change_word(table: &mut [u64], word: u64, plan: u8) -> Answer {
-    check(table)
+    check_plan(plan)
+        .and_then(|()| check(table))
         .and_then(|shape| shape.change(table, word, plan))
         .into()
 }
@@ -141,6 +153,15 @@ pub fn query_word(table: &[u64], word: u64) -> Answer {
     check(table)
         .and_then(|shape| shape.query(table, word))
         .into()
+}
+
+/// Tests the plan of an add or change: cause 14.
+fn check_plan(plan: u8) -> Result<(), Answer> {
+    if may_be_given(plan) {
+        Ok(())
+    } else {
+        Err(Answer::refused(DESK_PLAN_GIVEN, 0))
+    }
 }
 
 /// Tests any slice: its shape if it is a sound table, else cause 4 or 5.
@@ -293,8 +314,8 @@ impl Shape {
             && table[LEADING..HEADER] == totals
     }
 
-    /// Columns invertible, free rows units, occupied rows where they belong.
-    /// The plans of the occupied rows are counted.
+    /// Columns invertible, free rows units, occupied rows where they belong and
+    /// with plans that may be given. These are counted.
     fn is_bucket_sound(
         &self,
         table: &[u64],
@@ -317,23 +338,24 @@ impl Shape {
             } else {
                 word_of_level2(row)
             };
-            if self.bucket_index(self.spot(table, word)) != Some(index) {
+            let plan = bucket.lookup(row);
+            if !may_be_given(plan) || self.bucket_index(self.spot(table, word)) != Some(index) {
                 return false;
             }
-            totals[usize::from(bucket.lookup(row))] += 1;
+            totals[usize::from(plan)] += 1;
         }
         true
     }
 
-    /// Base entries ascending and where they belong, their plans bytes, unused
-    /// pairs 0. The plans are counted.
+    /// Base entries ascending, where they belong and with plans that may be
+    /// given, unused pairs 0. The plans are counted.
     fn is_base_sound(&self, table: &[u64], count: usize, totals: &mut [u64; TOTALS]) -> bool {
         let mut before = None;
         for index in 0..count {
             let (vector, plan) = self.base_pair(table, index);
             let ascends = before.is_none_or(|before| before < vector);
-            if !ascends || plan > PLAN_MAX || self.spot(table, word_of_level2(vector)) != Spot::Base
-            {
+            let due = self.spot(table, word_of_level2(vector));
+            if !ascends || !may_be_given(plan) || due != Spot::Base {
                 return false;
             }
             before = Some(vector);
@@ -366,8 +388,9 @@ impl Shape {
         }
     }
 
-    /// The add of a word. The table must be sound.
+    /// The add of a word: causes 14, 6, 8. The table must be sound.
     pub fn add(&self, table: &mut [u64], word: u64, plan: u8) -> Result<u64, Answer> {
+        check_plan(plan)?;
         if let Some(plan) = self.plan(table, word) {
             return Err(Answer::refused(WORD_LIVE, u64::from(plan)));
         }
@@ -420,8 +443,9 @@ impl Shape {
         Ok(())
     }
 
-    /// The change of a word's plan. The table must be sound.
+    /// The change of a word's plan: causes 14, 7. The table must be sound.
     pub fn change(&self, table: &mut [u64], word: u64, plan: u8) -> Result<u64, Answer> {
+        check_plan(plan)?;
         let not_live = Answer::refused(WORD_NOT_LIVE, 0);
         let spot = self.spot(table, word);
         let vector = vector_at(spot, word);

@@ -102,7 +102,7 @@ fn base_entries_64_and_65_under_bounds_0() {
     assert_eq!(plane::write(&table, &mut output), accepted(782));
     for i in 1..=65 {
         let id = format!("CARD-{i}");
-        let plan = if i == 65 { 0 } else { i };
+        let plan = if i == 65 { 255 } else { i };
         assert_eq!(plane::lookup(id.as_bytes(), &output[..782]), accepted(plan));
     }
 
@@ -123,7 +123,7 @@ fn base_entries_64_and_65_after_adds() {
     let mut full = 0;
     let mut reached_64 = false;
     while full < 20 {
-        let (word, plan) = (rng.next(), rng.byte());
+        let (word, plan) = (rng.next(), oracle::random_plan(&mut rng));
         let before = table.clone();
         exact.add(word, plan);
         let answer = table::add_word(&mut table, word, plan);

@@ -39,8 +39,8 @@ fn compare(table: &[u64], slow: &SlowTable) {
     assert_eq!(live, expected);
 }
 
-/// The plane against the table: live words, and strangers by the bucket or
-/// the base list they are due in.
+/// The plane against the table: live words, and strangers by the bucket that
+/// holds them, else 255.
 fn compare_plane(table: &[u64], slow: &SlowTable, strangers: &[u64]) {
     let shape = Shape::of(table).unwrap();
     let len = 10 + 66 * shape.buckets() + 10 * table[2] as usize;
@@ -75,7 +75,7 @@ fn compare_plane(table: &[u64], slow: &SlowTable, strangers: &[u64]) {
         } else if slow.held2(word) {
             shape.read_bucket(table, further).lookup(v)
         } else {
-            0
+            255
         };
         let answer = plane::lookup_word(word, plane);
         assert_eq!(
@@ -89,7 +89,7 @@ fn compare_plane(table: &[u64], slow: &SlowTable, strangers: &[u64]) {
 }
 
 struct Seen {
-    by_cause: [u32; 11],
+    by_cause: [u32; 15],
     falls1: u32,
     falls2: u32,
 }
@@ -114,7 +114,7 @@ fn history(
         if shrinking && call % 97 == 96 {
             adds = 2 + rng.below(8);
         }
-        let plan = rng.byte();
+        let plan = oracle::any_plan(rng);
         let live: Vec<u64> = slow.plans.keys().copied().collect();
         let word = if rng.below(10) < adds || live.is_empty() || rng.one_in(20) {
             draw(rng)
@@ -172,7 +172,7 @@ fn history(
 
 fn seen() -> Seen {
     Seen {
-        by_cause: [0; 11],
+        by_cause: [0; 15],
         falls1: 0,
         falls2: 0,
     }
@@ -201,7 +201,7 @@ fn words_that_depend() {
         );
     }
     assert!(seen.falls1 > 20 && seen.falls2 > 20);
-    for cause in [0, 6, 7] {
+    for cause in [0, 6, 7, 14] {
         assert!(seen.by_cause[cause] > 50, "cause {cause}");
     }
 }
@@ -228,7 +228,7 @@ fn words_until_full() {
 #[test]
 fn identifiers() {
     let mut rng = Rng::new(9);
-    let mut causes = [0; 11];
+    let mut causes = [0; 15];
     for (buckets1, buckets2) in [(1, 1), (2, 3), (5, 1)] {
         let mut table = opened(buckets1, buckets2);
         let mut slow = SlowTable::open(buckets1 as usize, buckets2 as usize);
@@ -257,7 +257,7 @@ fn identifiers() {
                     id
                 }
             };
-            let plan = rng.byte();
+            let plan = oracle::any_plan(&mut rng);
             let before = table.clone();
             let word = oracle::word(&id);
             let by_word = |outcome: &mut dyn FnMut(u64) -> Answer| match word {
@@ -300,7 +300,7 @@ fn identifiers() {
             }
         }
     }
-    for cause in [0, 1, 2, 6, 7, 8] {
+    for cause in [0, 1, 2, 6, 7, 8, 14] {
         assert!(causes[cause] > 10, "{causes:?}");
     }
 }
@@ -315,7 +315,7 @@ fn greatest_table_until_full() {
     let mut refusals = 0;
     while refusals < 5 {
         let word = rng.next();
-        let plan = rng.byte();
+        let plan = oracle::any_plan(&mut rng);
         let expected = slow.add(word, plan);
         assert_eq!(Answer::from(shape.add(&mut table, word, plan)), expected);
         refusals += u32::from(expected.cause == 8);

@@ -9,7 +9,7 @@ use reference::table::{self, Shape};
 #[test]
 fn checked_and_inner_calls() {
     let mut rng = Rng::new(27);
-    let mut seen = [0; 9];
+    let mut seen = [0; 15];
     for (buckets1, buckets2) in [(1, 1), (2, 1), (3, 2), (7, 5)] {
         let shape = Shape::new(buckets1, buckets2).unwrap();
         let mut table = vec![0; shape.table_len()];
@@ -23,7 +23,8 @@ fn checked_and_inner_calls() {
                 _ => format!("card-{}", rng.below(cards)),
             };
             let id = id.as_bytes();
-            let plan = rng.byte();
+            // Now and then the one that no word is given.
+            let plan = *rng.pick(&[255, 254, 0, 1, 40, 41, 77, 128]);
             let word = identifier::word(id);
             let (checked, answer): (Answer, Answer) = match rng.below(10) {
                 0..=5 => (
@@ -52,6 +53,6 @@ fn checked_and_inner_calls() {
         }
     }
     // A table from an opening on is sound, so 3, 4 and 5 are no answer here.
-    assert!([0, 1, 2, 6, 7, 8].iter().all(|&cause| seen[cause] > 0));
+    assert!([0, 1, 2, 6, 7, 8, 14].iter().all(|&cause| seen[cause] > 0));
     assert_eq!(seen[3..6], [0, 0, 0]);
 }

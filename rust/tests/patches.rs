@@ -70,7 +70,7 @@ fn random_bucket(rng: &mut Rng) -> Vec<u8> {
 fn random_plane(rng: &mut Rng, level1: u8, level2: u8, words: &[u64], entries: usize) -> SlowPlane {
     let mut base = BTreeMap::new();
     while base.len() < entries {
-        base.insert(*rng.pick(words), rng.byte());
+        base.insert(*rng.pick(words), oracle::random_plan(rng));
     }
     SlowPlane {
         level1,
@@ -94,12 +94,14 @@ fn varied(rng: &mut Rng, plane: &SlowPlane, words: &[u64]) -> SlowPlane {
     other.base.retain(|_, _| !rng.one_in(often + 1));
     for plan in other.base.values_mut() {
         if rng.one_in(often + 1) {
-            *plan = rng.byte();
+            *plan = oracle::random_plan(rng);
         }
     }
     for _ in 0..rng.below(words.len() as u64) {
         if other.base.len() < 64 {
-            other.base.insert(*rng.pick(words), rng.byte());
+            other
+                .base
+                .insert(*rng.pick(words), oracle::random_plan(rng));
         }
     }
     other
@@ -196,7 +198,7 @@ fn sizes() {
     let mut new = old.clone();
     new.base.clear();
     assert_eq!(length(&new), 22 + 9 * 64);
-    new.base = old.base.iter().map(|(&w, &plan)| (w, !plan)).collect();
+    new.base = old.base.iter().map(|(&w, &plan)| (w, 254 - plan)).collect();
     assert_eq!(length(&new), 22 + 10 * 64);
     new.base = old.base.iter().take(60).map(|(&w, &p)| (w, p)).collect();
     assert_eq!(length(&new), 22 + 9 * 4);
@@ -214,7 +216,10 @@ fn along_histories() {
         table::open(&mut t, b1, b2);
         // As full as it gets, so that the base list has entries.
         if b1 < 48 {
-            while shape.add(&mut t, rng.next(), rng.byte()).is_ok() {}
+            while shape
+                .add(&mut t, rng.next(), oracle::random_plan(&mut rng))
+                .is_ok()
+            {}
         }
         let cards = 60 * (b1 + b2);
         let mut planes = vec![plane::plane_of(&t, shape)];
@@ -230,7 +235,7 @@ fn along_histories() {
             let held = shape.plan(&t, word);
             let plan = match held {
                 Some(held) if rng.one_in(4) => held,
-                _ => rng.byte(),
+                _ => oracle::any_plan(&mut rng),
             };
             let call = rng.below(6);
             let answer = match call {
@@ -461,7 +466,14 @@ fn values_not_allowed() {
     assert_eq!(wrong_after(|r| r[7] = new(40, 4)), start(7));
     assert_eq!(wrong_after(|r| r[4] = gone(30)), start(6));
     assert_eq!(wrong_after(|r| r[5] = new(0, 0)), None);
-    assert_eq!(wrong_after(|r| r[7] = new(u64::MAX, 255)), None);
+    assert_eq!(wrong_after(|r| r[7] = new(u64::MAX, 254)), None);
+    // Plan 255: in a new entry, in a changed one, in one that changes nothing else.
+    for index in 5..8 {
+        assert_eq!(wrong_after(|r| r[index].1[8] = 254), None);
+        assert_eq!(wrong_after(|r| r[index].1[8] = 255), start(index));
+    }
+    assert_eq!(wrong_after(|r| r[7] = new(u64::MAX, 255)), start(7));
+    assert_eq!(wrong_after(|r| r.insert(6, new(20, 255))), start(6));
     // Nothing changed by a record of kind 6, of kind 8.
     let (old, _, _) = some_pair();
     let same = |index: u8| (6, [vec![index], old.buckets[&index].clone()].concat());

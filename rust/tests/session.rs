@@ -25,7 +25,7 @@ fn after_open(line: &[u8]) -> String {
 
 #[test]
 fn forms_of_lines() {
-    let lines: [(&[u8], &str); 62] = [
+    let lines: [(&[u8], &str); 74] = [
         (b"get A\n", "ok 7"),
         (b"get a\n", "ok 7"),
         (b"get A", "bad"),
@@ -47,8 +47,15 @@ fn forms_of_lines() {
         (b"del\n", "bad"),
         (b"del A 7\n", "bad"),
         (b"add B 0\n", "ok 2"),
-        (b"add B 255\n", "ok 2"),
+        (b"add B 254\n", "ok 2"),
+        (b"add B 255\n", "no 14"),
         (b"add B 256\n", "bad"),
+        (b"add B 0255\n", "bad"),
+        (b"add B 255 \n", "bad"),
+        (b"add A 255\n", "no 14"),
+        (b"add  255\n", "no 1"),
+        (b"add / 255\n", "no 2"),
+        (b"add 255\n", "bad"),
         (b"add B 00\n", "bad"),
         (b"add B 01\n", "bad"),
         (b"add B +1\n", "bad"),
@@ -66,6 +73,11 @@ fn forms_of_lines() {
         (b"add A 256\n", "bad"),
         (b"set A 5\n", "ok 7"),
         (b"set B 5\n", "no 7"),
+        (b"set A 255\n", "no 14"),
+        (b"set B 255\n", "no 14"),
+        (b"set  255\n", "no 1"),
+        (b"set a/b 255\n", "no 2"),
+        (b"set A 256\n", "bad"),
         (b"set  5\n", "no 1"),
         (b"set a b 5\n", "bad"),
         (b"\n", "bad"),
@@ -125,6 +137,10 @@ fn before_and_after_openings() {
         run(b"get A\nadd A 1\nset A 1\ndel A\nget \nopen 49 1\nget A\nopen 1 1\nget A\n"),
         "bad\nbad\nbad\nbad\nbad\nno 3\nbad\nok 0\nno 7\n"
     );
+    assert_eq!(
+        run(b"add A 255\nset A 255\nadd  255\nopen 1 1\nadd A 255\n"),
+        "bad\nbad\nbad\nok 0\nno 14\n"
+    );
     // A refused open keeps the table, an accepted one starts afresh.
     assert_eq!(
         run(b"open 1 1\nadd A 1\nopen 0 0\nget A\nopen 1000 1\nget A\nopen 2 3\nget A\nadd A 2\n"),
@@ -159,7 +175,7 @@ fn first_64_kib() {
 fn full_base_list() {
     let mut input = b"open 1 1\n".to_vec();
     for i in 0..400 {
-        input.extend(format!("add card-{i} {}\n", i % 256).bytes());
+        input.extend(format!("add card-{i} {}\n", i % 255).bytes());
     }
     let output = run(&input);
     let live = output.lines().filter(|line| line.starts_with("ok")).count() - 1;

@@ -127,8 +127,15 @@ fn each_rule_alone() {
     });
     broken(&|t| t[base] = t[base + 2]);
     // Base plans.
+    broken(&|t| t[base + 1] = 255);
     broken(&|t| t[base + 1] = 256);
     broken(&|t| t[base + 2 * count - 1] |= 1 << 63);
+    // Plans of rows, of each level.
+    for bucket in [0, 3] {
+        let mark = table[first + 74 * bucket + 64];
+        let row = mark.trailing_zeros() as usize;
+        broken(&|t| *t = oracle::with_row_plan(t, bucket, row, 255));
+    }
     // Unused pairs.
     broken(&|t| t[base + 2 * count] = 1);
     broken(&|t| t[base + 2 * count + 1] = 1);
@@ -144,11 +151,12 @@ fn each_rule_alone() {
         t[3] += 1;
     });
 
-    // Solutions are free, if the totals agree with them.
+    // Solutions are free, if no plan is 255 and the totals agree with them.
     let mut other = table.clone();
-    for c in 0..8 {
+    for c in 0..7 {
         other[first + 65 + c] = rng.next();
     }
+    other[first + 65 + 7] = 0;
     assert_eq!(soundness(&other), NOT_SOUND);
     assert_eq!(oracle::soundness(&other), NOT_SOUND);
     oracle::recount(&mut other);

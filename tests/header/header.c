@@ -18,7 +18,7 @@
 static_assert(LIMGOSHI_TABLE_NUMBERS(1, 1) == 536 && LIMGOSHI_TABLE_NUMBERS(B1_MAX, B2_MAX) == 6308, "numbers of a table");
 static_assert(LIMGOSHI_PLANE_BYTES(1, 1, 0) == 142 && LIMGOSHI_PLANE_BYTES(B1_MAX, B2_MAX, LIMGOSHI_BASE_MAX) == 5930, "bytes of a plane");
 static_assert(LIMGOSHI_PATCH_BYTES(0, 0, 0) == 22 && LIMGOSHI_PATCH_BYTES(B1_MAX + B2_MAX, LIMGOSHI_BASE_MAX, LIMGOSHI_BASE_MAX) == 6598, "bytes of a patch");
-static_assert(LIMGOSHI_PLANS == UINT8_MAX + 1, "plans");
+static_assert(LIMGOSHI_PLANS == UINT8_MAX + 1 && LIMGOSHI_CALL_THE_DESK == UINT8_MAX, "plans");
 static_assert(LIMGOSHI_PATCH_BYTES(1, 0, 0) == 89, "bytes of the patch of a changed plan");
 
 static uint64_t table[ROOM], table_before[ROOM];
@@ -92,12 +92,13 @@ static void after(int line, const char *call, uint64_t got, uint64_t cause, uint
             wrong(__LINE__, #fact); \
     } while (0)
 
-/* The four calls on an identifier and a table. */
+/* The four calls on an identifier and a table, and the plan that two of them give. */
+static uint8_t given_plan = 77;
 static uint64_t table_call(int which, uint64_t *t, size_t n, const uint8_t *id, size_t length)
 {
     switch (which) {
-    case ADD: return limgoshi_add(t, n, id, length, 77, &value);
-    case CHANGE: return limgoshi_change(t, n, id, length, 77, &value);
+    case ADD: return limgoshi_add(t, n, id, length, given_plan, &value);
+    case CHANGE: return limgoshi_change(t, n, id, length, given_plan, &value);
     case WITHDRAW: return limgoshi_withdraw(t, n, id, length, &value);
     default: return limgoshi_query(t, n, id, length, &value);
     }
@@ -188,13 +189,13 @@ static void values(void)
     size_t n = LIMGOSHI_TABLE_NUMBERS(3, 2);
     ANSWERS(limgoshi_open(table, n, 3, 2, &value), LIMGOSHI_ACCEPTED, 0);
     ANSWERS(limgoshi_add(table, n, bytes("Bus-17"), 6, 40, &value), LIMGOSHI_ACCEPTED, 1);
-    ANSWERS(limgoshi_add(table, n, bytes("Bus-18"), 6, 255, &value), LIMGOSHI_ACCEPTED, 2);
+    ANSWERS(limgoshi_add(table, n, bytes("Bus-18"), 6, 254, &value), LIMGOSHI_ACCEPTED, 2);
     ANSWERS(limgoshi_add(table, n, bytes("BUS-17"), 6, 41, &value), LIMGOSHI_LIVE, 40);
     ANSWERS(limgoshi_query(table, n, bytes("bus-17"), 6, &value), LIMGOSHI_ACCEPTED, 40);
     ANSWERS(limgoshi_change(table, n, bytes("bus-17"), 6, 9, &value), LIMGOSHI_ACCEPTED, 40);
     ANSWERS(limgoshi_write_plane(table, n, out, sizeof out, &value), LIMGOSHI_ACCEPTED, LIMGOSHI_PLANE_BYTES(3, 2, 0));
     ANSWERS(limgoshi_plane_lookup(bytes("bus-17"), 6, out, LIMGOSHI_PLANE_BYTES(3, 2, 0), &value), LIMGOSHI_ACCEPTED, 9);
-    ANSWERS(limgoshi_plane_lookup(bytes("bus-18"), 6, out, LIMGOSHI_PLANE_BYTES(3, 2, 0), &value), LIMGOSHI_ACCEPTED, 255);
+    ANSWERS(limgoshi_plane_lookup(bytes("bus-18"), 6, out, LIMGOSHI_PLANE_BYTES(3, 2, 0), &value), LIMGOSHI_ACCEPTED, 254);
     ANSWERS(limgoshi_withdraw(table, n, bytes("bus-17"), 6, &value), LIMGOSHI_ACCEPTED, 9);
     ANSWERS(limgoshi_withdraw(table, n, bytes("bus-17"), 6, &value), LIMGOSHI_NOT_LIVE, 0);
     ANSWERS(limgoshi_change(table, n, bytes("bus-17"), 6, 9, &value), LIMGOSHI_NOT_LIVE, 0);
@@ -245,6 +246,36 @@ static void order(void)
     ANSWERS(limgoshi_plane_lookup(bytes("bus-17-bus-17-bus-17/"), 21, out, 142, &value), LIMGOSHI_WRONG_LENGTH, 21);
     ANSWERS(limgoshi_plane_lookup(bytes("bus-17/"), 7, out, 142, &value), LIMGOSHI_WRONG_BYTE, 6);
     ANSWERS(limgoshi_plane_lookup(bytes("bus-17"), 6, out, 142, &value), LIMGOSHI_WRONG_PLANE, 0);
+}
+
+/* Cause 14: after 1 and 2, before every other, whatever the table is and whether the identifier is live or not. The table is that of `values`. */
+static void desk_plan(void)
+{
+    size_t n = LIMGOSHI_TABLE_NUMBERS(3, 2);
+    given_plan = LIMGOSHI_CALL_THE_DESK;
+    for (int which = ADD; which <= CHANGE; which++) {
+        ANSWERS(table_call(which, table, n, bytes("/////////////////////"), 21), LIMGOSHI_WRONG_LENGTH, 21);
+        ANSWERS(table_call(which, NULL, 0, NULL, 0), LIMGOSHI_WRONG_LENGTH, 0);
+        ANSWERS(table_call(which, table, n, bytes("bus/17"), 6), LIMGOSHI_WRONG_BYTE, 3);
+        ANSWERS(table_call(which, table, n, bytes("bus-17"), 6), LIMGOSHI_DESK_PLAN_GIVEN, 0);
+        ANSWERS(table_call(which, table, n, bytes("bus-99"), 6), LIMGOSHI_DESK_PLAN_GIVEN, 0);
+        ANSWERS(table_call(which, NULL, 0, bytes("bus-17"), 6), LIMGOSHI_DESK_PLAN_GIVEN, 0);
+        for (size_t k = 0; k <= n + 1; k++)
+            ANSWERS(table_call(which, table, k, bytes("bus-17"), 6), LIMGOSHI_DESK_PLAN_GIVEN, 0);
+        for (size_t i = 0; i < n; i += i < 4 ? 1 : 37) { /* bucket numbers, counts, and numbers of every part */
+            table[i]++;
+            ANSWERS(table_call(which, table, n, bytes("bus/17"), 6), LIMGOSHI_WRONG_BYTE, 3);
+            ANSWERS(table_call(which, table, n, bytes("bus-17"), 6), LIMGOSHI_DESK_PLAN_GIVEN, 0);
+            ANSWERS(table_call(which, table, n, bytes("bus-99"), 6), LIMGOSHI_DESK_PLAN_GIVEN, 0);
+            table[i]--;
+        }
+    }
+    given_plan = 77;
+    ANSWERS(limgoshi_query(table, n, bytes("bus-17"), 6, &value), LIMGOSHI_ACCEPTED, 8);
+    ANSWERS(limgoshi_query(table, n, bytes("bus-99"), 6, &value), LIMGOSHI_NOT_LIVE, 0);
+    ANSWERS(limgoshi_change(table, n, bytes("bus-17"), 6, LIMGOSHI_CALL_THE_DESK - 1, &value), LIMGOSHI_ACCEPTED, 8);
+    ANSWERS(limgoshi_change(table, n, bytes("bus-17"), 6, 8, &value), LIMGOSHI_ACCEPTED, LIMGOSHI_CALL_THE_DESK - 1);
+    ANSWERS(limgoshi_plan_total(table, n, LIMGOSHI_CALL_THE_DESK, &value), LIMGOSHI_ACCEPTED, 0);
 }
 
 /* A pointer with length 0 may be NULL. The table is that of `values`. */
@@ -302,6 +333,45 @@ static void planes(void)
     make_plane(out, 1, 1, 2);
     out[5 + 132 + 10 + 1] = 0; /* the second base record's word */
     ANSWERS(limgoshi_plane_lookup(bytes("bus-17"), 6, out, LIMGOSHI_PLANE_BYTES(1, 1, 2), &value), LIMGOSHI_WRONG_PLANE, 5 + 132 + 10);
+}
+
+/* The desk's plan in each base record; strangers, where no bucket holds them and where one does. */
+static void strangers(void)
+{
+    size_t length = make_plane(out, 1, 1, LIMGOSHI_BASE_MAX), right_length = make_plane(new_plane, 1, 1, 0);
+    for (size_t i = 0; i < LIMGOSHI_BASE_MAX; i++) {
+        size_t at = 5 + 132 + 10 * i;
+        out[at + 9] = LIMGOSHI_CALL_THE_DESK - 1;
+        ANSWERS(limgoshi_plane_lookup(bytes("bus-17"), 6, out, length, &value), LIMGOSHI_ACCEPTED, 0);
+        out[at + 9] = LIMGOSHI_CALL_THE_DESK;
+        ANSWERS(limgoshi_plane_lookup(bytes("bus-17"), 6, out, length, &value), LIMGOSHI_WRONG_PLANE, at);
+        ANSWERS(limgoshi_plane_lookup(bytes("bus/17"), 6, out, length, &value), LIMGOSHI_WRONG_BYTE, 3);
+        memcpy(old_plane, out, length);
+        ANSWERS(limgoshi_make_patch(old_plane, length, new_plane, right_length, out, sizeof out, &value), LIMGOSHI_WRONG_PLANE, at);
+        ANSWERS(limgoshi_make_patch(new_plane, right_length, old_plane, length, out, sizeof out, &value), LIMGOSHI_WRONG_PLANE, at);
+        ANSWERS(limgoshi_apply_patch(old_plane, length, NULL, 0, out, sizeof out, &value), LIMGOSHI_WRONG_PLANE, at);
+        out[at + 9] = 0;
+    }
+    unsigned desk = 0;
+    for (unsigned i = 0; i < 100; i++) {
+        size_t k = strlen(card(i));
+        length = make_plane(out, 1, 1, 0); /* a bucket of the bound 8 holds everything */
+        ANSWERS(limgoshi_plane_lookup(bytes(card(i)), k, out, length, &value), LIMGOSHI_ACCEPTED, 0);
+        out[5 + 1] = 0;
+        ANSWERS(limgoshi_plane_lookup(bytes(card(i)), k, out, length, &value), LIMGOSHI_ACCEPTED, 0);
+        out[5 + 66 + 1] = 0;
+        ANSWERS(limgoshi_plane_lookup(bytes(card(i)), k, out, length, &value), LIMGOSHI_ACCEPTED, LIMGOSHI_CALL_THE_DESK);
+        length = make_plane(out, 1, 1, LIMGOSHI_BASE_MAX); /* other words in the base list */
+        out[5 + 1] = out[5 + 66 + 1] = 0;
+        ANSWERS(limgoshi_plane_lookup(bytes(card(i)), k, out, length, &value), LIMGOSHI_ACCEPTED, LIMGOSHI_CALL_THE_DESK);
+        length = make_plane(out, 1, 1, 0); /* eight equal solution words: the bucket gives 0 or 255 */
+        memset(out + 5 + 2, 0x35, 64);
+        before();
+        uint64_t answer = limgoshi_plane_lookup(bytes(card(i)), k, out, length, &value);
+        desk += value == LIMGOSHI_CALL_THE_DESK;
+        after(__LINE__, "limgoshi_plane_lookup by a bucket", answer, LIMGOSHI_ACCEPTED, value == LIMGOSHI_CALL_THE_DESK ? value : 0);
+    }
+    HOLDS(desk > 0 && desk < 100);
 }
 
 /* The patch from a plane to one in which the buckets from number `first` on are changed, `gone` base words are gone and `news` others are new; then it
@@ -407,6 +477,8 @@ static const struct {
     {2, "5 6 2 8 4", 17}, {2, "5 6 0 8 6 1 9 4", 84}, {2, "5 7 2 4", 17}, {0, "5 7 0 4", 17}, {2, "5 7 0 7 1 8 1 1 4", 35},
     /* a 65th entry: alone, after a word gone, after an entry changed */
     {64, "5 8 64 1 4", 17}, {64, "5 7 0 8 64 1 8 65 1 4", 36}, {64, "5 8 3 1 8 64 1 4", 27},
+    /* the desk's plan: in an entry changed, in a new one, after another, before one out of its place */
+    {2, "5 8 0 255 4", 17}, {2, "5 8 1 255 4", 17}, {2, "5 8 2 255 4", 17}, {2, "5 8 0 254 8 2 255 4", 27}, {2, "5 8 3 255 8 2 1 4", 17},
 };
 
 /* Causes 12 and 13: the patches above; a right patch, made by hand and by the library, with every cut and with a bit changed in every byte. */
@@ -444,6 +516,11 @@ static void damage(void)
             ANSWERS(limgoshi_apply_patch(old_plane, old_length, patch, length, out, sizeof out, &value), LIMGOSHI_WRONG_SUM, 0);
         patch[i] ^= 0x80;
     }
+    make_plane(new_plane, 1, 1, 3);
+    new_plane[entries + 10 + 9] = LIMGOSHI_CALL_THE_DESK - 1;
+    length = make_patch("5 8 1 254 4", old_sum, sum(new_plane, new_length));
+    ANSWERS(limgoshi_apply_patch(old_plane, old_length, patch, length, out, sizeof out, &value), LIMGOSHI_ACCEPTED, new_length);
+    HOLDS(memcmp(out, new_plane, new_length) == 0);
     length = make_patch("5 6 0 8 8 1 0 4", old_sum, old_sum); /* changes nothing */
     ANSWERS(limgoshi_apply_patch(old_plane, old_length, patch, length, out, sizeof out, &value), LIMGOSHI_ACCEPTED, old_length);
     HOLDS(memcmp(out, old_plane, old_length) == 0);
@@ -527,8 +604,26 @@ static void full(void)
             after(__LINE__, "limgoshi_query", answer, LIMGOSHI_NOT_LIVE, 0);
         }
         ANSWERS(limgoshi_query(restored, n, id, k, &value), answer, plan);
+        ANSWERS(limgoshi_add(table, n, id, k, LIMGOSHI_CALL_THE_DESK, &value), LIMGOSHI_DESK_PLAN_GIVEN, 0);
+        ANSWERS(limgoshi_change(table, n, id, k, LIMGOSHI_CALL_THE_DESK, &value), LIMGOSHI_DESK_PLAN_GIVEN, 0);
     }
     HOLDS(live == table[3]);
+    size_t base = n - 128;
+    for (size_t i = 0; i < LIMGOSHI_BASE_MAX; i++) { /* a base entry with the desk's plan, without and with its total */
+        uint64_t *plan = restored + base + 2 * i + 1;
+        uint8_t earlier = (uint8_t)*plan;
+        HOLDS(*plan == earlier);
+        *plan = LIMGOSHI_CALL_THE_DESK;
+        for (unsigned counted = 0; counted < 2; counted++) {
+            restored[4 + earlier] -= counted;
+            restored[4 + LIMGOSHI_CALL_THE_DESK] += counted;
+            ANSWERS(limgoshi_query(restored, n, bytes(card(0)), 6, &value), LIMGOSHI_NOT_SOUND, 0);
+            ANSWERS(limgoshi_plan_total(restored, n, LIMGOSHI_CALL_THE_DESK, &value), LIMGOSHI_ACCEPTED, counted);
+        }
+        restored[4 + earlier]++;
+        restored[4 + LIMGOSHI_CALL_THE_DESK]--;
+        *plan = earlier;
+    }
     for (size_t i = 0; i < n; i++) {
         restored[i]++;
         before();
@@ -564,9 +659,10 @@ static void totals(void)
     unsigned count = 0, full = 0;
     size_t n = LIMGOSHI_TABLE_NUMBERS(1, 1);
     ANSWERS(limgoshi_open(table, n, 1, 1, &value), LIMGOSHI_ACCEPTED, 0);
+    HOLDS(table[4 + LIMGOSHI_PLANS - 1] == 0 && table[4 + LIMGOSHI_PLANS] == 1); /* the last total, the first bucket's first column */
     every_total(n);
     for (unsigned i = 0; i < TRIED; i++) {
-        uint8_t plan = (uint8_t)(i % 6 * 51); /* 0 to 255 */
+        uint8_t plan = (uint8_t)(i % 3 * 127); /* 0, 127, 254 */
         before();
         uint64_t answer = limgoshi_add(table, n, bytes(card(i)), strlen(card(i)), plan, &value);
         live[i] = answer != LIMGOSHI_FULL;
@@ -579,12 +675,15 @@ static void totals(void)
     HOLDS(count > 128 && full > 0);
     every_total(n);
     for (unsigned i = 0; i < TRIED; i++) {
-        uint8_t earlier = (uint8_t)(i % 6 * 51), plan = (uint8_t)(i % 4 * 85); /* the same for some */
+        uint8_t earlier = (uint8_t)(i % 3 * 127), plan = (uint8_t)(i % 5 * 63 + 2); /* the same for some */
         heads[earlier] -= live[i];
         heads[plan] += live[i];
         ANSWERS(limgoshi_change(table, n, bytes(card(i)), strlen(card(i)), plan, &value), live[i] ? LIMGOSHI_ACCEPTED : LIMGOSHI_NOT_LIVE, live[i] ? earlier : 0);
         total(n, earlier);
         total(n, plan);
+        ANSWERS(limgoshi_change(table, n, bytes(card(i)), strlen(card(i)), LIMGOSHI_CALL_THE_DESK, &value), LIMGOSHI_DESK_PLAN_GIVEN, 0);
+        total(n, plan);
+        total(n, LIMGOSHI_CALL_THE_DESK);
     }
     every_total(n);
     for (unsigned plan = 0; plan < LIMGOSHI_PLANS; plan++) {
@@ -603,7 +702,7 @@ static void totals(void)
         }
     }
     for (unsigned i = 0; i < TRIED; i++) {
-        uint8_t plan = (uint8_t)(i % 4 * 85);
+        uint8_t plan = (uint8_t)(i % 5 * 63 + 2);
         heads[plan] -= live[i];
         ANSWERS(limgoshi_withdraw(table, n, bytes(card(i)), strlen(card(i)), &value), live[i] ? LIMGOSHI_ACCEPTED : LIMGOSHI_NOT_LIVE, live[i] ? plan : 0);
         total(n, plan);
@@ -650,8 +749,10 @@ int main(void)
     identifiers();
     values();
     order();
+    desk_plan();
     nulls();
     planes();
+    strangers();
     patches();
     damage();
     patch_order();

@@ -93,7 +93,7 @@ static void note(int which, unsigned char paint)
 static void set_card(unsigned n)
 {
     id_length = (size_t)snprintf(id, sizeof id, "Card-%u", n);
-    plan = (uint8_t)n;
+    plan = (uint8_t)(n % LIMGOSHI_CALL_THE_DESK);
 }
 
 /* Exchanges the two planes that a patch is made from. */
@@ -189,6 +189,8 @@ static void fill(uint64_t n1, uint64_t n2, unsigned char paint)
         table[4 + LIMGOSHI_PLANS] ^= 1; /* a column of the first bucket: not sound */
         call(which);
         table[4 + LIMGOSHI_PLANS] ^= 1;
+        plan = LIMGOSHI_CALL_THE_DESK;
+        call(which);
         id[0] = '/';
         call(which);
         id_length = 0;

@@ -1,8 +1,8 @@
--- Document 01's table of causes, with those that document 02's orders add (11 to 13: order 1): the number of each case of an answer, and what is
+-- Document 01's table of causes, with those that document 02's orders add (11 to 13: order 1; 14: order 3): the number of each case of an answer, and what is
 -- returned with it.
 use Prim.Native.Nat.{ℕ}
 use Rattle.answer.specs.declared.Answer.{Answer}
-use Rattle.answer.specs.declared.Answer.the-variants.{Accepted, WrongLength, WrongByte, WrongBuckets, WrongTable, NotSound, Live, NotLive, Full, ShortOutput, WrongPlane, UnlikePlanes, WrongPatch, WrongSum}
+use Rattle.answer.specs.declared.Answer.the-variants.{Accepted, WrongLength, WrongByte, WrongBuckets, WrongTable, NotSound, Live, NotLive, Full, ShortOutput, WrongPlane, UnlikePlanes, WrongPatch, WrongSum, DeskPlanGiven}
 
 -- the number of the cause, 0 if there is none
 abbrev pub numberOf : Answer → ℕ
@@ -20,6 +20,7 @@ numberOf (WrongPlane i) = 10
 numberOf UnlikePlanes = 11
 numberOf (WrongPatch i) = 12
 numberOf WrongSum = 13
+numberOf DeskPlanGiven = 14
 
 -- document 01's "returned with it"
 abbrev pub valueOf : Answer → ℕ
@@ -37,3 +38,4 @@ valueOf (WrongPlane i) = i
 valueOf UnlikePlanes = 0
 valueOf (WrongPatch i) = i
 valueOf WrongSum = 0
+valueOf DeskPlanGiven = 0

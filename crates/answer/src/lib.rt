@@ -37,6 +37,8 @@ pub enum Answer {
     WrongPatch(u64),
     // Order 1: a sum does not fit.
     WrongSum,
+    // Order 3: plan 255 given.
+    DeskPlanGiven,
 }
 
 // The number of an answer: 0 if accepted, else that of the cause.
@@ -58,6 +60,7 @@ pub fn number(a: Answer) -> u64
         Answer::UnlikePlanes => 11,
         Answer::WrongPatch(_) => 12,
         Answer::WrongSum => 13,
+        Answer::DeskPlanGiven => 14,
     }
 }
 
@@ -80,5 +83,6 @@ pub fn value(a: Answer) -> u64
         Answer::UnlikePlanes => 0,
         Answer::WrongPatch(i) => i,
         Answer::WrongSum => 0,
+        Answer::DeskPlanGiven => 0,
     }
 }

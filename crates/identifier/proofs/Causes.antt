@@ -83,6 +83,10 @@ module _ (s : List ℕ) where
         accepted (p .0) (rw q (le-refl (length s))) ∙ ap Word (sym (p .2)),
   )
 
+-- turned down, or a word
+pub refused≢word : (a : Answer) (w : ℕ) → _≡_ {A = Read} (Refused a) (Word w) → ⊥
+refused≢word a w e = let z : _≡_ {A = ℕ} 0 1 = cc in omega arith
+
 -- ---- as the first causes of a call
 
 -- "of 0 or over 20 bytes"

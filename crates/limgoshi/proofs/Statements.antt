@@ -9,26 +9,32 @@ use mathlib.Core.Option.{none, some}
 use mathlib.Core.List.{List}
 use native.Mathlib.Omega.{arith}
 use lib.ListN.{length, getD, take}
-use Rattle.lists.specs.Entries.{planLimit, words, find}
+use borrow.Author.Tests.{ltb-true, ltb-false, le-ltb}
+use Rattle.lists.specs.Entries.{planLimit, deskPlan, assignable, words, find}
 use Rattle.lists.specs.Totals.{planCount}
 use Rattle.gf2.specs.Bound.{Largest}
 use Rattle.answer.specs.declared.Answer.{Answer}
-use Rattle.answer.specs.declared.Answer.the-variants.{Accepted, WrongLength, WrongByte, WrongBuckets, WrongTable, NotSound, Live, NotLive, Full, ShortOutput, WrongPlane, UnlikePlanes, WrongPatch, WrongSum}
+use Rattle.answer.specs.declared.Answer.the-variants.{Accepted, WrongLength, WrongByte, WrongBuckets, WrongTable, NotSound, Live, NotLive, Full, ShortOutput, WrongPlane, UnlikePlanes, WrongPatch, WrongSum, DeskPlanGiven}
 use Rattle.answer.specs.Numbers.{numberOf}
 use Rattle.answer.specs.Causes.{Exactly}
-use Rattle.identifier.specs.Identifier.{readOf}
+use Rattle.identifier.specs.Identifier.{wordOf, readOf}
+use Rattle.identifier.specs.Place.{secondOf}
 use Rattle.identifier.specs.declared.Read.the-variants.{Word}
 use Rattle.model.specs.Levels.{firstLevel, secondLevel, passed, due}
-use Rattle.model.specs.Model.{baseLimit, Call, add, query, wouldLeave, base}
-use Rattle.model.specs.Request.{Token, ask, wordFor}
+use Rattle.model.specs.Model.{baseLimit, Call, add, change, query, wouldLeave, base}
+use Rattle.model.specs.Request.{Token, wordFor, Request, ask}
 use Rattle.model.specs.Machine.{accepted, after, Alike}
 use Rattle.model.specs.History.{told}
 use Rattle.table.specs.Calls.{tableOf, shaped, FlatSound, openCall, queried, call, totalCall}
-use Rattle.table.specs.History.{PlanFits, Put, tables, Opened, acceptedCalls, LiveWith, flatState, Same}
+use Rattle.table.specs.History.{tables, Opened, acceptedCalls, LiveWith, flatState, Same}
 use Rattle.table.specs.Causes.{openCauses, openReturns, callCauses, callReturns, totalCauses, totalReturns}
 use Rattle.table.proofs.Statements as Table
-use Rattle.plane.specs.Lookup.{lookupCall}
+use Rattle.plane.specs.declared.Wrong.the-variants.{Nowhere}
+use Rattle.plane.specs.Record.{format1}
+use Rattle.plane.specs.Plane.{wrongAt, planeFrom}
+use Rattle.plane.specs.Lookup.{holds, lookupCall}
 use Rattle.plane.specs.Causes.{lookupCauses, lookupReturns}
+use Rattle.plane.proofs.Desk.{stranger-answer}
 use Rattle.plane_write.specs.Write.{putFront, writeCall, shownTo}
 use Rattle.plane_write.specs.Causes.{writeCauses, writeReturns}
 use Rattle.plane_write.proofs.Statements as Plane
@@ -42,8 +48,8 @@ use Rattle.patch_make.proofs.Lists.{list-follows, list-new, plane-tells}
 -- ---- statement 1: "Any bytes as identifier, table or plane are answered or turned down by a number of document 01's table, without fault", and any
 -- as patch; document 02's orders add their numbers. No entry has a `requires`, and every function is proved safe and ending
 
--- "by a number of document 01's table", or 11 to 13 of order 1
-pub numbers : (a : Answer) → numberOf a ≤ 13
+-- "by a number of document 01's table", 11 to 13 of order 1 or 14 of order 3
+pub numbers : (a : Answer) → numberOf a ≤ 14
 numbers (Accepted n) = omega arith
 numbers (WrongLength n) = omega arith
 numbers (WrongByte i) = omega arith
@@ -58,14 +64,15 @@ numbers (WrongPlane i) = omega arith
 numbers UnlikePlanes = omega arith
 numbers (WrongPatch i) = omega arith
 numbers WrongSum = omega arith
+numbers DeskPlanGiven = omega arith
 
 -- "each number given if and only if its cause is the first met", and what is returned with it: specs/Causes of the crates named list the causes
 -- of each entry in the document's words
 pub open-causes : (b1 b2 : ℕ) (t : List ℕ) → Exactly (openCauses b1 b2 t) openReturns (openCall b1 b2 t .answer)
 open-causes = Table.open-causes
 
--- the numbers of a table have 64 bits, as those of every `&[u64]`; a plan is a byte
-pub call-causes : (t : List ℕ) → ((i : ℕ) → getD t i 0 < 2 ^ 64) → (c : Call Token) → PlanFits c → Exactly (callCauses t c) (callReturns t c) (call t c .answer)
+-- the numbers of a table have 64 bits, as those of every `&[u64]`
+pub call-causes : (t : List ℕ) → ((i : ℕ) → getD t i 0 < 2 ^ 64) → (c : Call Token) → Exactly (callCauses t c) (callReturns t c) (call t c .answer)
 call-causes = Table.call-causes
 
 -- document 02, order 2: 4 exactly if the table's shape is wrong, else one number is read
@@ -102,7 +109,7 @@ apply-keeps p d out = apply-refused out p d
 
 -- ---- statement 2: t is what an accepted opening left, ps any calls since, refused ones included
 
-module _ (t : List ℕ) (o : Opened t) (ps : List Put) where
+module _ (t : List ℕ) (o : Opened t) (ps : List Request) where
   -- "every live identifier gives its word's last accepted plan, from the table" (`told`, `queried`: Accepted); "the table says not live of every
   -- other word"
   pub plan-from-table : (i : Token) (w : ℕ) → wordFor (query i) ≡ Word w → call (after tables t ps) (query i) ≡ queried (after tables t ps) (told w (acceptedCalls t ps))
@@ -121,17 +128,51 @@ module _ (t : List ℕ) (o : Opened t) (ps : List Put) where
 -- ---- head counts, document 02, order 2: "After any list the answer is the number of words then live with that plan" (`LiveWith`: they are listed, as
 -- the accepted calls tell them)
 
-pub head-count : (t : List ℕ) → Opened t → (ps : List Put) (p : ℕ) → p < planLimit → (k : ℕ) × (totalCall (after tables t ps) p ≡ Accepted k) × LiveWith p (acceptedCalls t ps) k
+pub head-count : (t : List ℕ) → Opened t → (ps : List Request) (p : ℕ) → p < planLimit → (k : ℕ) × (totalCall (after tables t ps) p ≡ Accepted k) × LiveWith p (acceptedCalls t ps) k
 head-count = Table.total-told
 
 -- any sound table, also one handed in from elsewhere: its live words are those of its occupied rows and base entries
 pub head-count-sound : (t : List ℕ) → shaped t ≡ true → FlatSound t → (p : ℕ) → p < planLimit → totalCall t p ≡ Accepted (planCount p (flatState t .live))
 head-count-sound = Table.total-exact
 
+-- ---- strangers, document 02, order 3: plan 255 means "call the desk" (`deskPlan`; `assignable`: below it)
+
+-- "An add or change to plan 255 is refused": with 14, exactly if the bytes are an identifier and the plan, which is a byte, is 255, whatever the table
+pub plan-14 : (t : List ℕ) (i : Token) (p : ℕ) → p < planLimit
+    → ((numberOf (call t (add i p) .answer) ≡ 14) ↔ ((readOf i ≡ Word (wordOf i)) × (p ≡ 255)))
+    × ((numberOf (call t (change i p) .answer) ≡ 14) ↔ ((readOf i ≡ Word (wordOf i)) × (p ≡ 255)))
+plan-14 t i p l =
+    let to : assignable p ≡ false → p ≡ 255 = (λ e. let k = ltb-false p deskPlan e in omega arith) in
+    let from : p ≡ 255 → assignable p ≡ false = (λ e. le-ltb p deskPlan (omega arith)) in
+    let a = Table.cause-14 t (add i p) in
+    let c = Table.cause-14 t (change i p) in (
+      (λ e. let q = a .0 e in (q .0, to (q .1)), λ q. a .1 (q .0, from (q .1))),
+      (λ e. let q = c .0 e in (q .0, to (q .1)), λ q. c .1 (q .0, from (q .1))),
+    )
+
+-- "no live word": after any list the plan of a live word is below 255
+pub live-not-255 : (t : List ℕ) → Opened t → (ps : List Request) (v p : ℕ) → v < 2 ^ 64 → told v (acceptedCalls t ps) ≡ some p → p < 255
+live-not-255 t o ps v p l e = ltb-true p deskPlan (Table.plan-given t o ps v p l e)
+
+-- so no live identifier gets 255 from the plane that is written
+pub plane-not-255 : (t : List ℕ) → Opened t → (ps : List Request) (out : List ℕ) (n : ℕ) → writeCall (after tables t ps) out .answer ≡ Accepted n
+    → (id : List ℕ) (w p : ℕ) → readOf id ≡ Word w → told w (acceptedCalls t ps) ≡ some p → lookupCall id (take n (writeCall (after tables t ps) out .output)) ≡ Accepted 255 → ⊥
+plane-not-255 = Plane.plane-live-given
+
+-- the same of any sound table, also one handed in from elsewhere; so the total of 255, which may be asked, is 0
+pub sound-not-255 : (t : List ℕ) → shaped t ≡ true → FlatSound t → ((w p : ℕ) → find w (flatState t .live) ≡ some p → p < 255) × (totalCall t 255 ≡ Accepted 0)
+sound-not-255 t k h = (λ w p e. ltb-true p deskPlan (Table.live-given t k h w p e), Table.desk-total t k h)
+
+-- "for a word due to the base list and absent" the lookup in any plane that is right answers 255
+pub stranger-255 : (id p : List ℕ) (w : ℕ) → wrongAt format1 p ≡ Nowhere → readOf id ≡ Word w
+    → holds (planeFrom format1 p .level1) w ≡ false → holds (planeFrom format1 p .level2) (secondOf w) ≡ false → find (secondOf w) (planeFrom format1 p .base) ≡ none
+    → lookupCall id p ≡ Accepted 255
+stranger-255 = stranger-answer
+
 -- ---- patches, document 02, order 1: a post that has the plane after the calls ps and applies the patch to the plane after the calls qs, of the same
 -- opening (qs may begin with ps), has that plane and answers by it
 
-module _ (t : List ℕ) (o : Opened t) (ps qs : List Put) (out : List ℕ) (n : ℕ) (made : makeCall (planeAfter t ps) (planeAfter t qs) out .answer ≡ Accepted n) (into : List ℕ) where
+module _ (t : List ℕ) (o : Opened t) (ps qs : List Request) (out : List ℕ) (n : ℕ) (made : makeCall (planeAfter t ps) (planeAfter t qs) out .answer ≡ Accepted n) (into : List ℕ) where
   -- applying what was made meets no cause but 9, and gives the new plane byte for byte
   pub post-follows : applyCall (planeAfter t ps) (take n (makeCall (planeAfter t ps) (planeAfter t qs) out .output)) into ≡ putFront (planeAfter t qs) into
   post-follows = list-follows t o ps qs out n made into
@@ -146,12 +187,12 @@ module _ (t : List ℕ) (o : Opened t) (ps qs : List Put) (out : List ℕ) (n : 
 
 -- "Two tables reached by any lists of calls and equal in bucket numbers, live words, plans and bounds answer every further list of calls alike and
 -- stay equal"
-pub lists-alike : (t u : List ℕ) → Opened t → Opened u → (ps qs : List Put) → Same (after tables t ps) (after tables u qs)
-    → (cs : List Put) → Alike tables Same (after tables t ps) (after tables u qs) cs
+pub lists-alike : (t u : List ℕ) → Opened t → Opened u → (ps qs : List Request) → Same (after tables t ps) (after tables u qs)
+    → (cs : List Request) → Alike tables Same (after tables t ps) (after tables u qs) cs
 lists-alike = Table.statement-3
 
 -- such tables have equal totals too
-pub totals-alike : (t u : List ℕ) → Opened t → Opened u → (ps qs : List Put) → Same (after tables t ps) (after tables u qs)
+pub totals-alike : (t u : List ℕ) → Opened t → Opened u → (ps qs : List Request) → Same (after tables t ps) (after tables u qs)
     → (p : ℕ) → p < planLimit → totalCall (after tables t ps) p ≡ totalCall (after tables u qs) p
 totals-alike t u o r ps qs e =
     let a = Table.always-sound t o ps in
@@ -159,14 +200,14 @@ totals-alike t u o r ps qs e =
     Table.same-totals (after tables t ps) (after tables u qs) (a .0) (a .2) (b .0) (b .2) e .1
 
 -- any sound table, also one handed in from elsewhere; a list of calls leaves one
-module _ (t : List ℕ) (k : shaped t ≡ true) (h : FlatSound t) (i : Token) (p : ℕ) (l : p < planLimit) where
+module _ (t : List ℕ) (k : shaped t ≡ true) (h : FlatSound t) (i : Token) (p : ℕ) where
   -- "After every accepted add each bucket's bound is the largest number not above its old one below which no non-empty selection of words due there
   -- XORs to zero, first level"
   pub bounds-first : accepted (call t (add i p) .answer) ≡ true → (j : ℕ) → j < flatState t .size .buckets1
       → Largest (getD (flatState t .bounds1) j 0)
       (due firstLevel (flatState t .size .buckets1) (words (flatState (call t (add i p) .table) .live)) j)
       (getD (flatState (call t (add i p) .table) .bounds1) j 0)
-  bounds-first = Table.bounds-first t k h i p l
+  bounds-first = Table.bounds-first t k h i p
 
   -- "before second", where the words are due that the first does not hold now
   pub bounds-second : accepted (call t (add i p) .answer) ≡ true → (j : ℕ) → j < flatState t .size .buckets2
@@ -174,9 +215,9 @@ module _ (t : List ℕ) (k : shaped t ≡ true) (h : FlatSound t) (i : Token) (p
       (due secondLevel (flatState t .size .buckets2)
       (passed firstLevel (flatState t .size .buckets1) (flatState (call t (add i p) .table) .bounds1) (words (flatState (call t (add i p) .table) .live))) j)
       (getD (flatState (call t (add i p) .table) .bounds2) j 0)
-  bounds-second = Table.bounds-second t k h i p l
+  bounds-second = Table.bounds-second t k h i p
 
   -- "An add with no earlier cause is refused as full exactly when, under those bounds, more than 64 words would fall to the base list"
   pub full-exactly : (w : ℕ) → wordFor (add i p) ≡ Word w → find w (flatState t .live) ≡ none
       → (call t (add i p) .answer ≡ Full) ↔ (baseLimit < length (base firstLevel secondLevel (wouldLeave firstLevel secondLevel (flatState t) (record { word = w; plan = p }))))
-  full-exactly = Table.full-exactly t k h i p l
+  full-exactly = Table.full-exactly t k h i p

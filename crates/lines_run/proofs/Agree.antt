@@ -4,62 +4,25 @@ use mathlib.Core.Path.{_≡_, refl, ap, ap₂}
 use mathlib.Core.Bool.{true, false}
 use mathlib.Core.List.{List, [], _∷_, _++_}
 use mathlib.Core.Option.{Option, none, some}
-use Prim.Native.Nat.{ℕ, suc, _≤_}
-use native.Mathlib.Omega.{arith}
+use Prim.Native.Nat.{ℕ, suc}
 use lib.Dec.{leb}
 use lib.ListN.{length, replicate, length-replicate}
 use borrow.Author.Tests.{eq-eqb}
-use Rattle.lists.proofs.Tests.{by-test, cases}
-use Rattle.codec.specs.Bytes.{eqList}
+use Rattle.lists.proofs.Tests.{cases}
 use Rattle.answer.specs.declared.Answer.the-variants.{Accepted, WrongBuckets}
-use Rattle.model.specs.Model.{State, Call, add, change}
+use Rattle.model.specs.Model.{State, Call}
 use Rattle.model.specs.Request as R
 use Rattle.model.specs.Machine.{accepted}
 use Rattle.table.specs.Table.{openTable}
 use Rattle.table.specs.Layout.{inRange, lengthOf, numbersOf}
 use Rattle.table.specs.Calls.{rows, solutions, openCall}
-use Rattle.table.specs.History.{PlanFits, Put, flatState}
+use Rattle.table.specs.History.{flatState}
 use Rattle.table.proofs.Calls.{FlatStands}
 use Rattle.table.proofs.Statements.{refines, opening-stands, stands-sound, sound-stands}
-use Rattle.lines_text.specs.declared.Number.{Number}
-use Rattle.lines_text.specs.declared.Number.the-variants.{Of, Wrong}
-use Rattle.lines_text.specs.Decimal.{numberTo}
-use Rattle.lines_text.specs.Line.{lf, parted, Command, opening, ask, bad, openWord, addWord, setWord, delWord, getWord, mostBuckets, mostPlan, openWith, planned, ofTwo, ofThree, ofFields, commandOf}
-use Rattle.lines_text.specs.Parsed.{AtMost}
+use Rattle.lines_text.specs.Line.{lf, parted, Command, opening, ask, bad, commandOf}
 use Rattle.lines_text.specs.Printed.{printed}
-use Rattle.lines_text.proofs.Decimal.{number-most}
 use Rattle.lines_run.specs.Buffer.{AllReady}
 use Rattle.lines_run.specs.Run.{counted, lineLimit, Turn, obey, turn, outputFrom, outputOf, tables, output, states}
-
--- ---- the plan of a command is a byte
-
-abbrev pub CommandFits : Command → Type 0
-CommandFits (opening b1 b2) = Unit {0}
-CommandFits (ask c) = PlanFits c
-CommandFits bad = Unit {0}
-
-open-fits : (x y : Number) → CommandFits (openWith x y)
-open-fits (Of b1) (Of b2) = tt
-open-fits (Of b1) Wrong = tt
-open-fits Wrong y = tt
-
-plan-fits : (c : ℕ → Call R.Token) → ((p : ℕ) → p ≤ mostPlan → PlanFits (c p)) → (x : Number) → AtMost mostPlan x → CommandFits (planned c x)
-plan-fits c f (Of p) h = f p h
-plan-fits c f Wrong h = tt
-
-fields-fit : (fs : List (List ℕ)) → CommandFits (ofFields fs)
-unfolding ofTwo ofThree
-fields-fit [] = tt
-fields-fit (w ∷ []) = tt
-fields-fit (w ∷ x ∷ []) = by-test CommandFits (eqList w delWord) (λ t. tt) (λ f. by-test CommandFits (eqList w getWord) (λ t. tt) (λ f. tt))
-fields-fit (w ∷ x ∷ y ∷ []) =
-    by-test CommandFits (eqList w openWord) (λ t. open-fits (numberTo mostBuckets x) (numberTo mostBuckets y))
-    (λ f. by-test CommandFits (eqList w addWord) (λ t. plan-fits (add x) (λ p h. omega arith) (numberTo mostPlan y) (number-most mostPlan y))
-    (λ f. by-test CommandFits (eqList w setWord) (λ t. plan-fits (change x) (λ p h. omega arith) (numberTo mostPlan y) (number-most mostPlan y)) (λ f. tt)))
-fields-fit (w ∷ x ∷ y ∷ z ∷ fs) = tt
-
-pub command-fits : (s : List ℕ) → CommandFits (commandOf s)
-command-fits s = fields-fit (parted _ s)
 
 -- ---- an opening
 
@@ -88,27 +51,25 @@ BothStand (some t) (some s) = FlatStands t s
 abbrev pub SameTurn : Turn (List ℕ) → Turn State → Type 0
 SameTurn x y = (x .output ≡ y .output) × BothStand (x .state) (y .state)
 
-ask-same : (m : Option (List ℕ)) (k : Option State) → BothStand m k → (c : Call R.Token) → PlanFits c → SameTurn (obey tables m (ask c)) (obey states k (ask c))
-ask-same none none h c f = (refl, tt)
-ask-same none (some s) h c f = absurd h
-ask-same (some t) none h c f = absurd h
-ask-same (some t) (some s) h c f =
-    let p : Put = record { request = R.ask c; fits = f } in
-    (ap printed (refines .says t s p h), refines .goes t s p h)
+ask-same : (m : Option (List ℕ)) (k : Option State) → BothStand m k → (c : Call R.Token) → SameTurn (obey tables m (ask c)) (obey states k (ask c))
+ask-same none none h c = (refl, tt)
+ask-same none (some s) h c = absurd h
+ask-same (some t) none h c = absurd h
+ask-same (some t) (some s) h c = (ap printed (refines .says t s (R.ask c) h), refines .goes t s (R.ask c) h)
 
-pub obey-same : (m : Option (List ℕ)) (k : Option State) → BothStand m k → (c : Command) → CommandFits c → SameTurn (obey tables m c) (obey states k c)
-obey-same m k h (opening b1 b2) f =
+pub obey-same : (m : Option (List ℕ)) (k : Option State) → BothStand m k → (c : Command) → SameTurn (obey tables m c) (obey states k c)
+obey-same m k h (opening b1 b2) =
     cases (inRange b1 b2)
     (λ r. rw (open-is b1 b2 .0 r, r)
     (refl, opening-stands (numbersOf (openTable rows solutions b1 b2)) (record { size = record { buckets1 = b1; buckets2 = b2 }; before = zeros b1 b2; accepted = open-is b1 b2 .0 r })))
     (λ r. rw (open-is b1 b2 .1 r, r) (refl, h))
-obey-same m k h (ask c) f = ask-same m k h c f
-obey-same m k h bad f = (refl, h)
+obey-same m k h (ask c) = ask-same m k h c
+obey-same m k h bad = (refl, h)
 
 turn-same : (m : Option (List ℕ)) (k : Option State) → BothStand m k → (s : List ℕ) → SameTurn (turn tables m s) (turn states k s)
 turn-same m k h s =
     cases (leb (suc (length s)) lineLimit)
-    (λ e. rw e (obey-same m k h (commandOf s) (command-fits s)))
+    (λ e. rw e (obey-same m k h (commandOf s)))
     (λ e. rw e (refl, h))
 
 from-same : (m : Option (List ℕ)) (k : Option State) → BothStand m k → (ps : List (List ℕ)) → outputFrom tables m ps ≡ outputFrom states k ps

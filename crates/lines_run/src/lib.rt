@@ -6,17 +6,17 @@
 // Cites lines_text (a line and what is printed for it), codec, answer, identifier, table_layout, table_open, table_calls and table_add. lines is the program over
 // it, and run_probe has an entry to it.
 use answer::Answer;
-use identifier::Identifier;
 use identifier::Read;
 use lines_text::Parsed;
 use lines_text::Verb;
 use table_layout::Table;
 ghost use mathlib.Core.Path.{_≡_};
 ghost use Prim.Native.Nat.{_*_, _^_, _≤_, _<_};
+ghost use mathlib.Core.Bool.{true};
 ghost use mathlib.Core.List.{[]};
 ghost use mathlib.Core.Option.{none};
 ghost use lib.ListN.{length};
-ghost use Rattle.lists.specs.Entries.{planLimit};
+ghost use Rattle.model.specs.Request.{planAllowed};
 ghost use Rattle.table.specs.Calls.{served, call};
 ghost use Rattle.table_calls.specs.Ready.{Ready};
 ghost use Rattle.lines_text.specs.Line.{lf, parted, opening, ask};
@@ -34,9 +34,21 @@ pub(crate) const LINE_LIMIT: usize = 64;
 // The longest output: the longest line that is printed for each byte of an input.
 pub const MOST_OUTPUT: usize = lines_text::MOST_PRINTED * INPUT_LIMIT;
 
+// The plan that a call gives, if it gives one, may be given.
+pub(crate) fn plan_allowed(verb: Verb, plan: u64) -> bool
+    ensures { λ r. ⌜ r ≡ planAllowed (callOf verb [] plan) ⌝ }
+{
+    match verb {
+        Verb::Add => table_layout::assignable(plan),
+        Verb::Set => table_layout::assignable(plan),
+        Verb::Del => true,
+        Verb::Get => true,
+    }
+}
+
 // A call put to a sound table by its word.
 pub(crate) fn serve(t: &mut [u64], w: u64, verb: Verb, plan: u64) -> Answer
-    requires { ⌜ Ready (now t) × (plan < planLimit) ⌝ }
+    requires { ⌜ Ready (now t) × (planAllowed (callOf verb [] plan) ≡ true) ⌝ }
     ensures { λ r. ⌜ (r ≡ served (now (t .entry)) w (callOf verb [] plan) .answer) × (now (t .exit) ≡ served (now (t .entry)) w (callOf verb [] plan) .table) ⌝ }
 {
     match verb {
@@ -49,11 +61,11 @@ pub(crate) fn serve(t: &mut [u64], w: u64, verb: Verb, plan: u64) -> Answer
 
 // A call put to a sound table.
 pub(crate) fn ask(t: &mut [u64], id: &[u8], verb: Verb, plan: u64) -> Answer
-    requires { ⌜ Ready (now t) × (plan < planLimit) ⌝ }
+    requires { ⌜ Ready (now t) ⌝ }
     ensures { λ r. ⌜ (r ≡ call (now (t .entry)) (callOf verb (now (id .entry)) plan) .answer) × (now (t .exit) ≡ call (now (t .entry)) (callOf verb (now (id .entry)) plan) .table) ⌝ }
 {
-    let read = Identifier::read(id);
-    match read {
+    let word = table_calls::word_for(id, plan_allowed(verb, plan));
+    match word {
         Read::Word(w) => serve(t, w, verb, plan),
         Read::Refused(a) => a,
     }
@@ -101,7 +113,7 @@ pub(crate) fn ask_line(
     out: &mut [u8],
     at: usize,
 ) -> Progress
-    requires { ⌜ Holds held (now t) × (at < 2 ^ 31) × (plan < planLimit) ⌝ }
+    requires { ⌜ Holds held (now t) × (at < 2 ^ 31) ⌝ }
     ensures { λ r. ⌜ Did (obey tables (heldIn held (now (t .entry))) (ask (callOf verb (now (id .entry)) plan))) at (now (out .entry)) r (now (t .exit)) (now (out .exit)) ⌝ }
 {
     if held == 0 {

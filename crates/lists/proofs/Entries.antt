@@ -12,12 +12,16 @@ use lib.Dec.{eqb, ltb}
 use lib.ListN.{length, length-map}
 use borrow.Author.Tests.{eqb-true, eqb-false, eq-eqb, ne-eqb, ltb-true, ltb-false}
 use Rattle.lists.specs.Lists.{keep}
-use Rattle.lists.specs.Entries.{Entry, find, insert, update, remove, Above, Ascending}
+use Rattle.lists.specs.Entries.{Entry, planLimit, deskPlan, assignable, find, insert, update, remove, Above, Ascending}
 use Rattle.lists.proofs.Tests.{by-test, cases, cond-true, cond-false}
 use Rattle.lists.proofs.Keep.{keep-within, perm-length}
 
 pub none≢some : {a : ℕ} → _≡_ {A = Option ℕ} none (some a) → ⊥
 none≢some e = let z : _≡_ {A = ℕ} 0 1 = cc in omega arith
+
+-- a plan that may be given is a byte
+pub assignable-byte : (p : ℕ) → assignable p ≡ true → p < planLimit
+assignable-byte p a = let l : p < deskPlan = ltb-true p deskPlan a in omega arith
 
 -- ---- what is found
 

@@ -5,7 +5,7 @@ use native.Mathlib.Nat.{not-suc-le-zero, le-of-suc-le-suc}
 use native.Mathlib.Omega.{arith}
 use mathlib.Core.Path.{_≡_, refl, sym, ap, ap₂, _∙_}
 use mathlib.Core.Option.{some}
-use mathlib.Core.List.{List, [], _∷_, _++_, map, List·Permᴰ, List·Memᴰ, List·Memᴰ·head, List·Memᴰ·tail}
+use mathlib.Core.List.{List, [], _∷_, _++_, map, List·Permᴰ, List·Memᴰ, List·Memᴰ·head, List·Memᴰ·tail, List·Memᴰ·not-nil}
 use lib.Dec.{eqb}
 use lib.ListN.{length, getD, replicate, length-append}
 use borrow.Author.Tests.{eq-eqb, ne-eqb}
@@ -13,7 +13,7 @@ use Rattle.lists.specs.Lists.{keep, tabulate}
 use Rattle.lists.specs.Entries.{Entry, find, insert, update, remove}
 use Rattle.lists.specs.Totals.{planCount, totalsOf, oneMore, oneLess, sumOf}
 use Rattle.lists.proofs.Tests.{cases, cond-true, cond-false}
-use Rattle.lists.proofs.Keep.{keep-perm, keep-within, length-sub, perm-length, tabulate-at, tabulate-ext, tabulate-length}
+use Rattle.lists.proofs.Keep.{keep-perm, keep-within, keep-in, length-sub, perm-length, tabulate-at, tabulate-ext, tabulate-length}
 use Rattle.lists.proofs.Entries.{insert-perm, remove-perm, update-perm}
 
 -- ---- one plan
@@ -35,6 +35,18 @@ count-append p (e ∷ es) fs = let h = count-append p es fs in cases (eqb (e .pl
 pub count-map : (f : Entry → Entry) → ((e : Entry) → f e .plan ≡ e .plan) → (p : ℕ) (es : List Entry) → planCount p (map f es) ≡ planCount p es
 count-map f h p [] = refl
 count-map f h p (e ∷ es) = let g = count-map f h p es in rw (h e) (cases (eqb (e .plan) p) (λ t. rw t (ap suc g)) (λ q. rw q g))
+
+-- a plan is counted 0 times exactly if no entry has it
+pub count-none : (p : ℕ) (es : List Entry) → ((e : Entry) → List·Memᴰ e es → e .plan ≡ p → ⊥) → planCount p es ≡ 0
+count-none p [] h = refl
+count-none p (e ∷ es) h = count-past p e es (λ q. h e (List·Memᴰ·head refl) (sym q)) ∙ count-none p es (λ x m. h x (List·Memᴰ·tail m))
+
+pub none-counted : (p : ℕ) (es : List Entry) → planCount p es ≡ 0 → (e : Entry) → List·Memᴰ e es → e .plan ≡ p → ⊥
+none-counted p es c e m q = go (keep (λ x. eqb (x .plan) p) es) c (keep-in (λ x. eqb (x .plan) p) es m (eq-eqb (e .plan) p q))
+  where
+    go : (xs : List Entry) → length xs ≡ 0 → List·Memᴰ e xs → ⊥
+    go [] l k = List·Memᴰ·not-nil k
+    go (x ∷ xs) l k = omega arith
 
 pub count-le : (p : ℕ) (es : List Entry) → planCount p es ≤ length es
 count-le p es = length-sub (keep-within (λ e. eqb (e .plan) p) es)

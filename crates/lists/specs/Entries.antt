@@ -2,7 +2,7 @@
 -- Assumes nothing.
 use Prim.Native.Nat.{ℕ, _<_}
 use mathlib.Core.Path.{_≡_}
-use mathlib.Core.Bool.{cond}
+use mathlib.Core.Bool.{Bool, cond}
 use mathlib.Core.List.{List, [], _∷_, map}
 use mathlib.Core.Option.{Option, none, some}
 use lib.Dec.{eqb, ltb}
@@ -15,6 +15,14 @@ pub record Entry : Type 0 where
 -- a plan is below this: a byte, 0 to 255
 abbrev pub planLimit : ℕ
 planLimit = 256
+
+-- document 02, order 3: the plan that means "call the desk". A post answers it for a word that is nowhere
+abbrev pub deskPlan : ℕ
+deskPlan = 255
+
+-- a plan that a word may be given: 0 to 254
+abbrev pub assignable : ℕ → Bool
+assignable p = ltb p deskPlan
 
 -- the words of the entries
 abbrev pub words : List Entry → List ℕ

@@ -1,9 +1,9 @@
--- Calls with any bytes as identifier: each is turned down by cause 1 or 2 and changes nothing, or is the step by its word. Causes 4 and
--- 5 are never given, and the size stays. Assumes nothing.
+-- Calls with any bytes as identifier: each is turned down by cause 1, 2 or 14 and changes nothing, or is the step by its word. Causes 4
+-- and 5 are never given, and the size stays. Assumes nothing.
 use Prim.Native.Nat.{ℕ, _^_, _<_}
 use native.Mathlib.Omega.{arith}
 use mathlib.Core.Path.{_≡_, refl, sym, ap, _∙_, subst, subst⁻¹}
-use mathlib.Core.Bool.{false, not}
+use mathlib.Core.Bool.{true, false, not}
 use mathlib.Core.Logic.{inl, inr, ⊎-elim}
 use lib.Dec.{ltb}
 use lib.ListN.{length}
@@ -16,27 +16,37 @@ use Rattle.identifier.specs.declared.Read.the-variants.{Word, Refused}
 use Rattle.identifier.proofs.Words.{word-lt}
 use Rattle.model.specs.Levels.{firstLevel, secondLevel}
 use Rattle.model.specs.Model.{State, Call, Outcome, step}
-use Rattle.model.specs.Request.{Token, subject, wordFor, askOf, byWord, serveRead, serve, Request, ask, respond, callsOf}
+use Rattle.model.specs.Request.{Token, subject, planAllowed, withPlan, wordFor, askOf, byWord, serveRead, serve, Request, ask, respond, callsOf}
 use Rattle.model.specs.Machine.{accepted}
 use Rattle.model.specs.History.{model}
 use Rattle.model.proofs.Steps.{refused-keeps, Follows, by-step}
 use Rattle.model.proofs.Valid.{Valid}
 use Rattle.model.proofs.Calls.{Done, done-one, valid-one, StandsFor}
 
--- a call is for the word of its identifier, or it is refused with cause 1 or 2
+-- not the number of cause 4, nor that of 5
+abbrev pub Never45 : ℕ → Type 0
+Never45 n = (n ≡ 4 → ⊥) × (n ≡ 5 → ⊥)
+
+-- a call is for the word of its identifier, and its plan is allowed, or it is refused with a cause that is none of the table's
 abbrev pub Reads : Call Token → Read → Type 0
-Reads c (Word w) = w ≡ wordOf (subject c)
-Reads c (Refused a) = (0 < numberOf a) × (numberOf a < 3)
+Reads c (Word w) = (w ≡ wordOf (subject c)) × (planAllowed c ≡ true)
+Reads c (Refused a) = (0 < numberOf a) × Never45 (numberOf a)
 
 pub reads : (c : Call Token) → Reads c (wordFor c)
 unfolding readOf
 reads c =
     let i : Token = subject c in
-    by-test (Reads c) (not (sized (length i))) (λ t. omega arith) (λ t. by-test (Reads c) (ltb (firstRefused i) (length i)) (λ u. omega arith) (λ u. refl))
+    let P : Read → Type 0 = (λ r. Reads c (withPlan (planAllowed c) r)) in
+    by-test P (not (sized (length i))) (λ t. omega arith)
+    (λ t. by-test P (ltb (firstRefused i) (length i)) (λ u. omega arith) (λ u. by-test (Reads c) (planAllowed c) (λ a. (refl, a)) (λ a. omega arith)))
 
 -- so the word is the identifier's, and has 64 bits
 pub word-for : (c : Call Token) (w : ℕ) → wordFor c ≡ Word w → w ≡ wordOf (subject c)
-word-for c w e = subst (Reads c) e (reads c)
+word-for c w e = subst (Reads c) e (reads c) .0
+
+-- and the plan may be given
+pub word-plan : (c : Call Token) (w : ℕ) → wordFor c ≡ Word w → planAllowed c ≡ true
+word-plan c w e = subst (Reads c) e (reads c) .1
 
 pub word-small : (c : Call Token) (w : ℕ) → wordFor c ≡ Word w → w < 2 ^ 64
 word-small c w e = subst⁻¹ (λ (v : ℕ). v < 2 ^ 64) (word-for c w e) (word-lt (subject c))
@@ -46,7 +56,7 @@ serve-each s c = go (wordFor c) (reads c)
   where
     go : (r : Read) → Reads c r → Follows firstLevel secondLevel s (byWord c) (serveRead s c r)
     go (Refused a) h = inl (ne-eqb (numberOf a) 0 (omega arith), refl)
-    go (Word w) h = inr (ap (λ (v : ℕ). step firstLevel secondLevel s (askOf v c)) h)
+    go (Word w) h = inr (ap (λ (v : ℕ). step firstLevel secondLevel s (askOf v c)) (h .0))
 
 -- a request stands for its calls
 pub stands-for : StandsFor firstLevel secondLevel model callsOf
@@ -67,14 +77,11 @@ respond-keeps s (ask c) r =
 
 -- ---- causes 4 and 5
 
-abbrev pub Never45 : ℕ → Type 0
-Never45 n = (n ≡ 4 → ⊥) × (n ≡ 5 → ⊥)
-
 pub respond-never : (s : State) (q : Request) → Never45 (numberOf (respond s q .answer))
 respond-never s (ask c) = go (wordFor c) (reads c)
   where
     go : (r : Read) → Reads c r → Never45 (numberOf (serveRead s c r .answer))
-    go (Refused a) h = omega arith
+    go (Refused a) h = h .1
     go (Word w) h =
         by-step firstLevel secondLevel s (λ c o. Never45 (numberOf (o .answer))) (λ c a r k. omega arith) (λ e a. omega arith) (λ e q f. omega arith) (λ w q f. omega arith)
         (λ w q. omega arith) (askOf w c)

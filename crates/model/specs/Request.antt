@@ -1,7 +1,10 @@
 -- Calls as they are put, with any bytes as identifier, at document 01's two levels.
 -- Assumes nothing.
 use Prim.Native.Nat.{ℕ}
+use mathlib.Core.Bool.{Bool, true, cond}
 use mathlib.Core.List.{List, [], _∷_}
+use Rattle.lists.specs.Entries.{assignable}
+use Rattle.answer.specs.declared.Answer.the-variants.{DeskPlanGiven}
 use Rattle.identifier.specs.Identifier.{wordOf, readOf}
 use Rattle.identifier.specs.declared.Read.{Read}
 use Rattle.identifier.specs.declared.Read.the-variants.{Word, Refused}
@@ -26,15 +29,27 @@ askOf j (change i p) = change j p
 askOf j (withdraw i) = withdraw j
 askOf j (query i) = query j
 
+-- the plan that a call gives, if it gives one, may be given
+abbrev pub planAllowed : {I : Type 0} → Call I → Bool
+planAllowed (add i p) = assignable p
+planAllowed (change i p) = assignable p
+planAllowed (withdraw i) = true
+planAllowed (query i) = true
+
+-- by what the identifier is read as: the word, where the plan is allowed, else cause 14 (document 02, order 3: "after cause 2")
+abbrev pub withPlan : Bool → Read → Read
+withPlan allowed (Refused a) = Refused a
+withPlan allowed (Word w) = cond allowed (Word w) (Refused DeskPlanGiven)
+
 -- what a call is for: the word of its identifier, or the cause that is met before the table is looked at
 abbrev pub wordFor : Call Token → Read
-wordFor c = readOf (subject c)
+wordFor c = withPlan (planAllowed c) (readOf (subject c))
 
 -- the call by the word of its identifier
 abbrev pub byWord : Call Token → Call ℕ
 byWord c = askOf (wordOf (subject c)) c
 
--- by what it is for: a call of bytes that are no identifier is turned down (causes 1 and 2), else the word is taken
+-- by what it is for: turned down (causes 1, 2, 14), or the word is taken
 abbrev pub serveRead : State → Call Token → Read → Outcome
 serveRead s c (Refused a) = record { answer = a; after = s }
 serveRead s c (Word w) = step firstLevel secondLevel s (askOf w c)

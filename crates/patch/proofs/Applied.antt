@@ -5,7 +5,6 @@ use native.Mathlib.Omega.{arith}
 use mathlib.Core.Path.{_≡_, refl, _∙_}
 use mathlib.Core.Bool.{true, not}
 use mathlib.Core.List.{List, [], _∷_}
-use lib.Dec.{leb}
 use lib.ListN.{length, set, length-append, length-drop, length-set, take-append-drop}
 use lib.Seq.{length-take-le}
 use borrow.Author.Tests.{leb-true}
@@ -13,7 +12,7 @@ use Rattle.lists.specs.Entries.{Entry}
 use Rattle.model.specs.Model.{baseLimit}
 use Rattle.lists.specs.Lists.{Every}
 use Rattle.plane.specs.Record.{Format, PlaneBucket}
-use Rattle.plane.specs.Plane.{Plane, allAllowed}
+use Rattle.plane.specs.Plane.{Plane, allAllowed, entryAllowed}
 use Rattle.plane.specs.Fits.{FitsBucket, FitsEntry, Fits}
 use Rattle.plane.proofs.Scan.{both}
 use Rattle.patch.specs.Base.{among, removeAll, enter, enterAll}
@@ -41,7 +40,7 @@ news-few : (gone : List ℕ) (es : List Entry) (s : Filled) → length (s .base)
 news-few gone [] s h a = h
 news-few gone (e ∷ es) s h a =
     let c = both (newAllowed gone s e) _ a in
-    let d = both (not (among (e .word) gone)) _ (both (leb (s .least) (e .word)) _ (c .0) .1) in
+    let d = both (not (among (e .word) gone)) _ (both (entryAllowed (s .least) e) _ (c .0) .1) in
     news-few gone es (filled s e) (leb-true (length (enter e (s .base))) baseLimit (d .1)) (c .1)
 
 module _ (P : Plane) (D : Patch) where

@@ -13,7 +13,7 @@ use Rattle.lists.proofs.Tests.{and-both}
 use Rattle.codec.specs.Bytes.{toBytes}
 use Rattle.plane.specs.declared.Wrong.the-variants.{Nowhere}
 use Rattle.plane.specs.Record.{Format, bytesOf, wordBytes, wordFrom, bucketLength, bucketBytes, bucketFrom, entryFrom, endRecord}
-use Rattle.plane.specs.Plane.{Plane, fits, whole, endWrong}
+use Rattle.plane.specs.Plane.{Plane, fits, whole, entryAllowed, endWrong}
 use Rattle.plane.specs.Fits.{Below, FitsEntry}
 use Rattle.plane.proofs.Scan.{both, right, next, whole-length, end-parts}
 use Rattle.plane.proofs.Exact.{AllBytes, bytes-drop, front, word-bytes, word-lt, bucket-body, bucket-fit, entry-body, entry-fit, fits-there, fits-allowed, fits-bytes, scan-allowed, scan-bytes, scan-fit, end-bytes}
@@ -60,7 +60,8 @@ module _ (gone : List ℕ) (s : Filled) (p : List ℕ) (e : fits newRecords (new
   new-bytes = fits-bytes newRecords (newAllowed gone) s p e (entry-body p (fits-there newRecords (newAllowed gone) s p e) b)
 
   new-fit : FitsEntry (entryFrom p)
-  new-fit = entry-fit p (fits-there newRecords (newAllowed gone) s p e) b
+  new-fit =
+      entry-fit p (fits-there newRecords (newAllowed gone) s p e) b (s .least) (both (entryAllowed (s .least) (entryFrom p)) _ (fits-allowed newRecords (newAllowed gone) s p e) .0)
 
 -- ---- the patch
 

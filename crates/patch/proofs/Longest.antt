@@ -72,7 +72,7 @@ news-rising : (gone : List ℕ) (s : Filled) (es : List Entry) → allAllowed (n
 news-rising gone s [] a = refl
 news-rising gone s (e ∷ es) a =
     let k = both (newAllowed gone s e) (allAllowed (newAllowed gone) filled (filled s e) es) a in
-    rw (both (leb (s .least) (e .word)) _ (k .0) .0) (news-rising gone (filled s e) es (k .1))
+    rw (both (entryAllowed (s .least) e) _ (k .0) .0) (news-rising gone (filled s e) es (k .1))
 
 -- each is in the new base list
 news-few : (gone : List ℕ) (s : Filled) (es : List Entry) → Ascending (s .base) → allAllowed (newAllowed gone) filled s es ≡ true → length es ≤ length (enterAll es (s .base))

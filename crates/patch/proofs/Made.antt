@@ -88,23 +88,27 @@ gone-allowed base t (e ∷ es) least a h =
     (λ n. gone-allowed base t es least (a .1) (λ x m. h x (List·Memᴰ·tail m)))
 
 -- entries of the new base list, none of them gone, where the list so far has no word but its
-news-allowed : (new : List Entry) (gone : List ℕ) (es : List Entry) (s : Filled) → length new ≤ baseLimit → Ascending es → Ascending (s .base)
+news-allowed : (new : List Entry) (gone : List ℕ) (es : List Entry) (s : Filled) → length new ≤ baseLimit → Every FitsEntry es → Ascending es → Ascending (s .base)
     → ((w : ℕ) → find w new ≡ none → find w (s .base) ≡ none)
     → ((x : Entry) → List·Memᴰ x es → (s .least ≤ x .word) × ((among (x .word) gone ≡ false) × (find (x .word) new ≡ some (x .plan))))
     → allAllowed (newAllowed gone) filled s es ≡ true
-news-allowed new gone [] s l a b h k = refl
-news-allowed new gone (e ∷ es) s l a b h k =
+news-allowed new gone [] s l f a b h k = refl
+news-allowed new gone (e ∷ es) s l f a b h k =
     let here = k e (List·Memᴰ·head refl) in
     let asc : Ascending (enter e (s .base)) = enter-ascending e (s .base) b in
     let in-new : (w : ℕ) → find w new ≡ none → find w (enter e (s .base)) ≡ none =
     (λ w n. by-word w (e .word) (λ q. absurd (none≢some (sym n ∙ ap (λ (v : ℕ). find v new) q ∙ here .1 .1))) (λ m. enter-other e (s .base) w m ∙ h w n)) in
     let few : length (enter e (s .base)) ≤ length new = fewer (enter e (s .base)) new (ascending-distinct (enter e (s .base)) asc) in-new in
-    rw (le-leb (s .least) (e .word) (here .0), here .1 .0, le-leb (length (enter e (s .base))) baseLimit (omega arith))
-    (news-allowed new gone es (filled s e) l (a .1) asc in-new (λ x m. (above-mem (e .word) es (a .0) x m, k x (List·Memᴰ·tail m) .1)))
+    rw (le-leb (s .least) (e .word) (here .0), f .0 .plan, here .1 .0, le-leb (length (enter e (s .base))) baseLimit (omega arith))
+    (news-allowed new gone es (filled s e) l (f .1) (a .1) asc in-new (λ x m. (above-mem (e .word) es (a .0) x m, k x (List·Memᴰ·tail m) .1)))
 
 -- ---- the plane
 
 module _ (F : Format) (P Q : Plane) (f : Fits F P) (g : Fits F Q) (old new : ℕ) where
+  -- the entries new or changed are the new plane's
+  news-fit : Every FitsEntry (newsOf (P .base) (Q .base))
+  news-fit = every-keep FitsEntry _ (Q .base) (g .entries)
+
   -- each value is within its bytes
   pub between-sized : Below wordBytes old → Below wordBytes new → Sized F (between old new P Q)
   unfolding between
@@ -113,7 +117,7 @@ module _ (F : Format) (P Q : Plane) (f : Fits F P) (g : Fits F Q) (old new : ℕ
     newSum = n;
     changes = changes-fit F (bucketsOf P) (bucketsOf Q) 0 (g .buckets);
     gone = words-fit (keep (λ e. not (isThere (find (e .word) (Q .base)))) (P .base)) (every-keep FitsEntry (λ e. not (isThere (find (e .word) (Q .base)))) (P .base) (f .entries));
-    news = every-keep FitsEntry _ (Q .base) (g .entries);
+    news = news-fit;
   }
 
   -- the old plane allows it
@@ -125,7 +129,7 @@ module _ (F : Format) (P Q : Plane) (f : Fits F P) (g : Fits F Q) (old new : ℕ
         changes-allowed F (length (bucketsOf P)) (bucketsOf P) (bucketsOf Q) 0 0 (omega arith) (omega arith) (g .buckets),
         gone-allowed (P .base) (λ e. not (isThere (find (e .word) (Q .base)))) (P .base) 0 (f .ascending) (λ x m. (omega arith, ap isThere (mem-find (P .base) (f .ascending) x m))),
       )
-      (news-allowed (Q .base) G (newsOf (P .base) (Q .base)) (unfilled (P .base) G) (g .few) (news-ascending (P .base) (Q .base) (g .ascending)) (remove-all-ascending G (P .base) (f .ascending))
+      (news-allowed (Q .base) G (newsOf (P .base) (Q .base)) (unfilled (P .base) G) (g .few) news-fit (news-ascending (P .base) (Q .base) (g .ascending)) (remove-all-ascending G (P .base) (f .ascending))
       (λ w n. by-find (find w (P .base)) (λ m. still-none w G (P .base) (f .ascending) m)
       (λ p s. remove-all-gone w G (P .base) (f .ascending) (gone-is (P .base) (Q .base) w n ∙ ap isThere s)))
       (λ x m. let k = mem-find (Q .base) (g .ascending) x (keep-out _ (Q .base) x m .0) in (omega arith, (gone-not (P .base) (Q .base) (x .word) (x .plan) k, k))))

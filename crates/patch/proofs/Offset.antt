@@ -8,7 +8,7 @@ use mathlib.Core.List.{List, [], _∷_, _++_, map}
 use lib.Dec.{leb, ltb, leb·zero}
 use lib.ListN.{length}
 use Rattle.lists.specs.Lists.{countFrom}
-use Rattle.lists.specs.Entries.{Entry, find}
+use Rattle.lists.specs.Entries.{Entry, assignable, find}
 use Rattle.bucket.specs.Bucket.{largestBound}
 use Rattle.model.specs.Model.{baseLimit}
 use Rattle.plane.specs.declared.Wrong.{Wrong}
@@ -44,18 +44,18 @@ module _ (F : Format) (P : Plane) (d : List ℕ) where
   base-same zero = refl
   base-same (suc i) = ap (enter (newEntry F d i)) (base-same i)
 
+  -- entry i, by whether it exceeds the one before and by the base list before it
+  abbrev newBy : ℕ → Bool → List Entry → Expected
+  newBy i b es = record {
+    at = newPlace F d i;
+    kind = newKind;
+    body = entryBody;
+    allowed = (b && assignable (newEntry F d i .plan)) && (not (among (newEntry F d i .word) gone) && leb (length (enter (newEntry F d i) es)) baseLimit);
+  }
+
   new-same : (i : ℕ) → expectedAt newRecords (newAllowed gone) filled (unfilled (P .base) gone) (newsAt F d) d i ≡ expectedNew F P d i
-  new-same zero =
-      ap (λ (b : Bool). record { at = newPlace F d 0; kind = newKind; body = entryBody; allowed = b && (not (among (newEntry F d 0 .word) gone) && leb (length (baseAfter F P d 1)) baseLimit) })
-      (leb·zero (newEntry F d 0 .word))
-  new-same (suc i) =
-      ap (λ (es : List Entry). record {
-        at = newPlace F d (suc i);
-        kind = newKind;
-        body = entryBody;
-        allowed = exceeds (λ j. newEntry F d j .word) (suc i) && (not (among (newEntry F d (suc i) .word) gone) && leb (length (enter (newEntry F d (suc i)) es)) baseLimit);
-      })
-      (base-same (suc i))
+  new-same zero = ap (λ (b : Bool). newBy 0 b (baseAfter F P d 0)) (leb·zero (newEntry F d 0 .word))
+  new-same (suc i) = ap (newBy (suc i) (exceeds (λ j. newEntry F d j .word) (suc i))) (base-same (suc i))
 
   abbrev end : ℕ
   end = endIn F d + endLength

@@ -16,7 +16,7 @@ use Rattle.patch.specs.Wrong.{allowed}
 abbrev pub FitsChange : Format → Change → Type 0
 FitsChange F c = FitsBucket F (c .bucket)
 
--- each value within its bytes, and a bound of at most 8
+-- each value within its bytes, bounds of at most 8, and plans that may be given
 pub record Sized (F : Format) (D : Patch) : Type 0 where
   pub oldSum : Below wordBytes (D .oldSum)
   pub newSum : Below wordBytes (D .newSum)

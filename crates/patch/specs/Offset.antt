@@ -7,7 +7,7 @@ use mathlib.Core.List.{List, [], _∷_, _++_, map}
 use lib.Dec.{leb, ltb}
 use lib.ListN.{length, drop}
 use Rattle.lists.specs.Lists.{countFrom}
-use Rattle.lists.specs.Entries.{Entry, find}
+use Rattle.lists.specs.Entries.{Entry, assignable, find}
 use Rattle.bucket.specs.Bucket.{largestBound}
 use Rattle.model.specs.Model.{baseLimit}
 use Rattle.plane.specs.Record.{Format, wordBytes, entryBody, entryFrom, endLength}
@@ -71,13 +71,14 @@ abbrev pub baseAfter : Format → Plane → List ℕ → ℕ → List Entry
 baseAfter F P d zero = removeAll (patchFrom F d .gone) (P .base)
 baseAfter F P d (suc i) = enter (newEntry F d i) (baseAfter F P d i)
 
--- entry i: no "word also in kind 7 or making 65 entries"
+-- entry i: no "word also in kind 7 or making 65 entries", and a plan that may be given (order 3: "as is a kind 8")
 abbrev pub expectedNew : Format → Plane → List ℕ → ℕ → Expected
 expectedNew F P d i = record {
   at = newPlace F d i;
   kind = newKind;
   body = entryBody;
-  allowed = exceeds (λ j. newEntry F d j .word) i && (not (among (newEntry F d i .word) (patchFrom F d .gone)) && leb (length (baseAfter F P d (suc i))) baseLimit);
+  allowed = (exceeds (λ j. newEntry F d j .word) i && assignable (newEntry F d i .plan))
+      && (not (among (newEntry F d i .word) (patchFrom F d .gone)) && leb (length (baseAfter F P d (suc i))) baseLimit);
 }
 
 -- in order; as many of each kind as stand together

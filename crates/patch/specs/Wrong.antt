@@ -11,7 +11,7 @@ use Rattle.model.specs.Model.{baseLimit}
 use Rattle.plane.specs.declared.Wrong.{Wrong}
 use Rattle.plane.specs.declared.Wrong.the-variants.{At}
 use Rattle.plane.specs.Record.{Format, readAll, wordBytes, wordFrom, entryFrom}
-use Rattle.plane.specs.Plane.{Plane, whole, wrongIn, allAllowed, endWrong, orNext}
+use Rattle.plane.specs.Plane.{Plane, whole, wrongIn, allAllowed, entryAllowed, endWrong, orNext}
 use Rattle.patch.specs.Base.{isThere, among, removeAll, enter}
 use Rattle.patch.specs.Record.{sumsKind, sumsBody, Change, changeLength, changeFrom, changeRecords, goneKind, goneLength, goneFrom, goneRecords, newKind, newLength, newRecords}
 use Rattle.patch.specs.Patch.{Patch, bucketsOf}
@@ -39,9 +39,9 @@ pub record Filled : Type 0 where
   pub least : ℕ
   pub base : List Entry
 
--- kind 8: a word of at least `least`, not also in kind 7, that makes no 65 entries
+-- kind 8: what is allowed in a base record of a plane, with a word that is not also in kind 7 and makes no 65 entries
 abbrev pub newAllowed : List ℕ → Filled → Entry → Bool
-newAllowed gone s e = leb (s .least) (e .word) && (not (among (e .word) gone) && leb (length (enter e (s .base))) baseLimit)
+newAllowed gone s e = entryAllowed (s .least) e && (not (among (e .word) gone) && leb (length (enter e (s .base))) baseLimit)
 
 -- strictly ascending by word
 abbrev pub filled : Filled → Entry → Filled

@@ -11,7 +11,7 @@ use Rattle.lists.specs.Entries.{Entry, find, Ascending}
 use Rattle.model.specs.Model.{baseLimit}
 use Rattle.plane.specs.declared.Wrong.the-variants.{Nowhere, At}
 use Rattle.plane.specs.Record.{Format, readAll, bucketLength, bucketFrom, entryFrom}
-use Rattle.plane.specs.Plane.{Plane, planeFrom, bucketsAt, entriesAt, whole, wrongIn, endWrong, buckets1, buckets2, bucketCount}
+use Rattle.plane.specs.Plane.{Plane, planeFrom, bucketsAt, entriesAt, whole, wrongIn, entryAllowed, endWrong, buckets1, buckets2, bucketCount}
 use Rattle.plane.proofs.Scan.{scan-room}
 use Rattle.plane.proofs.Read.{length-readAll}
 use Rattle.plane.proofs.Exact.{scan-allowed}
@@ -70,7 +70,7 @@ module _ (F : Format) (P : Plane) (d : List ℕ) where
       -- the test of kind 8, as the code makes it
       same-test : newAllowed (patchFrom F d .gone) ≡ newAllowedBy (P .base) (removeAll (patchFrom F d .gone) (P .base))
       same-test =
-          λ i s e. leb (s .least) (e .word)
+          λ i s e. entryAllowed (s .least) e
           && (not (among-gone (e .word) (patchFrom F d .gone) (P .base) (h .ascending) (each-there (e .word)) i) && leb (length (enter e (s .base))) baseLimit)
 
   -- ---- kind 8

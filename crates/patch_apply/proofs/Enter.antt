@@ -19,7 +19,7 @@ use Rattle.table.proofs.Numbers.{length-pairsFrom}
 use Rattle.plane.specs.declared.Wrong.{Wrong}
 use Rattle.plane.specs.declared.Wrong.the-variants.{At}
 use Rattle.plane.specs.Record.{readAll, entryBody, entryFrom}
-use Rattle.plane.specs.Plane.{whole, fits, wrongIn}
+use Rattle.plane.specs.Plane.{whole, fits, wrongIn, entryAllowed}
 use Rattle.plane.proofs.Scan.{both, refused, whole-next, scan-step, scan-here}
 use Rattle.plane.proofs.Scan as Scan
 use Rattle.patch.specs.Base.{isThere, enter, enterAll}
@@ -102,12 +102,12 @@ module _ (d : List ℕ) (first k : ℕ) (old : List ℕ) (n : ℕ) (kept : List 
       not-both true false c e = refl
       not-both false b c e = refl
 
-      -- cut, or with a word that does not exceed the one before
-      pub new-low : {x : Bool} → x ≡ (whole newKind entryBody p && leb least (entryFrom p .word)) → not x ≡ true → E.At at ≡ edited (scan (started K) k first) (enterAll (news k first) K)
+      -- cut, with a plan that may not be given, or with a word that does not exceed the one before
+      pub new-low : {x : Bool} → x ≡ (whole newKind entryBody p && entryAllowed least (entryFrom p)) → not x ≡ true → E.At at ≡ edited (scan (started K) k first) (enterAll (news k first) K)
       new-low e f = unfit (not-both (whole newKind entryBody (drop at d)) _ _ (rw (rest at d) at (refused _ e f)))
 
-      module _ {x : Bool} (c : x ≡ (whole newKind entryBody p && leb least (entryFrom p .word))) (t : not x ≡ false) where
-        there-is : (whole newKind entryBody (drop at d) ≡ true) × (leb least (entryFrom (drop at d) .word) ≡ true)
+      module _ {x : Bool} (c : x ≡ (whole newKind entryBody p && entryAllowed least (entryFrom p))) (t : not x ≡ false) where
+        there-is : (whole newKind entryBody (drop at d) ≡ true) × (entryAllowed least (entryFrom (drop at d)) ≡ true)
         there-is = both (whole newKind entryBody (drop at d)) _ (rw (rest at d) at (Scan.passed x c t))
 
         pub new-room : at + newLength ≤ length d
@@ -122,7 +122,7 @@ module _ (d : List ℕ) (first k : ℕ) (old : List ℕ) (n : ℕ) (kept : List 
           same = ap (λ (v : ℕ). record { word = v; plan = getD p entryBody 0 }) q ∙ ap entryFrom (rest at d)
 
           least-le : least ≤ w
-          least-le = let l = leb-true least (entryFrom (drop at d) .word) (there-is .1) in omega (arith, ap (λ (x : Entry). x .word) same)
+          least-le = let l = leb-true least (entryFrom (drop at d) .word) (both (leb least (entryFrom (drop at d) .word)) _ (there-is .1) .0) in omega (arith, ap (λ (x : Entry). x .word) same)
 
           abbrev there : Bool
           there = isFirst w (drop j K)

@@ -12,6 +12,7 @@ use lib.Seq.{take-at, drop-drop, getD-take}
 use borrow.Author.Tests.{ltb-true}
 use Rattle.lists.specs.Entries.{Entry}
 use Rattle.lists.specs.Lists.{Every}
+use Rattle.lists.proofs.Entries.{assignable-byte}
 use Rattle.lists.proofs.Every.{every}
 use Rattle.lists.proofs.Parts.{drop-take, rest, stretch}
 use Rattle.codec.specs.Parts.{written}
@@ -200,7 +201,7 @@ module _ (F : Format) (p d : List ℕ) (bp : AllBytes p) (bd : AllBytes d) (ep :
         old = omega (arith, o .whole);
         changes = changes-there;
         few = rw n (new-fits .few);
-        plans = λ i l. each FitsEntry 2 pairFrom k pairs (rw (← pairs-read k pairs, b) (new-fits .entries)) i l .plan;
+        plans = λ i l. assignable-byte _ (each FitsEntry 2 pairFrom k pairs (rw (← pairs-read k pairs, b) (new-fits .entries)) i l .plan);
         long = ap (planeLength F (bucketCount p)) n ∙ sym new-length;
       }
 

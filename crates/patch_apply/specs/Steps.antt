@@ -15,7 +15,7 @@ use Rattle.table.specs.Layout.{pairsFrom}
 use Rattle.plane.specs.declared.Wrong.{Wrong}
 use Rattle.plane.specs.declared.Wrong.the-variants.{Nowhere, At}
 use Rattle.plane.specs.Record.{Format, bucketLength, bucketBytes}
-use Rattle.plane.specs.Plane.{Plane, bucketsAt, endWrong, orNext}
+use Rattle.plane.specs.Plane.{Plane, bucketsAt, entryAllowed, endWrong, orNext}
 use Rattle.plane_write.specs.Write.{Written, turnedDown, putFront}
 use Rattle.patch.specs.Base.{isThere, enter}
 use Rattle.patch.specs.Record.{Change}
@@ -37,7 +37,7 @@ Lies (E.Entries n) es xs = pairsFrom n xs ≡ es
 -- kind 8 as the check finds it: a word is also in kind 7 exactly if the old base list has it and the one without the words gone, `kept`, has not
 abbrev pub newAllowedBy : List Entry → List Entry → Filled → Entry → Bool
 newAllowedBy old kept s e =
-    leb (s .least) (e .word) && (not (isThere (find (e .word) old) && not (isThere (find (e .word) kept))) && leb (length (enter e (s .base))) baseLimit)
+    entryAllowed (s .least) e && (not (isThere (find (e .word) old) && not (isThere (find (e .word) kept))) && leb (length (enter e (s .base))) baseLimit)
 
 -- the least word after the word `last`, if there is one
 abbrev pub leastAfter : Bool → ℕ → ℕ

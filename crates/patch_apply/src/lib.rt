@@ -12,7 +12,6 @@ ghost use mathlib.Core.Path.{_≡_};
 ghost use mathlib.Core.Bool.{_&&_};
 ghost use mathlib.Core.List.{[], _∷_, _++_};
 ghost use Prim.Native.Nat.{_+_, _-_, _*_, _≤_};
-ghost use lib.Dec.{leb};
 ghost use lib.ListN.{length, drop};
 ghost use Rattle.codec.specs.Parts.{written};
 ghost use Rattle.lists.specs.Entries.{Ascending};
@@ -20,12 +19,12 @@ ghost use Rattle.model.specs.Model.{baseLimit};
 ghost use Rattle.table.specs.Layout.{baseNumbers, pairsFrom};
 ghost use Rattle.plane.specs.declared.Wrong.the-variants.{Nowhere};
 ghost use Rattle.plane.specs.Record.{format1, readAll, entryBody, entryFrom};
-ghost use Rattle.plane.specs.Plane.{whole, fits, wrongIn, planeFrom, wrongAt};
+ghost use Rattle.plane.specs.Plane.{whole, fits, wrongIn, entryAllowed, planeFrom, wrongAt};
 ghost use Rattle.patch.specs.Base.{removeAll, enterAll};
 ghost use Rattle.patch.specs.Cursor.{isFirst};
 ghost use Rattle.patch.specs.Record.{changeLength, changeFrom, changeRecords, goneLength, goneFrom, goneRecords, newKind, newLength, newRecords};
 ghost use Rattle.patch.specs.Patch.{patched};
-ghost use Rattle.patch.specs.Wrong.{changeAllowed, nextIndex, goneAllowed, nextWord, filled, changesAt, changesIn, goneAt, patchFrom, patchWrongAt};
+ghost use Rattle.patch.specs.Wrong.{changeAllowed, nextIndex, goneAllowed, nextWord, filled, changesAt, goneAt, patchFrom, patchWrongAt};
 ghost use Rattle.patch.specs.Calls.{applied, applyCall};
 ghost use Rattle.patch_apply.specs.Steps.{edited, Lies, leastAfter, taken, passed, newAllowedBy, started, baseWrong, changed, appliedRight, summed};
 
@@ -157,11 +156,11 @@ pub(crate) fn remove_gone(
     Edited::Entries(m + (n - i))
 }
 
-// A new entry in front, whose word exceeds that of the one before, if there is one.
+// A new entry in front, with a plan that may be given, whose word exceeds that of the one before, if there is one.
 pub(crate) fn new_follows(p: &[u8], some: bool, last: u64) -> bool
-    ensures { λ r. ⌜ r ≡ (whole newKind entryBody (now (p .entry)) && leb (leastAfter some last) (entryFrom (now (p .entry)) .word)) ⌝ }
+    ensures { λ r. ⌜ r ≡ (whole newKind entryBody (now (p .entry)) && entryAllowed (leastAfter some last) (entryFrom (now (p .entry)))) ⌝ }
 {
-    if !plane::whole(p, Patch::NEW, Patch::NEW_BODY) {
+    if !plane::entry_assignable(p, Patch::NEW) {
         return false;
     }
     if some {

@@ -11,7 +11,7 @@ use lib.Bits.{xor-self}
 use lib.ListN.{length, getD, set, length-map}
 use lib.Seq.{set-append-left, map-set-same}
 use Rattle.lists.specs.Lists.{Every}
-use Rattle.lists.specs.Entries.{Entry, planLimit, find, update, Ascending}
+use Rattle.lists.specs.Entries.{Entry, find, update, Ascending}
 use Rattle.lists.proofs.Tests.{cases, by-test}
 use Rattle.lists.proofs.Keep.{map-set}
 use Rattle.gf2.proofs.Solutions.{solStep-none}
@@ -21,11 +21,10 @@ use Rattle.hash.proofs.FnvLaws.{fnv-lt}
 use Rattle.answer.specs.Numbers.{numberOf}
 use Rattle.answer.specs.declared.Answer.the-variants.{Accepted}
 use Rattle.identifier.specs.Place.{thresholds}
-use Rattle.identifier.specs.Identifier.{readOf}
 use Rattle.identifier.specs.declared.Read.{Read}
 use Rattle.identifier.specs.declared.Read.the-variants.{Word, Refused}
 use Rattle.model.specs.Model.{change}
-use Rattle.model.specs.Request.{ask}
+use Rattle.model.specs.Request.{wordFor, Request, ask}
 use Rattle.model.specs.Machine.{after}
 use Rattle.model.proofs.Requests.{Reads, reads}
 use Rattle.bucket.specs.declared.Bucket.{Bucket}
@@ -35,7 +34,7 @@ use Rattle.table.specs.Table as C
 use Rattle.table.specs.Table.{Table}
 use Rattle.table.specs.Layout.{numbersOf}
 use Rattle.table.specs.Calls.{rows, solutions, tableOf, planIn, shaped, sound, FlatSound, Outcome, replaced, served, callRead, call}
-use Rattle.table.specs.History.{Put, tables, Opened, flatState}
+use Rattle.table.specs.History.{tables, Opened, flatState}
 use Rattle.table.proofs.Numbers.{back}
 use Rattle.table.proofs.Calls.{sound-shaped, call-match}
 use Rattle.table.proofs.Statements.{sound-exactly, causes-else, sound-stands, stands-sound, always-sound}
@@ -148,29 +147,29 @@ level-bounded (b ∷ bs) s w =
 -- an accepted change: its word, of the plan q, is live in a sound table
 record Was (t id : List ℕ) (p q : ℕ) : Type 0 where
   pub word : ℕ
-  pub read : readOf id ≡ Word word
+  pub for : wordFor (change id p) ≡ Word word
   pub shape : shaped t ≡ true
   pub tested : sound t ≡ true
   pub live : planIn t word ≡ some q
 
 was : (t id : List ℕ) (p q : ℕ) → call t (change id p) .answer ≡ Accepted q → Was t id p q
 unfolding call served
-was t id p q e = go (readOf id) refl (reads (change id p)) e
+was t id p q e = go (wordFor (change id p)) refl (reads (change id p)) e
   where
     found : (T : ℕ → Table) (o : Option ℕ) → replaced t T o .answer ≡ Accepted q → o ≡ some q
     found T (some x) f = cc
     found T none f = cc
 
-    go : (x : Read) → readOf id ≡ x → Reads (change id p) x → callRead t (change id p) x .answer ≡ Accepted q → Was t id p q
+    go : (x : Read) → wordFor (change id p) ≡ x → Reads (change id p) x → callRead t (change id p) x .answer ≡ Accepted q → Was t id p q
     go (Refused a) i k = λ f. absurd (omega (arith, ap numberOf f))
     go (Word w) i k =
         by-test (λ (o : Outcome). o .answer ≡ Accepted q → Was t id p q) (shaped t)
         (λ k. by-test (λ (o : Outcome). o .answer ≡ Accepted q → Was t id p q) (sound t)
-        (λ s f. record { word = w; read = i; shape = k; tested = s; live = found (C.changedIn rows solutions mixOf (tableOf t) w p) (planIn t w) f })
+        (λ s f. record { word = w; for = i; shape = k; tested = s; live = found (C.changedIn rows solutions mixOf (tableOf t) w p) (planIn t w) f })
         (λ _ f. absurd (omega (arith, ap numberOf f))))
         (λ _ f. absurd (omega (arith, ap numberOf f)))
 
-module _ (t : List ℕ) (flat : FlatSound t) (sols : Sols (tableOf t)) (id : List ℕ) (p q : ℕ) (byte : p < planLimit) (e : call t (change id p) .answer ≡ Accepted q) where
+module _ (t : List ℕ) (flat : FlatSound t) (sols : Sols (tableOf t)) (id : List ℕ) (p q : ℕ) (e : call t (change id p) .answer ≡ Accepted q) where
   -- the table after the change
   abbrev u : List ℕ
   u = call t (change id p) .table
@@ -186,7 +185,7 @@ module _ (t : List ℕ) (flat : FlatSound t) (sols : Sols (tableOf t)) (id : Lis
 
   then : u ≡ numbersOf U
   unfolding served
-  then = ap (λ (o : Outcome). o .table) (causes-else t (change id p) (h .word) (h .read) (h .shape) (h .tested) ∙ ap (replaced t (C.changedIn rows solutions mixOf T (h .word) p)) (h .live))
+  then = ap (λ (o : Outcome). o .table) (causes-else t (change id p) (h .word) (h .for) (h .shape) (h .tested) ∙ ap (replaced t (C.changedIn rows solutions mixOf T (h .word) p)) (h .live))
 
   bounded : BoundedTable rows solutions T
   bounded = record { level1 = level-bounded (T .level1) (flat .table .level1 .buckets) (sols .0); level2 = level-bounded (T .level2) (flat .table .level2 .buckets) (sols .1); fits = flat .table .fits; totalled = sound-shaped T (flat .table) .totalled }
@@ -206,7 +205,7 @@ module _ (t : List ℕ) (flat : FlatSound t) (sols : Sols (tableOf t)) (id : Lis
 
   fits-after : Fits format1 Q
   fits-after =
-      let k = stands-sound u _ (call-match t (flatState t) (sound-stands t (h .shape) flat) (change id p) byte .stands) in
+      let k = stands-sound u _ (call-match t (flatState t) (sound-stands t (h .shape) flat) (change id p) .stands) in
       fits u (bounded-sols u (request-bounded t bounded (ask (change id p)))) (k .0) (k .2)
 
   -- the patch from the plane before to the plane after
@@ -244,22 +243,22 @@ abbrev pub patchBetween : List ℕ → List ℕ → List ℕ
 patchBetween t u = patchBytes format1 (patchOf format1 (planeBytes format1 (planeOf (tableOf t))) (planeBytes format1 (planeOf (tableOf u))))
 
 -- any table, whose numbers have 64 bits
-module _ (t : List ℕ) (wide : Words t) (id : List ℕ) (p q : ℕ) (byte : p < planLimit) (e : call t (change id p) .answer ≡ Accepted q) where
+module _ (t : List ℕ) (wide : Words t) (id : List ℕ) (p q : ℕ) (e : call t (change id p) .answer ≡ Accepted q) where
   flat-sound : FlatSound t
   flat-sound = let h = was t id p q e in sound-exactly t (h .shape) wide .0 (h .tested)
 
   -- "changing one plan costs at most 89 bytes"
   pub change-costs : length (patchBetween t (call t (change id p) .table)) ≤ 89
-  change-costs = at-most t flat-sound (narrow rows format1 t wide) id p q byte e
+  change-costs = at-most t flat-sound (narrow rows format1 t wide) id p q e
 
   -- "and 22 if the plan was that already"
   pub same-costs : p ≡ q → length (patchBetween t (call t (change id p) .table)) ≡ 22
-  same-costs = if-same t flat-sound (narrow rows format1 t wide) id p q byte e
+  same-costs = if-same t flat-sound (narrow rows format1 t wide) id p q e
 
 -- after any list of calls
-module _ (t : List ℕ) (o : Opened t) (ps : List Put) (id : List ℕ) (p q : ℕ) (byte : p < planLimit) (e : call (after tables t ps) (change id p) .answer ≡ Accepted q) where
+module _ (t : List ℕ) (o : Opened t) (ps : List Request) (id : List ℕ) (p q : ℕ) (e : call (after tables t ps) (change id p) .answer ≡ Accepted q) where
   pub list-change-costs : length (patchBetween (after tables t ps) (call (after tables t ps) (change id p) .table)) ≤ 89
-  list-change-costs = at-most (after tables t ps) (always-sound t o ps .2) (after-sols t o ps) id p q byte e
+  list-change-costs = at-most (after tables t ps) (always-sound t o ps .2) (after-sols t o ps) id p q e
 
   pub list-same-costs : p ≡ q → length (patchBetween (after tables t ps) (call (after tables t ps) (change id p) .table)) ≡ 22
-  list-same-costs = if-same (after tables t ps) (always-sound t o ps .2) (after-sols t o ps) id p q byte e
+  list-same-costs = if-same (after tables t ps) (always-sound t o ps .2) (after-sols t o ps) id p q e

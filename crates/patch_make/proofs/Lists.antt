@@ -13,11 +13,12 @@ use Rattle.answer.specs.declared.Answer.the-variants.{Accepted}
 use Rattle.identifier.specs.Identifier.{readOf}
 use Rattle.identifier.specs.declared.Read.the-variants.{Word}
 use Rattle.model.specs.Model.{Size}
+use Rattle.model.specs.Request.{Request}
 use Rattle.model.specs.Machine.{after}
 use Rattle.model.specs.History.{told}
 use Rattle.table.specs.Table.{Table}
 use Rattle.table.specs.Calls.{tableOf}
-use Rattle.table.specs.History.{Put, tables, Opened, acceptedCalls, flatState}
+use Rattle.table.specs.History.{tables, Opened, acceptedCalls, flatState}
 use Rattle.table.proofs.Statements.{list-size, always-sound}
 use Rattle.plane.specs.declared.Wrong.the-variants.{Nowhere}
 use Rattle.plane.specs.Record.{format1}
@@ -38,16 +39,16 @@ use Rattle.patch.proofs.Statements.{make-made, made-accepted}
 use Rattle.patch.proofs.Calls.{in-front, make-apply}
 
 module _ (t : List ℕ) (o : Opened t) where
-  plane-fits : (ps : List Put) → Fits format1 (planeOf (tableOf (after tables t ps)))
+  plane-fits : (ps : List Request) → Fits format1 (planeOf (tableOf (after tables t ps)))
   plane-fits ps = let h = always-sound t o ps in fits (after tables t ps) (after-sols t o ps) (h .0) (h .2)
 
-  right : (ps : List Put) → wrongAt format1 (planeAfter t ps) ≡ Nowhere
+  right : (ps : List Request) → wrongAt format1 (planeAfter t ps) ≡ Nowhere
   right ps = written-right format1 (planeOf (tableOf (after tables t ps))) (plane-fits ps)
 
-  octets : (ps : List Put) → AllBytes (planeAfter t ps)
+  octets : (ps : List Request) → AllBytes (planeAfter t ps)
   octets ps = plane-octets format1 (lit< tt) (lit< tt) (planeOf (tableOf (after tables t ps))) (plane-fits ps)
 
-  module _ (ps qs : List Put) where
+  module _ (ps qs : List Request) where
     same-size : flatState (after tables t ps) .size ≡ flatState (after tables t qs) .size
     same-size = list-size t o ps ∙ sym (list-size t o qs)
 
@@ -83,5 +84,5 @@ module _ (t : List ℕ) (o : Opened t) where
           ∙ in-front m into (planeAfter t qs) (ap (λ (w : Written). w .answer) (sym list-follows) ∙ e) .front
 
   -- the plane gives every live identifier its word's last accepted plan
-  pub plane-tells : (ps : List Put) (id : List ℕ) (v p : ℕ) → readOf id ≡ Word v → told v (acceptedCalls t ps) ≡ some p → lookupCall id (planeAfter t ps) ≡ Accepted p
+  pub plane-tells : (ps : List Request) (id : List ℕ) (v p : ℕ) → readOf id ≡ Word v → told v (acceptedCalls t ps) ≡ some p → lookupCall id (planeAfter t ps) ≡ Accepted p
   plane-tells ps id v p i h = let k = always-sound t o ps in shows (after tables t ps) (after-sols t o ps) (k .0) (k .2) id ∙ told-shown t o ps id v p i h

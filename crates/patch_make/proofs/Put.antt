@@ -21,7 +21,7 @@ use Rattle.lists.specs.Entries.{Entry, planLimit, find, words, Above, Ascending
 use Rattle.lists.proofs.Tests.{cases}
 use Rattle.lists.proofs.Parts.{stretch, length-stretch}
 use Rattle.lists.proofs.Every.{mem-every, every-at}
-use Rattle.lists.proofs.Entries.{above-mem}
+use Rattle.lists.proofs.Entries.{assignable-byte, above-mem}
 use Rattle.table.specs.Layout.{mostBuckets1, mostBuckets2, pairsFrom}
 use Rattle.table.proofs.Numbers.{length-pairsFrom, read-pair}
 use Rattle.plane.specs.declared.Wrong.the-variants.{Nowhere}
@@ -149,7 +149,7 @@ module _ (n : ℕ) (xs : List ℕ) where
   pub plan-low : Every FitsEntry (pairsFrom n xs) → (i : ℕ) → i < n → getD xs (2 * i + 1) 0 < planLimit
   plan-low f i h =
       let z : Entry = record { word = 0; plan = 0 } in
-      rw (read-pair n xs i z h) at (every-at FitsEntry z (pairsFrom n xs) f i (rw (length-pairsFrom n xs) h) .plan)
+      assignable-byte (getD xs (2 * i + 1) 0) (rw (read-pair n xs i z h) at (every-at FitsEntry z (pairsFrom n xs) f i (rw (length-pairsFrom n xs) h) .plan))
 
   module _ (i w plan : ℕ) where
     -- where the word stands at entry i, there is one, and its plan decides

@@ -111,8 +111,8 @@ module _ (p : List ℕ) (there : entryBody < length p) (b : AllBytes p) where
       let plan : getD p entryBody 0 ∷ drop entryLength p ≡ drop wordBytes (drop 1 p) = sym (drop-cons p entryBody 0 there) ∙ sym (drop-drop wordBytes 1 p) in
       rw (append-assoc, plan) (word-bytes (drop 1 p) (rw length-drop (omega arith)) (bytes-drop 1 p b))
 
-  pub entry-fit : FitsEntry (entryFrom p)
-  entry-fit = record { word = word-lt (drop 1 p) (rw length-drop (omega arith)) (bytes-drop 1 p b); plan = b (1 + wordBytes) }
+  pub entry-fit : (least : ℕ) → entryAllowed least (entryFrom p) ≡ true → FitsEntry (entryFrom p)
+  entry-fit least e = record { word = word-lt (drop 1 p) (rw length-drop (omega arith)) (bytes-drop 1 p b); plan = both (leb least (entryFrom p .word)) _ e .1 }
 
 -- a record with a value that is allowed: it is there, and starts with its kind
 module _ {A S : Type 0} (k : Kind A) (allowed : S → A → Bool) (s : S) (p : List ℕ) (e : fits k allowed s p ≡ true) where
@@ -174,20 +174,21 @@ entries-bytes =
 
 entries-fit : (least k at : ℕ) (p : List ℕ) → entriesWrong least k at p ≡ Nowhere → AllBytes p → Every FitsEntry (readAll entryLength entryFrom k p)
 unfolding entriesWrong
-entries-fit = scan-fit entryRecords entryAllowed exceeding FitsEntry (λ s p e. entry-fit p (fits-there entryRecords entryAllowed s p e))
+entries-fit = scan-fit entryRecords entryAllowed exceeding FitsEntry
+    (λ s p e b. entry-fit p (fits-there entryRecords entryAllowed s p e) b s (fits-allowed entryRecords entryAllowed s p e))
 
 -- each exceeds the one before
 above-of : (w least : ℕ) (es : List Entry) → w < least → allAllowed entryAllowed exceeding least es ≡ true → Above w es
 above-of w least [] h a = tt
 above-of w least (e ∷ es) h a =
-    let c = both (leb least (e .word)) _ a in
-    let n : least ≤ e .word = leb-true least (e .word) (c .0) in
+    let c = both (entryAllowed least e) _ a in
+    let n : least ≤ e .word = leb-true least (e .word) (both (leb least (e .word)) _ (c .0) .0) in
     (omega arith, above-of w (suc (e .word)) es (omega arith) (c .1))
 
 pub ascending-of : (least : ℕ) (es : List Entry) → allAllowed entryAllowed exceeding least es ≡ true → Ascending es
 ascending-of least [] a = tt
 ascending-of least (e ∷ es) a =
-    let c = both (leb least (e .word)) _ a in
+    let c = both (entryAllowed least e) _ a in
     (above-of (e .word) (suc (e .word)) es (omega arith) (c .1), ascending-of (suc (e .word)) es (c .1))
 
 -- the end

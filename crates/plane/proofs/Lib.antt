@@ -6,3 +6,4 @@ pub mod Exact
 pub mod Octets
 pub mod Offset
 pub mod Causes
+pub mod Desk

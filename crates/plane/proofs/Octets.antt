@@ -10,6 +10,7 @@ use lib.Dec.{leb, lit<}
 use lib.ListN.{length}
 use Rattle.lists.specs.Lists.{Every}
 use Rattle.lists.specs.Entries.{Entry}
+use Rattle.lists.proofs.Entries.{assignable-byte}
 use Rattle.lists.proofs.Every.{every, mem-every}
 use Rattle.codec.specs.Bytes.{toBytes}
 use Rattle.bucket.specs.Bucket.{largestBound}
@@ -56,7 +57,7 @@ octets-bucket F k b h =
 octets-entry : (e : Entry) → FitsEntry e → AllBytes (entryRecord e)
 octets-entry e h =
     octets-append (entryKind ∷ []) (toBytes wordBytes (e .word) ++ (e .plan ∷ [])) (few (entryKind ∷ []) (lit< tt, tt))
-    (octets-append (toBytes wordBytes (e .word)) (e .plan ∷ []) (octets-number wordBytes (e .word)) (few (e .plan ∷ []) (h .plan, tt)))
+    (octets-append (toBytes wordBytes (e .word)) (e .plan ∷ []) (octets-number wordBytes (e .word)) (few (e .plan ∷ []) (assignable-byte (e .plan) (h .plan), tt)))
 
 pub plane-octets : (F : Format) → F .number < 256 → F .bucketKind < 256 → (P : Plane) → Fits F P → AllBytes (planeBytes F P)
 unfolding planeBytes

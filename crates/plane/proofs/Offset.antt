@@ -13,11 +13,12 @@ use lib.Dec.{leb, eqb, leb·zero}
 use lib.ListN.{length, getD, drop, length-drop}
 use lib.Seq.{getD-drop, drop-drop}
 use Rattle.lists.specs.Lists.{countFrom}
+use Rattle.lists.specs.Entries.{assignable}
 use Rattle.lists.proofs.Tests.{by-test, cases}
 use Rattle.table.proofs.Causes.{and-fails}
 use Rattle.plane.specs.declared.Wrong.{Wrong}
 use Rattle.plane.specs.declared.Wrong.the-variants.{Nowhere, At}
-use Rattle.plane.specs.Record.{Format, Kind, sizeOf, bucketRecords, entryKind, entryBody, entryRecords, endKind, endBody, endLength}
+use Rattle.plane.specs.Record.{Format, Kind, sizeOf, bucketRecords, entryKind, entryBody, entryFrom, entryRecords, endKind, endBody, endLength}
 use Rattle.plane.specs.Plane.{whole, fits, wrongIn, orNext, bucketCount, baseCount, bucketsAt, entriesAt, endAt, planeLength, boundAllowed, entryAllowed, exceeding, headerFits, bucketsWrong, entriesWrong, endFits, endWrong, wrongAt}
 use Rattle.plane.specs.Offset.{Expected, WrongRecord, FirstWrong, NoneWrong, expectedBucket, entryAt, entryWord, expectedEntry, expectedEnd, expected, WrongOffset, RightPlane}
 use Rattle.plane.proofs.Scan.{both, at-nowhere, whole-length}
@@ -142,7 +143,8 @@ module _ (F : Format) (p : List ℕ) where
   k = baseCount p
 
   entry-same : (i : ℕ) → expectedAt entryRecords entryAllowed exceeding 0 (entriesAt F m) p i ≡ expectedEntry F p i
-  entry-same zero = ap (λ (b : Bool). record { at = entryAt F p 0; kind = entryKind; body = entryBody; allowed = b }) (leb·zero (entryWord F p 0))
+  entry-same zero =
+      ap (λ (b : Bool). record { at = entryAt F p 0; kind = entryKind; body = entryBody; allowed = b && assignable (entryFrom (drop (entryAt F p 0) p) .plan) }) (leb·zero (entryWord F p 0))
   entry-same (suc i) = refl
 
   pub wrong-found : wrongAt F p ≡ found p (expected F p) (more p (planeLength F m k))

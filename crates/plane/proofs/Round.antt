@@ -111,9 +111,10 @@ pub from-zero : (es : List Entry) → From 0 es
 from-zero [] = tt
 from-zero (e ∷ es) = omega arith
 
-pub ascending-allowed : (least : ℕ) (es : List Entry) → Ascending es → From least es → allAllowed entryAllowed exceeding least es ≡ true
-ascending-allowed least [] a f = refl
-ascending-allowed least (e ∷ es) a f = rw (le-leb least (e .word) f) (ascending-allowed (suc (e .word)) es (a .1) (from-above (e .word) es (a .0)))
+pub ascending-allowed : (least : ℕ) (es : List Entry) → Every FitsEntry es → Ascending es → From least es → allAllowed entryAllowed exceeding least es ≡ true
+ascending-allowed least [] h a f = refl
+ascending-allowed least (e ∷ es) h a f =
+    rw (le-leb least (e .word) f, h .0 .plan) (ascending-allowed (suc (e .word)) es (h .1) (a .1) (from-above (e .word) es (a .0)))
 
 -- ---- the plane
 
@@ -159,7 +160,7 @@ module _ (F : Format) (P : Plane) (h : Fits F P) where
     buckets = rw (← length-append (P .level1) (P .level2))
         (scan-right (bucketRecords F) boundAllowed (λ s b. s) tt (P .level1 ++ P .level2) (E ++ endRecord) bucketsAt (every (bucket-back F) (P .level1 ++ P .level2) (h .buckets)) (bounds-allowed F (P .level1 ++ P .level2) (h .buckets)));
     entries = rw at-entries
-        (scan-right entryRecords entryAllowed exceeding 0 (P .base) endRecord (entriesAt F m) (every entry-back (P .base) (h .entries)) (ascending-allowed 0 (P .base) (h .ascending) (from-zero (P .base))));
+        (scan-right entryRecords entryAllowed exceeding 0 (P .base) endRecord (entriesAt F m) (every entry-back (P .base) (h .entries)) (ascending-allowed 0 (P .base) (h .entries) (h .ascending) (from-zero (P .base))));
     end = rw (at-end, equal-refl endBytes);
     nothing = ap length at-end;
   }

@@ -1,7 +1,7 @@
 -- What the loops over the records of a plane ask for: a record that fits, one that does not, and none left.
 -- Assumes nothing.
 use mathlib.Core.Path.{_≡_, refl, sym, ap, _∙_}
-use mathlib.Core.Bool.{Bool, true, false, cond, not, _&&_}
+use mathlib.Core.Bool.{Bool, true, false, cond, not, _&&_, and-assoc, and-comm}
 use mathlib.Core.List.{List}
 use Prim.Native.Nat.{ℕ, zero, suc, _+_, _-_, _*_, _≤_, _<_}
 use native.Mathlib.Nat.{suc-mul, zero-mul}
@@ -11,6 +11,7 @@ use borrow.Author.Tests.{not-true, not-false, leb-true, eqb-true, le-leb, lt-leb
 use lib.Dec.{leb, eqb}
 use lib.ListN.{length, getD, drop, length-drop}
 use lib.Seq.{drop-drop}
+use Rattle.lists.specs.Entries.{assignable}
 use Rattle.lists.proofs.Tests.{true→T, cases}
 use Rattle.model.specs.Model.{baseLimit}
 use Rattle.table.specs.Layout.{inRange, mostBuckets1, mostBuckets2}
@@ -100,20 +101,28 @@ module _ (F : Format) where
   unfolding bucketsWrong
   buckets-room = scan-room (bucketRecords F) boundAllowed (λ s b. s) tt
 
--- a base entry that is cut, one whose word w is too small, and one that fits
-pub entries-cut : (least left at : ℕ) (p : List ℕ) → 0 < left → whole entryKind entryBody p ≡ false → entriesWrong least left at p ≡ At at
-unfolding entriesWrong
-entries-cut least left at p h e = scan-here entryRecords entryAllowed exceeding least left at p h (rw e)
+-- what does not depend on the records before it: an entry's record of this kind, not cut, with a plan that a word may be given
+abbrev pub assignableEntry : ℕ → List ℕ → Bool
+assignableEntry kind p = whole kind entryBody p && assignable (entryFrom p .plan)
 
-pub entries-low : (least left at w : ℕ) (p : List ℕ) → 0 < left → whole entryKind entryBody p ≡ true → w ≡ entryFrom p .word → w < least
+-- a record is tested by that, and by its word
+pub entry-tests : (kind least : ℕ) (p : List ℕ) → (whole kind entryBody p && entryAllowed least (entryFrom p)) ≡ (assignableEntry kind p && leb least (entryFrom p .word))
+entry-tests kind least p = rw (and-comm (leb least (entryFrom p .word)), ← and-assoc (whole kind entryBody p))
+
+-- a base entry that is cut, of a wrong kind or with a plan not allowed, one whose word w is too small, and one that fits
+pub entries-here : (least left at : ℕ) (p : List ℕ) → 0 < left → assignableEntry entryKind p ≡ false → entriesWrong least left at p ≡ At at
+unfolding entriesWrong
+entries-here least left at p h e = scan-here entryRecords entryAllowed exceeding least left at p h (rw (entry-tests, e))
+
+pub entries-low : (least left at w : ℕ) (p : List ℕ) → 0 < left → assignableEntry entryKind p ≡ true → w ≡ entryFrom p .word → w < least
     → entriesWrong least left at p ≡ At at
 unfolding entriesWrong
-entries-low least left at w p h e i l = scan-here entryRecords entryAllowed exceeding least left at p h (rw (e, ← i, lt-leb least w l))
+entries-low least left at w p h e i l = scan-here entryRecords entryAllowed exceeding least left at p h (rw (entry-tests, e, ← i, lt-leb least w l))
 
-pub entries-step : (least left at w : ℕ) (p : List ℕ) → 0 < left → whole entryKind entryBody (drop at p) ≡ true → w ≡ entryFrom (drop at p) .word → least ≤ w
+pub entries-step : (least left at w : ℕ) (p : List ℕ) → 0 < left → assignableEntry entryKind (drop at p) ≡ true → w ≡ entryFrom (drop at p) .word → least ≤ w
     → entriesWrong least left at (drop at p) ≡ entriesWrong (suc w) (left - 1) (at + entryLength) (drop (at + entryLength) p)
 unfolding entriesWrong
-entries-step least left at w p h e i l = rw i (scan-step entryRecords entryAllowed exceeding least left at p h (rw (e, ← i, le-leb least w l)))
+entries-step least left at w p h e i l = rw i (scan-step entryRecords entryAllowed exceeding least left at p h (rw (entry-tests, e, ← i, le-leb least w l)))
 
 pub entries-room : (least k at : ℕ) (p : List ℕ) → entriesWrong least k at p ≡ Nowhere → k * entryLength ≤ length p
 unfolding entriesWrong
@@ -125,7 +134,7 @@ pub entries-short : (least k j at : ℕ) (p : List ℕ) → j < k → length p <
 unfolding entriesWrong
 entries-short least zero j at p h l = absurd (omega arith)
 entries-short least (suc k) zero at p h l =
-    entries-cut least (suc k) at p (omega arith) (whole-cut entryKind entryBody p (omega arith)) ∙ ap At {x = at} {y = at + 0 * entryLength} (omega arith)
+    entries-here least (suc k) at p (omega arith) (rw (whole-cut entryKind entryBody p (omega arith))) ∙ ap At {x = at} {y = at + 0 * entryLength} (omega arith)
 entries-short least (suc k) (suc j) at p h l =
     let more : at + entryLength + j * entryLength ≡ at + suc j * entryLength = omega arith in
     cases (entryFits least p)

@@ -6,7 +6,7 @@ use mathlib.Core.Bool.{true}
 use mathlib.Core.List.{List, _++_}
 use lib.ListN.{length}
 use Rattle.lists.specs.Lists.{Every}
-use Rattle.lists.specs.Entries.{Entry, Ascending}
+use Rattle.lists.specs.Entries.{Entry, Ascending, assignable}
 use Rattle.bucket.specs.Bucket.{largestBound}
 use Rattle.model.specs.Model.{baseLimit}
 use Rattle.table.specs.Layout.{inRange}
@@ -23,10 +23,10 @@ pub record FitsBucket (F : Format) (b : PlaneBucket) : Type 0 where
   pub wide : length (b .sols) ≡ F .words
   pub words : Every (Below wordBytes) (b .sols)
 
--- a base entry: the size of its word and of its plan
+-- a base entry: the size of its word, and a plan that may be given
 pub record FitsEntry (e : Entry) : Type 0 where
   pub word : Below wordBytes (e .word)
-  pub plan : Below 1 (e .plan)
+  pub plan : assignable (e .plan) ≡ true
 
 -- a plane: bucket numbers in range, at most 64 base entries, ascending, each bucket and entry within its limits
 pub record Fits (F : Format) (P : Plane) : Type 0 where

@@ -6,7 +6,7 @@ use mathlib.Core.List.{List, []}
 use mathlib.Core.Option.{Option, none, some}
 use lib.Dec.{ltb}
 use lib.ListN.{length, getD}
-use Rattle.lists.specs.Entries.{find}
+use Rattle.lists.specs.Entries.{deskPlan, find}
 use Rattle.gf2.specs.Vectors.{product}
 use Rattle.hash.specs.Mix.{mixOf}
 use Rattle.answer.specs.declared.Answer.{Answer}
@@ -39,18 +39,14 @@ abbrev pub orElse : Held → ℕ → ℕ
 orElse (Plan p) q = p
 orElse Passed q = q
 
--- the plan of a word due to the base list and not in it
-abbrev pub strangerPlan : ℕ
-strangerPlan = 0
-
--- the plan that the base list gives, if it has the word
-abbrev pub orStranger : Option ℕ → ℕ
-orStranger none = strangerPlan
-orStranger (some p) = p
+-- the plan that the base list gives, if it has the word; else the desk's (document 02, order 3)
+abbrev pub orDesk : Option ℕ → ℕ
+orDesk none = deskPlan
+orDesk (some p) = p
 
 -- the plan of a vector of level 2: of that level if it holds the vector, else of the base list
 unfoldable pub secondPlan : Plane → ℕ → ℕ
-secondPlan P v = orElse (levelPlan (P .level2) v) (orStranger (find v (P .base)))
+secondPlan P v = orElse (levelPlan (P .level2) v) (orDesk (find v (P .base)))
 
 -- the plan of the word w: of level 1 if it holds w, else as w'
 unfoldable pub planFrom : Plane → ℕ → ℕ

@@ -10,6 +10,7 @@ use mathlib.Core.List.{List, [], _∷_, _++_, map}
 use lib.Dec.{eqb, leb, ltb}
 use lib.ListN.{length, getD, take, drop}
 use Rattle.lists.specs.Lists.{countFrom}
+use Rattle.lists.specs.Entries.{assignable}
 use Rattle.codec.specs.Bytes.{eqList}
 use Rattle.bucket.specs.Bucket.{largestBound}
 use Rattle.model.specs.Model.{baseLimit}
@@ -65,9 +66,10 @@ abbrev pub exceedsBefore : Format → List ℕ → ℕ → Bool
 exceedsBefore F p zero = true
 exceedsBefore F p (suc i) = ltb (entryWord F p i) (entryWord F p (suc i))
 
--- base entry i
+-- base entry i: document 02, order 3, "a plane with it in a base entry is wrong"
 abbrev pub expectedEntry : Format → List ℕ → ℕ → Expected
-expectedEntry F p i = record { at = entryAt F p i; kind = entryKind; body = entryBody; allowed = exceedsBefore F p i }
+expectedEntry F p i =
+    record { at = entryAt F p i; kind = entryKind; body = entryBody; allowed = exceedsBefore F p i && assignable (entryFrom (drop (entryAt F p i) p) .plan) }
 
 -- "Kind 4 closes", at this offset: its body is the fixed byte string
 abbrev pub expectedEnd : ℕ → List ℕ → Expected

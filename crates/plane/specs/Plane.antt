@@ -7,7 +7,7 @@ use mathlib.Core.List.{List, [], _∷_, _++_}
 use lib.Dec.{eqb, leb}
 use lib.ListN.{length, getD, take, drop}
 use Rattle.codec.specs.Bytes.{eqList}
-use Rattle.lists.specs.Entries.{Entry}
+use Rattle.lists.specs.Entries.{Entry, assignable}
 use Rattle.bucket.specs.Bucket.{largestBound}
 use Rattle.model.specs.Model.{baseLimit}
 use Rattle.table.specs.Layout.{inRange}
@@ -96,9 +96,9 @@ bucketFits F p = fits (bucketRecords F) boundAllowed tt p
 unfoldable pub bucketsWrong : Format → ℕ → ℕ → List ℕ → Wrong
 bucketsWrong F m at p = wrongIn (bucketRecords F) boundAllowed (λ s b. s) tt m at p
 
--- kind 3: a word of at least `least`
+-- kind 3: a word of at least `least`, and a plan that may be given (document 02, order 3)
 abbrev pub entryAllowed : ℕ → Entry → Bool
-entryAllowed least e = leb least (e .word)
+entryAllowed least e = leb least (e .word) && assignable (e .plan)
 
 -- a base record that is right, after those that leave `least`
 abbrev pub entryFits : ℕ → List ℕ → Bool

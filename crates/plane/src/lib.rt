@@ -2,26 +2,28 @@
 // Definitions, in document 01's words: specs/Record.antt and specs/Plane.antt (the bytes in each format, which planes are wrong, what the
 // bytes say), specs/Lookup.antt (the call), specs/Fits.antt (its limits), specs/Offset.antt (the offset of what is wrong, without the
 // scan), specs/Causes.antt. Laws: proofs/Scan.antt (a scan of records of any kind), proofs/Round.antt and proofs/Exact.antt (just the
-// planes within the limits have bytes that are wrong nowhere), proofs/Offset.antt, proofs/Causes.antt; the statements stand with the writer.
-// Cites codec, identifier, bucket, table and table_layout (the numbers of buckets). The writer, the crates of
-// patches and the library for C cite it.
+// planes within the limits have bytes that are wrong nowhere), proofs/Offset.antt, proofs/Causes.antt, proofs/Desk.antt (who gets plan 255);
+// the statements stand with the writer.
+// Cites codec, identifier, bucket, table and table_layout (the numbers of buckets, the plans that a word may be given). The writer,
+// the crates of patches and the library for C cite it.
 use answer::Answer;
 use bucket::Bucket;
 use identifier::Identifier;
 use identifier::Read;
 use table_layout::Table;
 ghost use mathlib.Core.Path.{_≡_};
+ghost use mathlib.Core.Bool.{_&&_};
 ghost use Prim.Native.Nat.{suc, _+_, _*_, _≤_, _<_};
 ghost use lib.ListN.{length, getD, drop};
-ghost use Rattle.lists.specs.Entries.{find};
+ghost use Rattle.lists.specs.Entries.{assignable, find};
 ghost use Rattle.gf2.specs.Vectors.{product};
 ghost use Rattle.model.specs.Model.{baseLimit};
 ghost use Rattle.table.specs.Layout.{mostBuckets1, mostBuckets2};
 ghost use Rattle.plane.specs.declared.Wrong.the-variants.{Nowhere};
-ghost use Rattle.plane.specs.Record.{format1, readAll, bucketLength, entryLength, bucketFrom, entryFrom};
+ghost use Rattle.plane.specs.Record.{format1, readAll, bucketLength, entryBody, entryLength, bucketFrom, entryFrom};
 ghost use Rattle.plane.specs.Plane.{bucketsAt, whole, headerFits, bucketFits, bucketsWrong, entriesWrong, endFits, endWrong, recordsWrong, wrongAt, planeFrom};
 ghost use Rattle.table.specs.Calls.{solutions};
-ghost use Rattle.plane.specs.Lookup.{orStranger, levelPlan, secondPlan, planFrom, looked, lookupCall};
+ghost use Rattle.plane.specs.Lookup.{orDesk, levelPlan, secondPlan, planFrom, looked, lookupCall};
 
 // Where a plane is wrong first.
 pub enum Wrong {
@@ -88,9 +90,6 @@ impl Record {
 
     pub const END_LEN: usize = 1 + Record::END_BODY;
 }
-
-// The plan of a word due to the base list and not in it.
-const STRANGER_PLAN: u64 = 0;
 
 // A byte as a length, and as a number.
 fn size(b: u8) -> usize
@@ -165,6 +164,16 @@ pub fn entry_word(p: &[u8]) -> u64
     codec::get_u64(p, 1)
 }
 
+// A base entry in a record of this kind stands in front, not cut, with a plan that a word may be given.
+pub fn entry_assignable(p: &[u8], kind: u8) -> bool
+    ensures { λ r. ⌜ r ≡ (whole kind entryBody (now (p .entry)) && assignable (entryFrom (now (p .entry)) .plan)) ⌝ }
+{
+    if !whole(p, kind, Record::ENTRY_BODY) {
+        return false;
+    }
+    table_layout::assignable(wide(p[Record::ENTRY_BODY]))
+}
+
 // k base entries from the offset first on, none of them cut, after one of the word before.
 pub(crate) fn ascending(plane: &[u8], first: usize, k: usize, before: u64) -> Wrong
     requires { ⌜ first + k * entryLength ≤ length (now plane) ⌝ }
@@ -176,7 +185,7 @@ pub(crate) fn ascending(plane: &[u8], first: usize, k: usize, before: u64) -> Wr
     while 0 < left {
         let next = at + Record::ENTRY_LEN;
         let e = &plane[at..next];
-        if e[0] != Record::ENTRY {
+        if !entry_assignable(e, Record::ENTRY) {
             return Wrong::At(at);
         }
         let word = entry_word(e);
@@ -215,7 +224,7 @@ pub(crate) fn entries_wrong(plane: &[u8], first: usize, k: usize) -> Wrong
         return Wrong::Nowhere;
     }
     let p = &plane[first..];
-    if !whole(p, Record::ENTRY, Record::ENTRY_BODY) {
+    if !entry_assignable(p, Record::ENTRY) {
         return Wrong::At(first);
     }
     entries_after(plane, first + Record::ENTRY_LEN, k - 1, entry_word(p))
@@ -301,10 +310,10 @@ pub(crate) fn bucket_plan(p: &[u8], v: u64) -> u64
     plan
 }
 
-// The plan of the word v among the k base entries in front.
+// The plan of the word v among the k base entries in front, or the desk's.
 pub(crate) fn base_plan(p: &[u8], k: usize, v: u64) -> u64
     requires { ⌜ k * entryLength ≤ length (now p) ⌝ }
-    ensures { λ r. ⌜ r ≡ orStranger (find v (readAll entryLength entryFrom k (now (p .entry)))) ⌝ }
+    ensures { λ r. ⌜ r ≡ orDesk (find v (readAll entryLength entryFrom k (now (p .entry)))) ⌝ }
 {
     let mut at = 0;
     let mut left = k;
@@ -317,7 +326,7 @@ pub(crate) fn base_plan(p: &[u8], k: usize, v: u64) -> u64
         at = next;
         left -= 1;
     }
-    STRANGER_PLAN
+    Table::DESK_PLAN
 }
 
 // The plan that a level of m buckets gives for the vector v, if it holds v.

@@ -39,7 +39,7 @@ use Rattle.table.specs.Table as C
 use Rattle.table.specs.Table.{Table}
 use Rattle.table.specs.Layout.{numbersOf}
 use Rattle.table.specs.Calls.{rows, solutions, tableOf, planIn, shaped, sound, Outcome, joined, replaced, queried, served, callRead, call}
-use Rattle.table.specs.History.{Put, request, tables, Opened}
+use Rattle.table.specs.History.{request, tables, Opened}
 use Rattle.table.proofs.Numbers.{ShapedTable, back}
 use Rattle.table.proofs.History.{open-cases}
 use Rattle.plane_write.proofs.Shown.{Sols}
@@ -220,16 +220,16 @@ module _ (t : List ℕ) (h : BoundedNumbers t) where
       go (Refused a) = h
       go (Word w) = by-test Kept (shaped t) (λ _. by-test Kept (sound t) (λ _. served-bounded w c) (λ _. h)) (λ _. h)
 
-all-bounded : (t : List ℕ) → BoundedNumbers t → (ps : List Put) → BoundedNumbers (after tables t ps)
+all-bounded : (t : List ℕ) → BoundedNumbers t → (ps : List Request) → BoundedNumbers (after tables t ps)
 all-bounded t h [] = h
-all-bounded t h (p ∷ ps) = all-bounded _ (request-bounded t h (p .request)) ps
+all-bounded t h (p ∷ ps) = all-bounded _ (request-bounded t h p) ps
 
 zeros-many : length C.zeroTotals ≡ C.totalNumbers
 unfolding C.zeroTotals
 zeros-many = length-replicate {A = ℕ} C.totalNumbers 0
 
 -- after any list of calls since an accepted opening
-after-bounded : (t : List ℕ) → Opened t → (ps : List Put) → BoundedNumbers (after tables t ps)
+after-bounded : (t : List ℕ) → Opened t → (ps : List Request) → BoundedNumbers (after tables t ps)
 after-bounded t o =
     let k = open-cases (o .size .buckets1) (o .size .buckets2) (o .before) (ap (λ (x : Outcome). x .answer) (o .accepted)) in
     all-bounded t
@@ -239,5 +239,5 @@ after-bounded t o =
 pub bounded-sols : (t : List ℕ) → BoundedNumbers t → Sols (tableOf t)
 bounded-sols t h = (every (λ b k. k .sols) (tableOf t .level1) (h .level1), every (λ b k. k .sols) (tableOf t .level2) (h .level2))
 
-pub after-sols : (t : List ℕ) → Opened t → (ps : List Put) → Sols (tableOf (after tables t ps))
+pub after-sols : (t : List ℕ) → Opened t → (ps : List Request) → Sols (tableOf (after tables t ps))
 after-sols t o ps = bounded-sols (after tables t ps) (after-bounded t o ps)

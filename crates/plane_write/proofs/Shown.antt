@@ -24,9 +24,10 @@ use Rattle.table.specs.Table.{Table}
 use Rattle.table.specs.Layout.{buckets1At, buckets2At, inRange, levelFrom, bucketPlace, tableFrom}
 use Rattle.table.specs.Sound.{SoundTable}
 use Rattle.table.proofs.Numbers.{header-read}
+use Rattle.table.proofs.Sound.{base-given}
 use Rattle.plane.specs.declared.Held.the-variants.{Plan, Passed}
 use Rattle.plane.specs.Record.{Format, wordBytes}
-use Rattle.plane.specs.Lookup.{bucketOf, levelPlan, orElse, orStranger, secondPlan, planFrom}
+use Rattle.plane.specs.Lookup.{bucketOf, levelPlan, orElse, orDesk, secondPlan, planFrom}
 use Rattle.plane.specs.Fits.{Below, FitsBucket, FitsEntry, Fits}
 use Rattle.plane_write.specs.Write.{seenOf, planeOf, shownPlan}
 
@@ -64,7 +65,7 @@ module _ (n r : ℕ) where
       let plan : (bs : List Bucket) (v : ℕ) → planOf n v (C.bucketOf n r mixOf bs v) ≡ some p → lookup (C.bucketOf n r mixOf bs v) v ≡ p =
       λ bs v. live-plan (live n v (C.bucketOf n r mixOf bs v)) (lookup (C.bucketOf n r mixOf bs v) v) p in
       picked (C.holds n r mixOf (T .level1) w) _ _ _ _ p (plan (T .level1) w)
-      (picked (C.holds n r mixOf (T .level2) (secondOf w)) _ _ _ _ p (plan (T .level2) (secondOf w)) (ap orStranger))
+      (picked (C.holds n r mixOf (T .level2) (secondOf w)) _ _ _ _ p (plan (T .level2) (secondOf w)) (ap orDesk))
 
 -- ---- the plane of a sound table fits
 
@@ -118,6 +119,6 @@ module _ (n : ℕ) (F : Format) where
         range = rw (length-map (t .level1) seenOf, length-map (t .level2) seenOf, header-read n r xs .0, header-read n r xs .1) g;
         few = h .fits;
         buckets = every-append (FitsBucket F) (map seenOf (t .level1)) (map seenOf (t .level2)) (level-fits (t .level1) (h .level1 .buckets) (w .0)) (level-fits (t .level2) (h .level2 .buckets) (w .1));
-        entries = mem-every FitsEntry (t .base) (λ e m. record { word = lt-of-lt-of-le (h .base-words e m .0) hn; plan = h .base-plans e m });
+        entries = mem-every FitsEntry (t .base) (λ e m. record { word = lt-of-lt-of-le (h .base-words e m .0) hn; plan = base-given n r mixOf U t h e m });
         ascending = h .ascending;
       }

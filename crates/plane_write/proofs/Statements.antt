@@ -1,30 +1,36 @@
--- The statements of document 01 about the plane.
+-- The statements of document 01 about the plane, and of order 3 of document 02.
 -- Assumes nothing.
 use mathlib.Core.Logic.{_↔_}
-use mathlib.Core.Path.{_≡_, refl, ap, _∙_}
+use mathlib.Core.Path.{_≡_, refl, sym, ap, _∙_}
 use mathlib.Core.Bool.{false}
 use mathlib.Core.List.{List, [], _∷_}
-use mathlib.Core.Option.{some}
+use mathlib.Core.Option.{none, some}
 use Prim.Native.Nat.{ℕ, _+_, _*_, _^_, _<_}
 use native.Mathlib.Omega.{arith}
 use lib.ListN.{length, getD, take}
+use borrow.Author.Tests.{ltb-true}
+use Rattle.lists.specs.Entries.{deskPlan, find}
+use Rattle.hash.specs.Mix.{mixOf}
 use Rattle.answer.specs.declared.Answer.the-variants.{Accepted}
 use Rattle.answer.specs.Numbers.{numberOf, valueOf}
 use Rattle.answer.specs.Causes.{NoneMet, InOrder, Exactly}
 use Rattle.answer.proofs.Causes.{in-order-apart, number-exactly}
 use Rattle.identifier.specs.Identifier.{readOf}
 use Rattle.identifier.specs.Causes.{wrongLength, wrongByte}
+use Rattle.identifier.specs.Place.{secondOf}
 use Rattle.identifier.specs.declared.Read.the-variants.{Word}
 use Rattle.identifier.proofs.Causes.{read-word}
 use Rattle.identifier.proofs.Words.{word-lt}
 use Rattle.model.specs.Model.{baseLimit}
+use Rattle.model.specs.Request.{Request}
 use Rattle.model.specs.History.{told}
 use Rattle.model.specs.Machine.{accepted, after}
+use Rattle.table.specs.Table.{holds}
 use Rattle.table.specs.Layout.{mostBuckets1, mostBuckets2}
 use Rattle.table.specs.Calls.{rows, solutions, tableOf, planIn, FlatSound}
 use Rattle.table.specs.Causes.{wrongTable, notSound}
-use Rattle.table.specs.History.{Put, tables, Opened, acceptedCalls}
-use Rattle.table.proofs.Statements.{sound-exactly, always-sound, plan}
+use Rattle.table.specs.History.{tables, Opened, acceptedCalls}
+use Rattle.table.proofs.Statements.{sound-exactly, always-sound, plan, plan-given}
 use Rattle.plane.specs.declared.Wrong.the-variants.{Nowhere, At}
 use Rattle.plane.specs.Record.{Format, format1}
 use Rattle.plane.specs.Plane.{Plane, planeBytes, planeLength, planeFrom, wrongAt}
@@ -122,13 +128,17 @@ module _ (t out : List ℕ) (n : ℕ) (e : writeCall t out .answer ≡ Accepted 
     pub live-plan : (id : List ℕ) (v p : ℕ) → readOf id ≡ Word v → planIn t v ≡ some p → lookupCall id (take n (writeCall t out .output)) ≡ Accepted p
     live-plan id v p i h = statement-2 id ∙ ap (shownTo (tableOf t)) i ∙ ap Accepted (live-shown rows solutions (tableOf t) v p h)
 
+-- the word that an identifier is read as has 64 bits
+read-small : (id : List ℕ) (v : ℕ) → readOf id ≡ Word v → v < 2 ^ 64
+read-small id v i = rw (read-word id v .0 i .2) (word-lt id)
+
 -- after any list of calls
-pub told-shown : (t : List ℕ) → Opened t → (ps : List Put) (id : List ℕ) (v p : ℕ) → readOf id ≡ Word v → told v (acceptedCalls t ps) ≡ some p
+pub told-shown : (t : List ℕ) → Opened t → (ps : List Request) (id : List ℕ) (v p : ℕ) → readOf id ≡ Word v → told v (acceptedCalls t ps) ≡ some p
     → shownTo (tableOf (after tables t ps)) (readOf id) ≡ Accepted p
 told-shown t o ps id v p i h =
-    ap (shownTo (tableOf (after tables t ps))) i ∙ ap Accepted (live-shown rows solutions (tableOf (after tables t ps)) v p (plan t o ps v (rw (read-word id v .0 i .2) (word-lt id)) ∙ h))
+    ap (shownTo (tableOf (after tables t ps))) i ∙ ap Accepted (live-shown rows solutions (tableOf (after tables t ps)) v p (plan t o ps v (read-small id v i) ∙ h))
 
-module _ (t : List ℕ) (o : Opened t) (ps : List Put) (out : List ℕ) (n : ℕ) (e : writeCall (after tables t ps) out .answer ≡ Accepted n) where
+module _ (t : List ℕ) (o : Opened t) (ps : List Request) (out : List ℕ) (n : ℕ) (e : writeCall (after tables t ps) out .answer ≡ Accepted n) where
   pub list-gives : (id : List ℕ) → lookupCall id (take n (writeCall (after tables t ps) out .output)) ≡ shownTo (tableOf (after tables t ps)) (readOf id)
   list-gives = gives (after tables t ps) out n e (after-sols t o ps) (always-sound t o ps .2)
 
@@ -136,13 +146,27 @@ module _ (t : List ℕ) (o : Opened t) (ps : List Put) (out : List ℕ) (n : ℕ
   pub last-plan : (id : List ℕ) (v p : ℕ) → readOf id ≡ Word v → told v (acceptedCalls t ps) ≡ some p → lookupCall id (take n (writeCall (after tables t ps) out .output)) ≡ Accepted p
   last-plan id v p i h = list-gives id ∙ told-shown t o ps id v p i h
 
+  -- document 02, order 3: so no live identifier gets the desk's plan
+  pub plane-live-given : (id : List ℕ) (v p : ℕ) → readOf id ≡ Word v → told v (acceptedCalls t ps) ≡ some p → lookupCall id (take n (writeCall (after tables t ps) out .output)) ≡ Accepted deskPlan → ⊥
+  plane-live-given id v p i h d =
+      let l : p < deskPlan = ltb-true p deskPlan (plan-given t o ps v p (read-small id v i) h) in
+      let same : Accepted p ≡ Accepted deskPlan = sym (last-plan id v p i h) ∙ d in
+      let q : p ≡ deskPlan = cc in
+      omega arith
+
+  -- document 02, order 3: an identifier whose word neither level holds and whose w' is not in the base list gets it
+  pub plane-stranger : (id : List ℕ) (v : ℕ) → readOf id ≡ Word v → holds rows solutions mixOf (tableOf (after tables t ps) .level1) v ≡ false
+      → holds rows solutions mixOf (tableOf (after tables t ps) .level2) (secondOf v) ≡ false → find (secondOf v) (tableOf (after tables t ps) .base) ≡ none
+      → lookupCall id (take n (writeCall (after tables t ps) out .output)) ≡ Accepted deskPlan
+  plane-stranger id v i a b c = list-gives id ∙ ap (shownTo (tableOf (after tables t ps))) i ∙ rw (a, b, c)
+
 -- in a list of calls the writer meets no cause but 9
-pub list-writes : (t : List ℕ) → Opened t → (ps : List Put) (out : List ℕ)
+pub list-writes : (t : List ℕ) → Opened t → (ps : List Request) (out : List ℕ)
     → writeCall (after tables t ps) out ≡ putFront (planeBytes format1 (planeOf (tableOf (after tables t ps)))) out
 unfolding writeCall
 list-writes t o ps out = rw (always-sound t o ps .0, always-sound t o ps .1)
 
 -- so each number is given if and only if its cause is met
-pub list-write-causes : (t : List ℕ) → Opened t → (ps : List Put) (out : List ℕ)
+pub list-write-causes : (t : List ℕ) → Opened t → (ps : List Request) (out : List ℕ)
     → Exactly (shortOutput (after tables t ps) out ∷ []) (writeReturns (after tables t ps)) (writeCall (after tables t ps) out .answer)
 list-write-causes t o ps out = rw (list-writes t o ps out) (Causes.room-exactly (after tables t ps) out)

@@ -9,6 +9,7 @@ use borrow.Author.Tests.{lt-ltb, le-ltb}
 use lib.ListN.{length, getD, drop, length-map}
 use lib.Seq.{drop-drop}
 use Rattle.lists.specs.Lists.{Every}
+use Rattle.lists.proofs.Entries.{assignable-byte}
 use Rattle.lists.proofs.Every.{every-at}
 use Rattle.answer.specs.declared.Answer.the-variants.{Accepted, ShortOutput}
 use Rattle.codec.specs.Parts.{written}
@@ -76,7 +77,7 @@ module _ (n : ℕ) (F : Format) where
       bounds-low i l = each (FitsBucket F) (bucketWords n r) (seenFrom n r) (b1 + b2) (drop header xs) (rw levels-read at (h .buckets)) i l .low
 
       pub plans-low : (i : ℕ) → i < k → pairFrom (drop (i * 2) (drop (bucketPlace n r (b1 + b2)) xs)) .plan < 256
-      plans-low i l = each FitsEntry 2 pairFrom k (drop (bucketPlace n r (b1 + b2)) xs) (rw base-read at (h .entries)) i l .plan
+      plans-low i l = assignable-byte _ (each FitsEntry 2 pairFrom k (drop (bucketPlace n r (b1 + b2)) xs) (rw base-read at (h .entries)) i l .plan)
 
 -- the header, then the records, in front of an output with room for them
 pub front-put : (n : ℕ) (F : Format) (xs out o : List ℕ) → length (planeBytes F (planeOf (tableFrom n (F .words) xs))) ≤ length out

@@ -18,7 +18,7 @@ use Rattle.table.specs.Table.{Table, bucketOf, holds}
 use Rattle.table.specs.Calls.{rows, solutions, tableOf, shaped, sound}
 use Rattle.plane.specs.Record.{format1, PlaneBucket}
 use Rattle.plane.specs.Plane.{Plane, planeBytes}
-use Rattle.plane.specs.Lookup.{orStranger}
+use Rattle.plane.specs.Lookup.{orDesk}
 
 -- a bucket as the posts see it: no columns, no mark
 abbrev pub seenOf : Bucket → PlaneBucket
@@ -58,7 +58,7 @@ abbrev pub shownPlan : ℕ → ℕ → Table → ℕ → ℕ
 shownPlan n r T w =
     cond (holds n r mixOf (T .level1) w) (lookup (bucketOf n r mixOf (T .level1) w) w)
     (cond (holds n r mixOf (T .level2) (secondOf w)) (lookup (bucketOf n r mixOf (T .level2) (secondOf w)) (secondOf w))
-    (orStranger (find (secondOf w) (T .base))))
+    (orDesk (find (secondOf w) (T .base))))
 
 -- for bytes that are handed in as an identifier
 abbrev pub shownTo : Table → Read → Answer

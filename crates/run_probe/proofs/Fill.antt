@@ -1,6 +1,7 @@
 -- A table is filled word by word, and is sound at each.
 -- Assumes nothing.
 use Prim.Native.Nat.{ℕ, suc, _+_, _%_, _^_, _≤_, _<_}
+use native.Mathlib.Nat.{mod-lt}
 use native.Mathlib.Numerals.{add-one}
 use native.Mathlib.Omega.{arith}
 use mathlib.Core.Path.{_≡_, refl, sym, ap, _∙_, subst, subst⁻¹}
@@ -9,6 +10,8 @@ use mathlib.Core.List.{List, []}
 use lib.Dec.{eqb}
 use lib.ListN.{length, getD, drop, drop-of-length-le}
 use lib.Seq.{drop-cons}
+use borrow.Author.Tests.{lt-ltb}
+use Rattle.lists.specs.Entries.{deskPlan, assignable}
 use Rattle.answer.specs.declared.Answer.{Answer}
 use Rattle.answer.specs.declared.Answer.the-variants.{Accepted}
 use Rattle.lists.proofs.Tests.{by-test, cond-true, cond-false}
@@ -20,6 +23,10 @@ use Rattle.table.proofs.Statements.{opening-stands, stands-sound, served-sound}
 use Rattle.table_calls.specs.Ready.{Ready}
 use Rattle.run_probe.specs.Steps.{Probed}
 use Rattle.run_probe.specs.Fill.{addOf, takenFrom, filled}
+
+-- the plan of each word may be given
+pub low-plan : (w : ℕ) → assignable (w % 128) ≡ true
+low-plan w = let l : w % 128 < 128 = mod-lt w (omega arith) in lt-ltb (w % 128) deskPlan (omega arith)
 
 -- the code's test of the answer a, which the definition calls b
 pub tested : {a b : Answer} {x y : Bool} → a ≡ b → x ≡ accepted a → x ≡ y → accepted b ≡ y
@@ -45,7 +52,7 @@ module _ (t₀ ws t : List ℕ) (i : ℕ) (h : Filling t₀ ws t i) where
 
     pub filling-next : w < 2 ^ 64 → accepted (addOf t w .answer) ≡ true → Filling t₀ ws u (i + 1)
     filling-next small y =
-        let k = served-sound t (h .ready .shape) (h .ready .sound) w small (add [] (w % 256)) (omega arith) in
+        let k = served-sound t (h .ready .shape) (h .ready .sound) w small (add [] (w % 128)) (low-plan w) in
         subst⁻¹ (λ (v : List ℕ). Filling t₀ ws v (i + 1)) q (record {
           ready = record { shape = k .0; sound = k .1 };
           same = rw add-one (sym (cond-true _ _ y) ∙ here);

@@ -158,7 +158,7 @@ fn accepted(a: Answer) -> bool
     answer::number(a) == 0
 }
 
-// Adds of the words to a sound table, each with its low byte as plan, until the first refusal: how many were accepted.
+// Adds of the words to a sound table, each with its low seven bits as plan, until the first refusal: how many were accepted.
 fn add_all(t: &mut [u64], words: &[u64]) -> u64
     requires { ⌜ Ready (now t) ⌝ }
     ensures { λ r. ⌜ (r ≡ takenFrom 0 (now (t .entry)) (now (words .entry)) .number) × (now (t .exit) ≡ takenFrom 0 (now (t .entry)) (now (words .entry)) .words) ⌝ }
@@ -166,7 +166,7 @@ fn add_all(t: &mut [u64], words: &[u64]) -> u64
     let mut i: usize = 0;
     while i < words.len() {
         let w = words[i];
-        if accepted(table_add::add_word(t, w, w % 256)) {
+        if accepted(table_add::add_word(t, w, w % 128)) {
             i += 1;
         } else {
             return i as u64;

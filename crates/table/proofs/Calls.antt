@@ -10,9 +10,10 @@ use mathlib.Core.List.{List, List·Permᴰ}
 use lib.Dec.{ltb, leb}
 use lib.ListN.{length, getD}
 use borrow.Author.Tests.{eqb-true, eq-eqb, leb-true, le-leb, ltb-false}
-use Rattle.lists.specs.Entries.{Entry, find, update, remove}
+use Rattle.lists.specs.Entries.{Entry, assignable, find, update, remove}
 use Rattle.lists.specs.Totals.{planCount}
 use Rattle.lists.proofs.Tests.{cond-true, and-one, and-two, and-both}
+use Rattle.lists.proofs.Entries.{assignable-byte}
 use Rattle.lists.proofs.Totals.{totals-length, totals-at}
 use Rattle.hash.specs.Mix.{mixOf, unmixOf}
 use Rattle.hash.proofs.Inverse.{mix-lt, unmix-lt, unmix-mix, mix-unmix}
@@ -23,15 +24,15 @@ use Rattle.bucket.specs.declared.Bucket.{Bucket}
 use Rattle.model.specs.Levels.{firstLevel, secondLevel}
 use Rattle.model.specs.Model as M
 use Rattle.model.specs.Model.{baseLimit, Size, State, Call, add, change, withdraw, query, opened, withLive, wouldLeave, base, stepAdd, stepLive, step}
-use Rattle.model.specs.Request.{Token, wordFor, askOf, serveRead, serve, Request, ask, respond}
-use Rattle.model.proofs.Requests.{word-small}
+use Rattle.model.specs.Request.{Token, planAllowed, wordFor, askOf, serveRead, serve, Request, ask, respond}
+use Rattle.model.proofs.Requests.{word-small, word-plan}
 use Rattle.table.specs.Table.{Table, totalNumbers, openTable, changedIn, withdrawnFrom, addedTo}
 use Rattle.table.specs.Layout.{leading, buckets1At, buckets2At, mostBuckets1, inRange, numbersOf, unusedIn, lengthOf}
 use Rattle.table.specs.Content.{entriesOf}
 use Rattle.table.specs.Sound.{SoundLevel, SoundTable}
 use Rattle.table.specs.Test.{shapeTest}
 use Rattle.table.specs.Calls.{rows, solutions, tableOf, planIn, shaped, sound, FlatSound, Outcome, turnedDown, joined, replaced, queried, served, callRead, call, totalCall}
-use Rattle.table.specs.History.{PlanFits, PlansFit, request, flatState}
+use Rattle.table.specs.History.{request, flatState}
 use Rattle.table.proofs.Numbers.{AllShaped, ShapedTable, Laid, header-read, total-read, back, laid}
 use Rattle.table.proofs.Stand.{Stands, open-stands, look, change-stands, withdraw-stands, based-length, add-stands}
 use Rattle.table.proofs.Content.{table-entries, table-live}
@@ -89,7 +90,7 @@ size-shape t h e = and-both (le-leb leading (length t) (omega (arith, e))) (and-
 pub numbers-stand : (T : Table) (s : State) → Stands rows solutions mixOf T s → inRange (s .size .buckets1) (s .size .buckets2) ≡ true → FlatStands (numbersOf T) s
 unfolding numbersOf
 numbers-stand T s st h =
-    let g = sound-shaped T (stands-sound rows solutions mixOf unmixOf keeps keepsU unmix-mix mix-unmix refl T s st) in
+    let g = sound-shaped T (stands-sound rows solutions mixOf unmixOf keeps keepsU unmix-mix mix-unmix T s st) in
     let k = laid rows solutions T g in
     record {
       shape = size-shape (numbersOf T) (ap₂ inRange (st .level1 .count) (st .level2 .count) ∙ h) (k .size);
@@ -107,7 +108,7 @@ module _ (t : List ℕ) (s : State) (h : FlatStands t s) where
       ap₂ inRange (sym (h .stands .level1 .count) ∙ k .0) (sym (h .stands .level2 .count) ∙ k .1) ∙ shape-range rows solutions t (h .shape)
 
   pub stands-flat : FlatSound t
-  stands-flat = record { table = stands-sound rows solutions mixOf unmixOf keeps keepsU unmix-mix mix-unmix refl T₀ s (h .stands); unused = h .unused }
+  stands-flat = record { table = stands-sound rows solutions mixOf unmixOf keeps keepsU unmix-mix mix-unmix T₀ s (h .stands); unused = h .unused }
 
   pub stands-test : sound t ≡ true
   stands-test = sound-test rows solutions mixOf unmixOf t stands-flat
@@ -150,44 +151,45 @@ module _ (t : List ℕ) (s : State) (h : FlatStands t s) where
     live-match u es k =
         by-plan (replaced t u) (stepLive s es) (λ e. record { says = refl; stands = h }) (λ q e. record { says = refl; stands = numbers-stand (u q) (withLive s es) (k q e) range })
 
-    add-match : (p : ℕ) → p < 2 ^ solutions
+    add-match : (p : ℕ) → assignable p ≡ true
         → Match (joined t (addedTo rows solutions mixOf T₀ (record { word = w; plan = p })) (planIn t w)) (step firstLevel secondLevel s (add w p))
-    add-match p hp =
+    add-match p a =
         let e : Entry = record { word = w; plan = p } in
+        let fits : (w < 2 ^ rows) × (p < 2 ^ solutions) = (l, assignable-byte p a) in
         let u : Table = addedTo rows solutions mixOf T₀ e in
         let t′ : State = wouldLeave firstLevel secondLevel s e in
         by-plan (joined t u) (stepAdd firstLevel secondLevel s e)
         (λ f.
         subst⁻¹ (λ (k : ℕ). Match (cond (ltb baseLimit k) (turnedDown Full t) (record { answer = Accepted (u .count); table = numbersOf u })) (M.unlessFull firstLevel secondLevel s t′))
-        (based-length rows solutions mixOf keeps one T₀ s (h .stands) e (l, hp) f)
+        (based-length rows solutions mixOf keeps one T₀ s (h .stands) e fits a f)
         (match-test (ltb baseLimit (length (base firstLevel secondLevel t′))) (λ b. record { says = refl; stands = h })
         (λ b.
-        let k = add-stands rows solutions mixOf keeps one T₀ s (h .stands) e (l, hp) f (ltb-false baseLimit _ b) in
+        let k = add-stands rows solutions mixOf keeps one T₀ s (h .stands) e fits a f (ltb-false baseLimit _ b) in
         record { says = ap Accepted (k .counted); stands = numbers-stand u t′ k range })))
         (λ q f. record { says = refl; stands = h })
 
-    -- the causes 1, 2, 4 and 5 are not met
-    pub served-match : (c : Call Token) → PlanFits c → Match (served t w c) (step firstLevel secondLevel s (askOf w c))
+    -- the causes 1, 2, 14, 4 and 5 are not met
+    pub served-match : (c : Call Token) → planAllowed c ≡ true → Match (served t w c) (step firstLevel secondLevel s (askOf w c))
     unfolding served
     served-match (add i p) k = add-match p k
-    served-match (change i p) k = live-match (changedIn rows solutions mixOf T₀ w p) (update (record { word = w; plan = p }) (s .live)) (λ q f. change-stands rows solutions mixOf keeps one T₀ s (h .stands) w l p q k f)
+    served-match (change i p) k = live-match (changedIn rows solutions mixOf T₀ w p) (update (record { word = w; plan = p }) (s .live)) (λ q f. change-stands rows solutions mixOf keeps one T₀ s (h .stands) w l p q (assignable-byte p k) k f)
     served-match (withdraw i) k = live-match (withdrawnFrom rows solutions mixOf T₀ w) (remove w (s .live)) (λ q f. withdraw-stands rows solutions mixOf keeps one T₀ s (h .stands) w l q f)
     served-match (query i) k = by-plan (queried t) (stepLive s (s .live)) (λ e. record { says = refl; stands = h }) (λ q e. record { says = refl; stands = h })
 
   -- each call follows the model
-  pub call-match : (c : Call Token) → PlanFits c → Match (call t c) (serve s c)
+  pub call-match : (c : Call Token) → Match (call t c) (serve s c)
   unfolding call
-  call-match c k = go (wordFor c) refl
+  call-match c = go (wordFor c) refl
     where
       go : (x : Read) → wordFor c ≡ x → Match (callRead t c x) (serveRead s c x)
       go (Refused a) e = record { says = refl; stands = h }
       go (Word w) e =
           subst⁻¹ (λ (o : Outcome). Match o (step firstLevel secondLevel s (askOf w c))) (cond-true _ _ (h .shape) ∙ cond-true _ _ stands-test)
-          (served-match w (word-small c w e) c k)
+          (served-match w (word-small c w e) c (word-plan c w e))
 
   -- and so does each request
-  pub request-match : (q : Request) → PlansFit q → Match (request t q) (respond s q)
-  request-match (ask c) k = call-match c k
+  pub request-match : (q : Request) → Match (request t q) (respond s q)
+  request-match (ask c) = call-match c
 
 -- ---- opening, and sound numbers
 
@@ -214,4 +216,4 @@ sound-laid t k h = record {
 pub sound-exactly : (t : List ℕ) → shaped t ≡ true → ((i : ℕ) → getD t i 0 < 2 ^ rows) → (sound t ≡ true) ↔ FlatSound t
 sound-exactly t k b =
     let g = range-some (getD t buckets1At 0) (getD t buckets2At 0) (shape-range rows solutions t k) in
-    (test-sound rows solutions mixOf unmixOf t (shape-size rows solutions t k) b (g .0) (g .1), sound-test rows solutions mixOf unmixOf t)
+    (test-sound rows solutions mixOf unmixOf t refl (shape-size rows solutions t k) b (g .0) (g .1), sound-test rows solutions mixOf unmixOf t)

@@ -2,35 +2,38 @@
 -- Assumes nothing.
 use Prim.Native.Nat.{ℕ, suc, _+_, _^_, _<_}
 use mathlib.Core.Path.{_≡_, refl, sym, ap, _∙_, subst⁻¹}
-use mathlib.Core.Bool.{Bool, true, false, cond, true≢false, _&&_}
+use mathlib.Core.Bool.{Bool, true, false, not, cond, true≢false, _&&_}
 use mathlib.Core.Logic.{_⊎_, inl, inr, ⊎-elim, _↔_}
 use mathlib.Core.Option.{Option, none, some}
-use mathlib.Core.List.{List, [], _∷_}
+use mathlib.Core.List.{List, [], _∷_, _++_}
 use lib.Dec.{eqb, ltb, leb, lit<}
 use lib.ListN.{length, getD}
-use borrow.Author.Tests.{ltb-true, lt-ltb, leb-false, lt-leb, eqb-false, ne-eqb}
-use Rattle.lists.specs.Entries.{Entry, find, update, remove}
+use borrow.Author.Tests.{eq-eqb, ltb-true, lt-ltb, leb-false, lt-leb, eqb-false, ne-eqb, not-true}
+use Rattle.lists.specs.Entries.{Entry, assignable, find, update, remove}
 use Rattle.lists.proofs.Entries.{insert-length, none≢some}
-use Rattle.lists.proofs.Tests.{cases, cond-true}
+use Rattle.lists.proofs.Tests.{by-test, cases, cond-true, and-one, and-two}
+use Rattle.hash.specs.Mix.{mixOf}
 use Rattle.answer.specs.declared.Answer.{Answer}
-use Rattle.answer.specs.declared.Answer.the-variants.{WrongTable, NotSound}
+use Rattle.answer.specs.declared.Answer.the-variants.{WrongTable, NotSound, DeskPlanGiven}
 use Rattle.answer.specs.Numbers.{numberOf, valueOf}
-use Rattle.answer.specs.Causes.{Cause, InOrder, Exactly}
+use Rattle.answer.specs.Causes.{Cause, InOrder, NotAmong, Apart, Exactly}
 use Rattle.answer.proofs.Causes.{One, OneEach, one-value, one-if, Given, exactly, unless-met, if-met}
-use Rattle.identifier.specs.Identifier.{wordOf}
+use Rattle.identifier.specs.Identifier.{sized, firstRefused, wordOf, readOf}
 use Rattle.identifier.specs.Causes.{wrongLength, wrongByte}
-use Rattle.identifier.specs.declared.Read.the-variants.{Word}
-use Rattle.identifier.proofs.Causes.{one-byte, identifier-given}
+use Rattle.identifier.specs.declared.Read.{Read}
+use Rattle.identifier.specs.declared.Read.the-variants.{Word, Refused}
+use Rattle.identifier.proofs.Causes.{one-byte, identifier-given, refused≢word}
 use Rattle.identifier.proofs.Words.{word-lt}
 use Rattle.model.specs.Levels.{firstLevel, secondLevel}
 use Rattle.model.specs.Model as M
 use Rattle.model.specs.Model.{baseLimit, Call, add, change, withdraw, query, wouldLeave, base, stepAdd, stepLive, step}
-use Rattle.model.specs.Request.{Token, subject, askOf}
+use Rattle.model.specs.Request.{Token, subject, planAllowed, withPlan, askOf}
+use Rattle.table.specs.Table.{Table, addedTo}
 use Rattle.table.specs.Layout.{leading, buckets1At, buckets2At, totalsAt, inRange, lengthOf}
 use Rattle.table.specs.Test.{shapeTest}
-use Rattle.table.specs.Calls.{rows, solutions, shaped, sound, FlatSound, Outcome, turnedDown, openCall, served, callRead, call, totalCall}
-use Rattle.table.specs.History.{PlanFits, flatState}
-use Rattle.table.specs.Causes.{wrongRoom, Misshapen, wrongTable, notSound, LivePlan, notLive, openCauses, openReturns, wordCauses, callCauses, soundCauses, callReturns, totalCauses, totalReturns}
+use Rattle.table.specs.Calls.{rows, solutions, tableOf, planIn, shaped, sound, FlatSound, Outcome, turnedDown, openCall, queried, replaced, joined, served, callRead, call, totalCall}
+use Rattle.table.specs.History.{flatState}
+use Rattle.table.specs.Causes.{wrongRoom, Misshapen, wrongTable, notSound, wrongPlan, LivePlan, notLive, openCauses, openReturns, wordCauses, planCauses, callCauses, soundCauses, callReturns, totalCauses, totalReturns}
 use Rattle.table.proofs.Calls.{stands-test, served-match, sound-stands-flat, sound-exactly}
 
 -- ---- tests and what they say
@@ -101,8 +104,43 @@ word-order t (change i p) = (lit< tt, tt)
 word-order t (withdraw i) = (lit< tt, tt)
 word-order t (query i) = (lit< tt, tt)
 
-pub call-order : (t : List ℕ) (c : Call Token) → InOrder 0 (callCauses t c)
+pub call-order : (t : List ℕ) (c : Call Token) → InOrder 0 (wrongLength (subject c) ∷ wrongByte (subject c) ∷ wrongTable t ∷ notSound t ∷ wordCauses t c)
 call-order t c = (lit< tt, (lit< tt, (lit< tt, (lit< tt, word-order t c))))
+
+-- numbers differ where this test says so
+abbrev others : ℕ → List Cause → Bool
+others k [] = true
+others k (c ∷ cs) = not (eqb k (c .number)) && others k cs
+
+abbrev apartTest : List Cause → Bool
+apartTest [] = true
+apartTest (c ∷ cs) = not (eqb (c .number) 0) && (others (c .number) cs && apartTest cs)
+
+differ : (j k : ℕ) (b : Bool) → (not (eqb j k) && b) ≡ true → j ≡ k → ⊥
+differ j k b t = eqb-false j k (not-true (eqb j k) (and-one (not (eqb j k)) b t))
+
+others-out : (k : ℕ) (cs : List Cause) → others k cs ≡ true → NotAmong k cs
+others-out k [] t = tt
+others-out k (c ∷ cs) t = (differ k (c .number) _ t, others-out k cs (and-two (not (eqb k (c .number))) _ t))
+
+test-apart : (cs : List Cause) → apartTest cs ≡ true → Apart cs
+test-apart [] t = tt
+test-apart (c ∷ cs) t =
+    let r = and-two (not (eqb (c .number) 0)) _ t in
+    (differ (c .number) 0 _ t, (others-out (c .number) cs (and-one (others (c .number) cs) _ r), test-apart cs (and-two (others (c .number) cs) _ r)))
+
+-- no two causes of a call have one number
+pub call-apart : (t : List ℕ) (c : Call Token) → Apart (callCauses t c)
+call-apart t (add i p) = test-apart (callCauses t (add i p)) refl
+call-apart t (change i p) = test-apart (callCauses t (change i p)) refl
+call-apart t (withdraw i) = test-apart (callCauses t (withdraw i)) refl
+call-apart t (query i) = test-apart (callCauses t (query i)) refl
+
+one-plans : (t : List ℕ) (c : Call Token) (cs : List Cause) → OneEach cs (callReturns t c) → OneEach (planCauses c ++ cs) (callReturns t c)
+one-plans t (add i p) cs o = (one-if 14 _ 0, o)
+one-plans t (change i p) cs o = (one-if 14 _ 0, o)
+one-plans t (withdraw i) cs o = o
+one-plans t (query i) cs o = o
 
 module _ (t : List ℕ) where
   -- the model's answers by the word: change, withdrawal and query, which would leave the live words l
@@ -129,30 +167,78 @@ module _ (t : List ℕ) where
   step-given (withdraw i) = live-given i (remove (wordOf i) (flatState t .live)) (find (wordOf i) (flatState t .live)) refl
   step-given (query i) = live-given i (flatState t .live) (find (wordOf i) (flatState t .live)) refl
 
-  module _ (c : Call Token) (f : PlanFits c) where
+  given-14 : (c : Call Token) (p w : ℕ) (cs : List Cause) → (assignable p ≡ true → Given cs (callReturns t c) (callRead t c (Word w) .answer))
+      → Given (wrongPlan p ∷ cs) (callReturns t c) (callRead t c (cond (assignable p) (Word w) (Refused DeskPlanGiven)) .answer)
+  given-14 c p w cs g = unless-met (λ (r : Read). callRead t c r .answer) 14 _ 0 cs (callReturns t c) (assignable p) (Word w) (Refused DeskPlanGiven) (λ e. e, λ e. e) (refl, refl) g
+
+  -- cause 14, before the causes cs
+  plan-given : (c : Call Token) (w : ℕ) (cs : List Cause) → (planAllowed c ≡ true → Given cs (callReturns t c) (callRead t c (Word w) .answer))
+      → Given (planCauses c ++ cs) (callReturns t c) (callRead t c (withPlan (planAllowed c) (Word w)) .answer)
+  plan-given (add i p) w cs g = given-14 (add i p) p w cs g
+  plan-given (change i p) w cs g = given-14 (change i p) p w cs g
+  plan-given (withdraw i) w cs g = g refl
+  plan-given (query i) w cs g = g refl
+
+  module _ (c : Call Token) where
     -- a sound table answers as the model does
-    served-given : shaped t ≡ true → FlatSound t → Given (wordCauses t c) (callReturns t c) (served t (wordOf (subject c)) c .answer)
-    served-given k h =
+    served-given : planAllowed c ≡ true → shaped t ≡ true → FlatSound t → Given (wordCauses t c) (callReturns t c) (served t (wordOf (subject c)) c .answer)
+    served-given f k h =
         subst⁻¹ (Given (wordCauses t c) (callReturns t c))
         (served-match t (flatState t) (sound-stands-flat t k h) (wordOf (subject c)) (word-lt (subject c)) c f .says) (step-given c)
 
-    -- the causes cs after 1 and 2
-    by-read : (cs : List Cause) → OneEach cs (callReturns t c) → Given cs (callReturns t c) (callRead t c (Word (wordOf (subject c))) .answer)
-        → Exactly (wrongLength (subject c) ∷ wrongByte (subject c) ∷ cs) (callReturns t c) (call t c .answer)
+    -- the causes cs after 1, 2 and 14
+    by-read : (cs : List Cause) → OneEach cs (callReturns t c) → (planAllowed c ≡ true → Given cs (callReturns t c) (callRead t c (Word (wordOf (subject c))) .answer))
+        → Exactly (wrongLength (subject c) ∷ wrongByte (subject c) ∷ (planCauses c ++ cs)) (callReturns t c) (call t c .answer)
     unfolding call
     by-read cs o g =
-        exactly (wrongLength (subject c) ∷ wrongByte (subject c) ∷ cs) (callReturns t c) (call t c .answer)
-        (one-if 1 _ (length (subject c)), (one-byte (subject c), o))
-        (identifier-given (subject c) answerOf (callRead t c) (λ a. refl) cs (callReturns t c) (λ e. g))
+        exactly (wrongLength (subject c) ∷ wrongByte (subject c) ∷ (planCauses c ++ cs)) (callReturns t c) (call t c .answer)
+        (one-if 1 _ (length (subject c)), (one-byte (subject c), one-plans t c cs o))
+        (identifier-given (subject c) answerOf (λ r. callRead t c (withPlan (planAllowed c) r)) (λ a. refl) (planCauses c ++ cs) (callReturns t c)
+        (λ e. plan-given c (wordOf (subject c)) cs g))
 
     pub call-exactly : ((i : ℕ) → getD t i 0 < 2 ^ rows) → Exactly (callCauses t c) (callReturns t c) (call t c .answer)
     call-exactly b =
         by-read (wrongTable t ∷ notSound t ∷ wordCauses t c) (one-if 4 _ (length t), (one-if 5 _ 0, one-each t c))
-        (table-given t b answerOf (served t (wordOf (subject c)) c) (turnedDown NotSound t) (turnedDown (WrongTable (length t)) t) refl refl
-        (wordCauses t c) (callReturns t c) served-given)
+        (λ f. table-given t b answerOf (served t (wordOf (subject c)) c) (turnedDown NotSound t) (turnedDown (WrongTable (length t)) t) refl refl
+        (wordCauses t c) (callReturns t c) (served-given f))
 
     -- a sound table meets neither 4 nor 5
     pub sound-call : shaped t ≡ true → FlatSound t → Exactly (soundCauses t c) (callReturns t c) (call t c .answer)
     sound-call k h =
         by-read (wordCauses t c) (one-each t c)
-        (subst⁻¹ (λ (o : Outcome). Given (wordCauses t c) (callReturns t c) (o .answer)) (cond-true _ _ k ∙ cond-true _ _ (stands-test t (flatState t) (sound-stands-flat t k h))) (served-given k h))
+        (λ f. subst⁻¹ (λ (o : Outcome). Given (wordCauses t c) (callReturns t c) (o .answer)) (cond-true _ _ k ∙ cond-true _ _ (stands-test t (flatState t) (sound-stands-flat t k h))) (served-given f k h))
+
+-- ---- cause 14, whatever the table
+
+-- the numbers of the other answers
+not-14 : (k : ℕ) → eqb k 14 ≡ false → k ≡ 14 → ⊥
+not-14 k l e = true≢false (sym (eq-eqb k 14 e) ∙ l)
+
+module _ (t : List ℕ) where
+  -- an answer with another number
+  abbrev Other : Outcome → Type 0
+  Other o = numberOf (o .answer) ≡ 14 → ⊥
+
+  other-by : (f : Option ℕ → Outcome) → Other (f none) → ((q : ℕ) → Other (f (some q))) → (o : Option ℕ) → Other (f o)
+  other-by f a b none = a
+  other-by f a b (some q) = b q
+
+  other-served : (w : ℕ) (c : Call Token) → Other (served t w c)
+  unfolding served
+  other-served w (add i p) =
+      let u : Table = addedTo rows solutions mixOf (tableOf t) (record { word = w; plan = p }) in
+      other-by (joined t u) (by-test Other (ltb baseLimit (length (u .base))) (λ b. not-14 8 refl) (λ b. not-14 0 refl)) (λ q. not-14 6 refl) (planIn t w)
+  other-served w (change i p) = other-by (replaced t _) (not-14 7 refl) (λ q. not-14 0 refl) (planIn t w)
+  other-served w (withdraw i) = other-by (replaced t _) (not-14 7 refl) (λ q. not-14 0 refl) (planIn t w)
+  other-served w (query i) = other-by (queried t) (not-14 7 refl) (λ q. not-14 0 refl) (planIn t w)
+
+  pub cause-14 : (c : Call Token) → (numberOf (call t c .answer) ≡ 14) ↔ ((readOf (subject c) ≡ Word (wordOf (subject c))) × (planAllowed c ≡ false))
+  unfolding call readOf
+  cause-14 c =
+      let i : Token = subject c in
+      let P : Read → Type 0 = (λ r. (numberOf (callRead t c (withPlan (planAllowed c) r) .answer) ≡ 14) ↔ ((r ≡ Word (wordOf i)) × (planAllowed c ≡ false))) in
+      by-test P (not (sized (length i))) (λ u. (λ e. absurd (not-14 1 refl e), λ q. absurd (refused≢word _ _ (q .0))))
+      (λ u. by-test P (ltb (firstRefused i) (length i)) (λ l. (λ e. absurd (not-14 2 refl e), λ q. absurd (refused≢word _ _ (q .0))))
+      (λ l. cases (planAllowed c)
+      (λ a. rw a (λ e. absurd (by-test Other (shaped t) (λ k. by-test Other (sound t) (λ h. other-served (wordOf i) c) (λ h. not-14 5 refl)) (λ k. not-14 4 refl) e), λ q. absurd (true≢false (q .1))))
+      (λ a. rw a (λ e. (refl, refl), λ q. refl))))

@@ -1,6 +1,6 @@
 -- Lists of requests put to the numbers of a table: they refine the model, so its laws hold of them. The two rules for adds, of every sound table.
 -- Assumes nothing.
-use Prim.Native.Nat.{ℕ, _<_}
+use Prim.Native.Nat.{ℕ}
 use native.Mathlib.Omega.{arith}
 use mathlib.Core.Path.{_≡_, refl, sym, ap, _∙_, subst}
 use mathlib.Core.Bool.{true, false, true≢false}
@@ -9,7 +9,6 @@ use mathlib.Core.Option.{Option, none, some}
 use mathlib.Core.List.{List, [], _∷_}
 use lib.Dec.{eqb, ltb}
 use lib.ListN.{length}
-use Rattle.lists.specs.Entries.{planLimit}
 use Rattle.lists.proofs.Tests.{by-test}
 use Rattle.hash.specs.Mix.{mixOf}
 use Rattle.answer.specs.declared.Answer.the-variants.{Accepted}
@@ -19,21 +18,21 @@ use Rattle.identifier.specs.declared.Read.the-variants.{Word, Refused}
 use Rattle.model.specs.Levels.{firstLevel, secondLevel}
 use Rattle.model.specs.Model as M
 use Rattle.model.specs.Model.{baseLimit, State, Call, add, change, withdraw, query, opened, base, step}
-use Rattle.model.specs.Request.{Token, wordFor, serve, Request, ask, respond}
+use Rattle.model.specs.Request.{Token, wordFor, serve, Request, ask, respond, callsOf}
 use Rattle.model.specs.Machine.{accepted, after, acceptedOf, Refines, Compares}
-use Rattle.model.specs.History.{callsIn}
-use Rattle.model.proofs.Calls.{StandsFor, stands-after, accepted-after}
-use Rattle.model.proofs.Requests.{serve-each, stands-for, respond-size}
+use Rattle.model.specs.History.{model, callsIn}
+use Rattle.model.proofs.Calls.{stands-after, accepted-after}
+use Rattle.model.proofs.Requests.{serve-each, respond-size}
 use Rattle.table.specs.Table.{Table, openTable, changedIn, withdrawnFrom, addedTo}
 use Rattle.table.specs.Layout.{inRange, numbersOf, lengthOf}
 use Rattle.table.specs.Calls.{rows, solutions, tableOf, planIn, shaped, sound, FlatSound, Outcome, openCall, joined, replaced, queried, served, callRead, call}
-use Rattle.table.specs.History.{Put, request, tables, states, callsOf, Opened, acceptedCalls, flatState, Same}
+use Rattle.table.specs.History.{request, tables, Opened, acceptedCalls, flatState, Same}
 use Rattle.table.proofs.Calls.{FlatStands, Match, stands-shows, call-match, request-match, open-stands-flat, sound-stands-flat}
 
 -- ---- the table refines the model
 
-pub refines : Refines tables states FlatStands
-refines = record { says = λ t s p h. request-match t s h (p .request) (p .fits) .says; goes = λ t s p h. request-match t s h (p .request) (p .fits) .stands }
+pub refines : Refines tables model FlatStands
+refines = record { says = λ t s q h. request-match t s h q .says; goes = λ t s q h. request-match t s h q .stands }
 
 pub compares : Compares FlatStands Same
 compares = record { one = λ t u s q e h g. sym (stands-shows t s h) ∙ e ∙ stands-shows u q g; same = λ t u s h g. stands-shows t s h ∙ sym (stands-shows u s g) }
@@ -95,29 +94,26 @@ module _ (t : List ℕ) where
 
 -- ---- after any list of requests since an accepted opening
 
-pub each-stands : StandsFor firstLevel secondLevel states callsOf
-each-stands = record { keeps = λ s p. stands-for .keeps s (p .request); each = λ s p. stands-for .each s (p .request) }
-
-pub size-after : (s : State) (ps : List Put) → after states s ps .size ≡ s .size
+pub size-after : (s : State) (qs : List Request) → after model s qs .size ≡ s .size
 size-after s [] = refl
-size-after s (p ∷ ps) = size-after (respond s (p .request) .after) ps ∙ respond-size s (p .request)
+size-after s (q ∷ qs) = size-after (respond s q .after) qs ∙ respond-size s q
 
-module _ (t : List ℕ) (o : Opened t) (ps : List Put) where
+module _ (t : List ℕ) (o : Opened t) (qs : List Request) where
   abbrev s₀ : State
   s₀ = opened (o .size)
 
   abbrev t₁ : List ℕ
-  t₁ = after tables t ps
+  t₁ = after tables t qs
 
   abbrev s₁ : State
-  s₁ = after states s₀ ps
+  s₁ = after model s₀ qs
 
   pub after-stands : FlatStands t₁ s₁
-  after-stands = stands-after tables states FlatStands refines t s₀ (opened-stands t o) ps
+  after-stands = stands-after tables model FlatStands refines t s₀ (opened-stands t o) qs
 
   -- the same calls are accepted as by the model
-  pub same-calls : callsIn callsOf (acceptedOf states s₀ ps) ≡ acceptedCalls t ps
-  same-calls = ap (callsIn callsOf) (sym (accepted-after tables states FlatStands refines t s₀ (opened-stands t o) ps))
+  pub same-calls : callsIn callsOf (acceptedOf model s₀ qs) ≡ acceptedCalls t qs
+  same-calls = ap (callsIn callsOf) (sym (accepted-after tables model FlatStands refines t s₀ (opened-stands t o) qs))
 
 -- ---- a sound table, also one handed in from elsewhere
 
@@ -128,12 +124,12 @@ module _ (t : List ℕ) (k : shaped t ≡ true) (h : FlatSound t) where
   st : FlatStands t s
   st = sound-stands-flat t k h
 
-  module _ (i : Token) (p : ℕ) (l : p < planLimit) where
+  module _ (i : Token) (p : ℕ) where
     abbrev t′ : List ℕ
     t′ = call t (add i p) .table
 
     pub m : Match (call t (add i p)) (serve s (add i p))
-    m = call-match t s st (add i p) l
+    m = call-match t s st (add i p)
 
     module _ (a : accepted (call t (add i p) .answer) ≡ true) where
       -- the add is the model's

@@ -13,7 +13,7 @@ use lib.ListN.{length, getD, set, length-set, length-map}
 use lib.Seq.{getD-set-same, getD-set-other, map-set-same}
 use borrow.Author.Tests.{eqb-true, eqb-false, eq-eqb}
 use Rattle.lists.specs.Lists.{keep, joined}
-use Rattle.lists.specs.Entries.{Entry, words, find, update, remove, sort, Distinct}
+use Rattle.lists.specs.Entries.{Entry, assignable, words, find, update, remove, sort, Distinct}
 use Rattle.lists.proofs.Tests.{by-test, cases, cond-true, cond-false}
 use Rattle.lists.proofs.Keep.{keep-perm, keep-keep, keep-map, keep-ext, keep-part, shuffle, map-set, getD-map-in}
 use Rattle.lists.proofs.Edits.{find-keep, remove-in, remove-out, update-in, update-out, remove-renamed, update-renamed, sort-update, sort-remove}
@@ -44,6 +44,10 @@ Fits n r e = (e .word < 2 ^ n) × (e .plan < 2 ^ r)
 
 abbrev pub Small : ℕ → ℕ → List Entry → Type 0
 Small n r es = (e : Entry) → List·Memᴰ e es → Fits n r e
+
+-- each has a plan that may be given
+abbrev pub Given : List Entry → Type 0
+Given es = (e : Entry) → List·Memᴰ e es → assignable (e .plan) ≡ true
 
 -- a test of a number that is i is one of i
 pub at-one : (f : ℕ → Bool) (k i : ℕ) → (f k && eqb k i) ≡ (eqb k i && f i)

@@ -12,11 +12,11 @@ use lib.Dec.{eqb, ltb}
 use lib.ListN.{length, getD}
 use borrow.Author.Tests.{eqb-true, eq-eqb, ltb-true, lt-ltb, not-true}
 use Rattle.lists.specs.Lists.{keep, countFrom}
-use Rattle.lists.specs.Entries.{Entry, words, sort, Ascending, Distinct, planLimit}
+use Rattle.lists.specs.Entries.{Entry, assignable, words, sort, Ascending, Distinct, planLimit}
 use Rattle.lists.specs.Totals.{totalsOf}
 use Rattle.lists.proofs.Totals.{totals-perm}
 use Rattle.lists.proofs.Keep.{keep-in, keep-out, count-in, count-lt}
-use Rattle.lists.proofs.Entries.{ascending-ext}
+use Rattle.lists.proofs.Entries.{assignable-byte, ascending-ext}
 use Rattle.lists.proofs.Sorts.{mem-perm, sort-perm, sort-mem, mem-sort, sort-ascending, sort-length, keep-distinct, ascending-distinct, distinct-ext}
 use Rattle.lists.proofs.Edits.{distinct-append, distinct-renamed}
 use Rattle.gf2.specs.Bound.{Free}
@@ -34,7 +34,7 @@ use Rattle.model.proofs.Valid.{Valid}
 use Rattle.table.specs.Table.{Table, totalNumbers, bounds, thr, index, onSecond, nth, holds}
 use Rattle.table.specs.Content.{occupied, allRows, backOf, entriesOf, liveOf, stateOf}
 use Rattle.table.specs.Sound.{Row, SoundLevel, SoundTable}
-use Rattle.table.proofs.Level.{Fits, Small, bounds-length, bound-at, firstLevel, secondLevel, within, dueIn, due-in, LevelHolds, holds-test}
+use Rattle.table.proofs.Level.{Fits, Small, Given, bounds-length, bound-at, firstLevel, secondLevel, within, dueIn, due-in, LevelHolds, holds-test}
 use Rattle.table.proofs.Stand.{passes, later, last, due-map, words-second, last-length, Stands, test1, test2, distinct-later, distinct-last}
 use Rattle.table.proofs.Content.{all-length, entries-length, table-entries, table-count}
 
@@ -81,6 +81,10 @@ distinct-all n r g i (b ∷ bs) d h =
     let w : g (x .word) ≡ g (y .word) = ap g q in
     omega arith)
 
+-- the plans of base entries may be given
+pub base-given : (n r : ℕ) (S U : ℕ → ℕ) (T : Table) → SoundTable n r S U T → (e : Entry) → List·Memᴰ e (T .base) → assignable (e .plan) ≡ true
+base-given n r S U T h e m = h .given (backOf U e) (Memᴰ·append-right (allRows n (T .level1)) (Memᴰ·map (backOf U) (Memᴰ·append-right (allRows n (T .level2)) m)))
+
 clash : {b : Bool} → b ≡ true → b ≡ false → ⊥
 clash p q = true≢false (sym p ∙ q)
 
@@ -99,7 +103,7 @@ module _ (n r : ℕ) (S : ℕ → ℕ) (bs : List Bucket) (h : SoundLevel n r S 
       let q = row-of (k .0) (k .1) e (k .2) in
       row-held (k .0) (e .word) (h .here (k .0) (e .word) q) (h .low (k .0) (e .word) q)
 
-  level-small : Small n r (allRows n bs)
+  pub level-small : Small n r (allRows n bs)
   level-small e m =
       let k = all-out n r bs e m in
       let c = contents-out n (nth n r bs (k .0)) e (k .2) in
@@ -192,7 +196,7 @@ module _ (n r : ℕ) (S U : ℕ → ℕ) (keeps : (x : ℕ) → x < 2 ^ n → S 
 
     small2 : Small n r E2
     small2 e m =
-        ⊎-elim {C = Fits n r e} (level-small n r S (T .level2) (h .level2) e) (λ b. (h .base-words e b .0, subst⁻¹ (λ (k : ℕ). e .plan < k) bytes (h .base-plans e b))) (List·Memᴰ·append-cases (allRows n (T .level2)) m)
+        ⊎-elim {C = Fits n r e} (level-small n r S (T .level2) (h .level2) e) (λ b. (h .base-words e b .0, subst⁻¹ (λ (k : ℕ). e .plan < k) bytes (assignable-byte (e .plan) (base-given n r S U T h e b)))) (List·Memᴰ·append-cases (allRows n (T .level2)) m)
 
     distinct-rows : Distinct (entriesOf n U T)
     distinct-rows =
@@ -290,6 +294,10 @@ module _ (n r : ℕ) (S U : ℕ → ℕ) (keeps : (x : ℕ) → x < 2 ^ n → S 
         h .counts
         ∙ sym (sort-length (entriesOf n U T) ∙ entries-length n U T (level-count n r S (T .level1) (h .level1)) (level-count n r S (T .level2) (h .level2)))
 
+    given-live : Given (s .live)
+    unfolding liveOf
+    given-live e m = h .given e (sort-mem (entriesOf n U T) e m)
+
     totals-are : T .totals ≡ totalsOf totalNumbers (s .live)
     unfolding liveOf
     totals-are = h .totals ∙ sym (totals-perm totalNumbers (sort-perm (entriesOf n U T)))
@@ -300,6 +308,7 @@ module _ (n r : ℕ) (S U : ℕ → ℕ) (keeps : (x : ℕ) → x < 2 ^ n → S 
       pos1 = h .level1 .some;
       pos2 = h .level2 .some;
       small = small-live;
+      given = given-live;
       level1 = on1;
       bounds1 = refl;
       level2 = on2;
@@ -311,7 +320,7 @@ module _ (n r : ℕ) (S U : ℕ → ℕ) (keeps : (x : ℕ) → x < 2 ^ n → S 
 
   -- ---- and a table that stands for a state is sound
 
-  module _ (bytes : 2 ^ r ≡ planLimit) (T : Table) (s : State) (st : Stands n r S T s) where
+  module _ (T : Table) (s : State) (st : Stands n r S T s) where
     -- what is due at the second level passed the first
     came : (e : Entry) → List·Memᴰ e (later S s) → Fits n r e × (holds n r S (T .level1) (U (U (e .word))) ≡ false)
     came e m =
@@ -329,6 +338,7 @@ module _ (n r : ℕ) (S U : ℕ → ℕ) (keeps : (x : ℕ) → x < 2 ^ n → S 
       fits = subst⁻¹ (λ (k : ℕ). k ≤ baseLimit) (ap length (st .based) ∙ sort-length (last S s) ∙ last-length S s) (st .valid .fits);
       counts = table-count n r S U keeps undo T s st;
       totals = st .totalled ∙ sym (totals-perm totalNumbers (table-entries n r S U keeps undo T s st));
+      given = λ e m. st .given e (mem-perm (Permᴰ·symm (table-entries n r S U keeps undo T s st)) e m);
       level1 = holds-level n r S (s .size .buckets1) (T .level1) (s .live) (st .level1) (st .pos1) (s .bounds1) (st .bounds1) (st .valid .low1);
       level2 = holds-level n r S (s .size .buckets2) (T .level2) (later S s) (st .level2) (st .pos2) (s .bounds2) (st .bounds2) (st .valid .low2);
       passed = λ i v q.
@@ -338,6 +348,5 @@ module _ (n r : ℕ) (S U : ℕ → ℕ) (keeps : (x : ℕ) → x < 2 ^ n → S 
           let k = last-of e m in
           let c = came e (k .0) in
           (c .0 .0, test2 n r S keeps one-to-one T s st (e .word) ∙ not-true _ (k .1), c .1);
-      base-plans = λ e m. subst (λ (k : ℕ). e .plan < k) bytes (came e (last-of e m .0) .0 .1);
       ascending = subst⁻¹ Ascending (st .based) (sort-ascending (last S s) (distinct-last n r S keeps one-to-one s (st .valid) (st .small)));
     }

@@ -7,11 +7,11 @@ use mathlib.Core.Path.{_≡_, refl, sym, ap, ap₂, _∙_, subst, subst⁻¹, su
 use mathlib.Core.Bool.{Bool, true, false, not}
 use mathlib.Core.Logic.{⊎-elim}
 use mathlib.Core.Option.{Option, none, some}
-use mathlib.Core.List.{List, [], _∷_, _++_, map, map-map, map-append, Sublistᴰ, Sublistᴰ·refl, List·Permᴰ, List·Permᴰ·trans, Permᴰ·symm, Permᴰ·map, Permᴰ·append-left, List·Memᴰ·tail, List·Memᴰ·not-nil, List·Memᴰ·cases-cons, Memᴰ·of-map, Memᴰ·append-left}
+use mathlib.Core.List.{List, [], _∷_, _++_, map, map-map, map-append, Sublistᴰ, Sublistᴰ·refl, List·Permᴰ, List·Permᴰ·trans, Permᴰ·symm, Permᴰ·map, Permᴰ·append-left, List·Memᴰ, List·Memᴰ·tail, List·Memᴰ·not-nil, List·Memᴰ·cases-cons, Memᴰ·of-map, Memᴰ·append-left}
 use lib.Dec.{eqb}
 use lib.ListN.{length, getD, set, replicate, length-replicate, getD-replicate, length-map}
 use Rattle.lists.specs.Lists.{keep, tabulate, joined}
-use Rattle.lists.specs.Entries.{Entry, words, find, insert, update, remove, sort, insertAll, Ascending, Distinct}
+use Rattle.lists.specs.Entries.{Entry, assignable, words, find, insert, update, remove, sort, insertAll, Ascending, Distinct}
 use Rattle.lists.specs.Totals.{totalsOf, oneMore, oneLess}
 use Rattle.lists.proofs.Tests.{by-test}
 use Rattle.lists.proofs.Keep.{keep-perm, keep-map, keep-out, map-sub, perm-length, joined-perm}
@@ -30,7 +30,7 @@ use Rattle.model.proofs.Levels.{passed-words}
 use Rattle.model.proofs.Arrivals.{arrive, arrives, first, first-settled, second-settled}
 use Rattle.model.proofs.Valid.{Valid, valid-opened, valid-live, valid-settled}
 use Rattle.table.specs.Table.{Table, totalNumbers, zeroTotals, withCount, withTotals, Placed, bounds, index, second, onSecond, bucketOf, put, holds, planIn, openTable, touch, changedIn, withdrawnFrom, arriveAt, arriveAll, addedTo}
-use Rattle.table.proofs.Level.{Fits, Small, firstLevel, secondLevel, within, pass, LevelHolds, level-perm, Arrived, arrive-law, ArrivedAll, arrive-all, Edit, withdraw-edit, change-edit, holds-test, level-find, level-past, level-touch, touch-bounds, touch-keeps}
+use Rattle.table.proofs.Level.{Fits, Small, Given, firstLevel, secondLevel, within, pass, LevelHolds, level-perm, Arrived, arrive-law, ArrivedAll, arrive-all, Edit, withdraw-edit, change-edit, holds-test, level-find, level-past, level-touch, touch-bounds, touch-keeps}
 
 module _ (S : ℕ → ℕ) where
   -- the entries that the first level does not hold
@@ -79,6 +79,7 @@ module _ (n r : ℕ) (S : ℕ → ℕ) where
     pub pos1 : 0 < s .size .buckets1
     pub pos2 : 0 < s .size .buckets2
     pub small : Small n r (s .live)
+    pub given : Given (s .live)
     pub level1 : LevelHolds n r S (s .size .buckets1) (T .level1) (s .live)
     pub bounds1 : bounds (T .level1) ≡ s .bounds1
     pub level2 : LevelHolds n r S (s .size .buckets2) (T .level2) (later S s)
@@ -110,6 +111,7 @@ module _ (n r : ℕ) (S : ℕ → ℕ) where
     pos1 = p1;
     pos2 = p2;
     small = λ e m. absurd (List·Memᴰ·not-nil m);
+    given = λ e m. absurd (List·Memᴰ·not-nil m);
     level1 = open-level (z .buckets1);
     bounds1 = open-bounds (z .buckets1);
     level2 = open-level (z .buckets2);
@@ -119,13 +121,21 @@ module _ (n r : ℕ) (S : ℕ → ℕ) where
     totalled = open-totals;
   }
 
--- ---- live words that stay below 2 ^ n, plans below 2 ^ r
+-- ---- what each live word has (below 2 ^ n, its plan below 2 ^ r, one that may be given) stays so
 
-small-cons : (n r : ℕ) (e : Entry) (es : List Entry) → Fits n r e → Small n r es → Small n r (e ∷ es)
-small-cons n r e es h k x m = ⊎-elim {C = Fits n r x} (λ (q : x ≡ e). subst⁻¹ (Fits n r) q h) (k x) (List·Memᴰ·cases-cons m)
+module _ (P : Entry → Type 0) where
+  each-cons : (e : Entry) (es : List Entry) → P e → ((x : Entry) → List·Memᴰ x es → P x) → (x : Entry) → List·Memᴰ x (e ∷ es) → P x
+  each-cons e es h k x m = ⊎-elim {C = P x} (λ (q : x ≡ e). subst⁻¹ P q h) (k x) (List·Memᴰ·cases-cons m)
 
-small-perm : (n r : ℕ) {es fs : List Entry} → List·Permᴰ es fs → Small n r es → Small n r fs
-small-perm n r s h x m = h x (mem-perm s x m)
+  each-removed : (w q : ℕ) (es : List Entry) → find w es ≡ some q → ((x : Entry) → List·Memᴰ x es → P x) → (x : Entry) → List·Memᴰ x (remove w es) → P x
+  each-removed w q es f h x m = h x (mem-perm (remove-perm w q es f) x (List·Memᴰ·tail m))
+
+  each-updated : (d : Entry) (q : ℕ) (es : List Entry) → find (d .word) es ≡ some q → P d → ((x : Entry) → List·Memᴰ x es → P x)
+      → (x : Entry) → List·Memᴰ x (update d es) → P x
+  each-updated d q es f h k x m = each-cons d (remove (d .word) es) h (each-removed (d .word) q es f k) x (mem-perm (Permᴰ·symm (update-perm d q es f)) x m)
+
+  each-inserted : (e : Entry) (es : List Entry) → P e → ((x : Entry) → List·Memᴰ x es → P x) → (x : Entry) → List·Memᴰ x (insert e es) → P x
+  each-inserted e es h k x m = each-cons e es h k x (mem-perm (Permᴰ·symm (insert-perm e es)) x m)
 
 small-second : (n r : ℕ) (S : ℕ → ℕ) → ((x : ℕ) → x < 2 ^ n → S x < 2 ^ n) → (es : List Entry) → Small n r es → Small n r (map (onSecond S) es)
 small-second n r S keeps es h x m =
@@ -191,7 +201,7 @@ module _ (n r : ℕ) (S : ℕ → ℕ) (keeps : (x : ℕ) → x < 2 ^ n → S x 
       -- ---- change and withdraw
 
       module _ (f : ℕ → Bucket → Bucket) (g : ℕ → List Entry → List Entry) (edit : Edit n r S f g) (q : ℕ) (live : find w (s .live) ≡ some q)
-          (valid : Valid (firstLevel S) (secondLevel S) (withLive s (g w (s .live)))) (small : Small n r (g w (s .live))) where
+          (valid : Valid (firstLevel S) (secondLevel S) (withLive s (g w (s .live)))) (small : Small n r (g w (s .live))) (given : Given (g w (s .live))) where
         abbrev s′ : State
         s′ = withLive s (g w (s .live))
 
@@ -223,7 +233,7 @@ module _ (n r : ℕ) (S : ℕ → ℕ) (keeps : (x : ℕ) → x < 2 ^ n → S x 
             -- levels and a base list that stand for those of s′
             now : {b1 b2 : List Bucket} {es : List Entry} → LevelHolds n r S (s .size .buckets1) b1 (s′ .live) → bounds b1 ≡ s .bounds1
                 → LevelHolds n r S (s .size .buckets2) b2 (later S s′) → bounds b2 ≡ s .bounds2 → es ≡ sort (last S s′) → Stands n r S (record { level1 = b1; level2 = b2; base = es; count = c; totals = ts }) s′
-            now l1 e1 l2 e2 b = record { valid = valid; pos1 = st .pos1; pos2 = st .pos2; small = small; level1 = l1; bounds1 = e1; level2 = l2; bounds2 = e2; based = b; counted = count; totalled = total }
+            now l1 e1 l2 e2 b = record { valid = valid; pos1 = st .pos1; pos2 = st .pos2; small = small; given = given; level1 = l1; bounds1 = e1; level2 = l2; bounds2 = e2; based = b; counted = count; totalled = total }
 
             last-in : holds n r S (T .level1) w ≡ false → sort (last S s′) ≡ sort (pass S (s .size .buckets2) (s .bounds2) (g w′ (later S s)))
             last-in t = ap (λ (es : List Entry). sort (pass S (s .size .buckets2) (s .bounds2) es)) (later-in t)
@@ -236,24 +246,23 @@ module _ (n r : ℕ) (S : ℕ → ℕ) (keeps : (x : ℕ) → x < 2 ^ n → S x 
       withdraw-stands q f =
           touch-stands _ _ (withdraw-edit n r S inj) q f
           (valid-live (firstLevel S) (secondLevel S) s (st .valid) (remove w (s .live)) (remove-ascending w (s .live) (st .valid .ascending)) (map-sub (λ (e : Entry). e .word) (remove-sub w (s .live))))
-          (λ x m. st .small x (mem-perm (remove-perm w q (s .live) f) x (List·Memᴰ·tail m))) _ _
+          (each-removed (Fits n r) w q (s .live) f (st .small)) (each-removed (λ e. assignable (e .plan) ≡ true) w q (s .live) f (st .given)) _ _
           (let h = remove-length w q (s .live) f in let k = st .counted in omega arith)
           (ap (oneLess q) (st .totalled) ∙ sym (totals-remove totalNumbers w q (s .live) f))
 
-      pub change-stands : (p q : ℕ) → p < 2 ^ r → find w (s .live) ≡ some q → Stands n r S (changedIn n r S T w p q) (withLive s (update (record { word = w; plan = p }) (s .live)))
-      change-stands p q h f =
+      pub change-stands : (p q : ℕ) → p < 2 ^ r → assignable p ≡ true → find w (s .live) ≡ some q → Stands n r S (changedIn n r S T w p q) (withLive s (update (record { word = w; plan = p }) (s .live)))
+      change-stands p q h a f =
           let d : Entry = record { word = w; plan = p } in
           touch-stays _ _ (change-edit n r S inj p h) q f
           (valid-live (firstLevel S) (secondLevel S) s (st .valid) (update d (s .live)) (update-ascending d (s .live) (st .valid .ascending))
           (subst⁻¹ (λ (ws : List ℕ). Sublistᴰ ws (words (s .live))) (update-words d (s .live)) (Sublistᴰ·refl (words (s .live)))))
-          (small-perm n r (Permᴰ·symm (update-perm d q (s .live) f))
-          (small-cons n r d (remove w (s .live)) (l, h) (λ x m. st .small x (mem-perm (remove-perm w q (s .live) f) x (List·Memᴰ·tail m))))) _
+          (each-updated (Fits n r) d q (s .live) f (l, h) (st .small)) (each-updated (λ e. assignable (e .plan) ≡ true) d q (s .live) f a (st .given)) _
           (st .counted ∙ sym (update-length d (s .live)))
           (ap (λ (ts : List ℕ). oneMore p (oneLess q ts)) (st .totalled) ∙ sym (totals-update totalNumbers w q (s .live) f p))
 
     -- ---- add
 
-    module _ (e : Entry) (fits : Fits n r e) (fresh : find (e .word) (s .live) ≡ none) where
+    module _ (e : Entry) (fits : Fits n r e) (assigned : assignable (e .plan) ≡ true) (fresh : find (e .word) (s .live) ≡ none) where
       -- the state that the model comes to
       abbrev t : State
       t = wouldLeave (firstLevel S) (secondLevel S) s e
@@ -278,7 +287,7 @@ module _ (n r : ℕ) (S : ℕ → ℕ) (keeps : (x : ℕ) → x < 2 ^ n → S x 
       leaves1 = subst₂ (λ (A B : List ℕ). List·Permᴰ (p1 .out ++ pass S (s .size .buckets1) A (s .live)) (pass S (s .size .buckets1) B (e ∷ s .live))) (st .bounds1) now1 (a1 .leaves)
 
       small-both : Small n r (e ∷ s .live)
-      small-both = small-cons n r e (s .live) fits (st .small)
+      small-both = each-cons (Fits n r) e (s .live) fits (st .small)
 
       small-out : Small n r (p1 .out)
       small-out x m =
@@ -327,13 +336,14 @@ module _ (n r : ℕ) (S : ℕ → ℕ) (keeps : (x : ℕ) → x < 2 ^ n → S x 
 
       pub add-stands : length (base (firstLevel S) (secondLevel S) t) ≤ baseLimit → Stands n r S (addedTo n r S T e) t
       add-stands h =
-          let small : Small n r (insert e (s .live)) = small-perm n r live-perm small-both in
+          let small : Small n r (insert e (s .live)) = each-inserted (Fits n r) e (s .live) fits (st .small) in
           let valid = valid-settled (firstLevel S) (secondLevel S) s (st .valid) (insert e (s .live)) (insert-ascending e (s .live) (st .valid .ascending) fresh) h in
           record {
             valid = valid;
             pos1 = st .pos1;
             pos2 = st .pos2;
             small = small;
+            given = each-inserted (λ x. assignable (x .plan) ≡ true) e (s .live) assigned (st .given);
             level1 = level-perm n r S live-perm (a1 .level);
             bounds1 = now1;
             level2 = level-perm n r S due2 (a2 .level);

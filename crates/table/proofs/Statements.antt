@@ -10,9 +10,9 @@ use mathlib.Core.Option.{none, some}
 use mathlib.Core.List.{List, _∷_, _++_, List·Permᴰ}
 use lib.Dec.{eqb}
 use lib.ListN.{length, getD, set, take, drop}
-use borrow.Author.Tests.{eqb-true, eq-eqb}
+use borrow.Author.Tests.{eqb-true, eq-eqb, ltb-true}
 use Rattle.lists.specs.Lists.{keep}
-use Rattle.lists.specs.Entries.{Entry, words, planLimit, find}
+use Rattle.lists.specs.Entries.{Entry, planLimit, deskPlan, assignable, words, find}
 use Rattle.lists.specs.Totals.{planCount, totalsOf, sumOf}
 use Rattle.lists.proofs.Tests.{cond-true}
 use Rattle.lists.proofs.Keep.{keep-in, keep-out}
@@ -23,19 +23,21 @@ use Rattle.answer.specs.declared.Answer.{Answer}
 use Rattle.answer.specs.declared.Answer.the-variants.{Accepted, NotLive, Full}
 use Rattle.answer.specs.Numbers.{numberOf, valueOf}
 use Rattle.answer.specs.Causes.{Cause, NoneMet, InOrder, Apart, Exactly}
-use Rattle.answer.proofs.Causes.{in-order-apart, number-exactly, accepted-exactly}
+use Rattle.answer.proofs.Causes.{number-exactly, accepted-exactly}
+use Rattle.identifier.specs.Identifier.{wordOf, readOf}
+use Rattle.identifier.specs.Causes.{wrongLength, wrongByte}
 use Rattle.identifier.specs.declared.Read.{Read}
 use Rattle.identifier.specs.declared.Read.the-variants.{Word}
 use Rattle.bucket.specs.declared.Bucket.{Bucket}
 use Rattle.bucket_words.specs.Words.{bucketWords, wordsOf, bucketFrom}
 use Rattle.model.specs.Levels.{firstLevel, secondLevel, passed, due}
 use Rattle.model.specs.Model.{State, Call, add, query, opened, wouldLeave, base}
-use Rattle.model.specs.Request.{Token, wordFor, serveRead, Request}
+use Rattle.model.specs.Request.{Token, subject, planAllowed, wordFor, serveRead, Request, callsOf}
 use Rattle.model.specs.Machine.{accepted, after, answers, Alike, Refines}
-use Rattle.model.specs.History.{addsIn, withdrawalsIn, told}
+use Rattle.model.specs.History.{model, addsIn, withdrawalsIn, told}
 use Rattle.model.proofs.Valid.{valid-opened}
 use Rattle.model.proofs.Calls.{count-after, told-after}
-use Rattle.model.proofs.Requests.{word-small}
+use Rattle.model.proofs.Requests.{word-small, stands-for}
 use Rattle.model.proofs.Statements as Model
 use Rattle.table.specs.Table.{Table, totalNumbers, withFirst, withSecond, bounds, nth, addedTo}
 use Rattle.table.specs.Layout.{buckets1At, buckets2At, baseCountAt, liveCountAt, numbersOf, tableFrom, bucketPlace, lengthOf, longest}
@@ -43,8 +45,8 @@ use Rattle.table.specs.Content.{entriesOf}
 use Rattle.table.specs.AtOnce.{addedAtOnce}
 use Rattle.table.specs.Sound.{SoundTable}
 use Rattle.table.specs.Calls.{rows, solutions, tableOf, planIn, shaped, sound, FlatSound, openCall, queried, served, callRead, call, totalCall}
-use Rattle.table.specs.History.{PlanFits, Put, request, tables, states, callsOf, Opened, acceptedCalls, LiveWith, flatState, Same}
-use Rattle.table.specs.Causes.{openCauses, openReturns, callCauses, soundCauses, callReturns, totalCauses, totalReturns}
+use Rattle.table.specs.History.{request, tables, Opened, acceptedCalls, LiveWith, flatState, Same}
+use Rattle.table.specs.Causes.{openCauses, openReturns, wrongTable, notSound, wordCauses, callCauses, soundCauses, callReturns, totalCauses, totalReturns}
 use Rattle.table.proofs.Numbers as Numbers
 use Rattle.table.proofs.Numbers.{ShapedTable}
 use Rattle.lists.proofs.Totals as Totals
@@ -122,22 +124,27 @@ sound-exactly = Calls.sound-exactly
 pub open-causes : (b1 b2 : ℕ) (t : List ℕ) → Exactly (openCauses b1 b2 t) openReturns (openCall b1 b2 t .answer)
 open-causes = Causes.open-exactly
 
--- the numbers of a table have 64 bits; the plan of a call is a byte
-module _ (t : List ℕ) (b : (i : ℕ) → getD t i 0 < 2 ^ 64) (c : Call Token) (f : PlanFits c) where
+-- the numbers of a table have 64 bits
+module _ (t : List ℕ) (b : (i : ℕ) → getD t i 0 < 2 ^ 64) (c : Call Token) where
   pub call-causes : Exactly (callCauses t c) (callReturns t c) (call t c .answer)
-  call-causes = Causes.call-exactly t c f b
+  call-causes = Causes.call-exactly t c b
 
   -- read for one cause x: the call gives its number, with v, exactly if x is met with v and no cause before it is met
   pub call-cause : (before : List Cause) (x : Cause) (after : List Cause) → callCauses t c ≡ before ++ (x ∷ after) → (v : ℕ)
       → ((numberOf (call t c .answer) ≡ x .number) × (valueOf (call t c .answer) ≡ v)) ↔ (NoneMet before × x .met v)
   call-cause before x after e =
-      number-exactly before x after (callReturns t c) (call t c .answer) (subst Apart e (in-order-apart 0 (callCauses t c) (Causes.call-order t c)))
+      number-exactly before x after (callReturns t c) (call t c .answer) (subst Apart e (Causes.call-apart t c))
       (subst (λ (cs : List Cause). Exactly cs (callReturns t c) (call t c .answer)) e call-causes)
 
   -- "A call is accepted if it meets no cause"
   pub call-accepted : (v : ℕ)
       → ((numberOf (call t c .answer) ≡ 0) × (valueOf (call t c .answer) ≡ v)) ↔ (NoneMet (callCauses t c) × callReturns t c v)
-  call-accepted = accepted-exactly (callCauses t c) (callReturns t c) (call t c .answer) (in-order-apart 0 (callCauses t c) (Causes.call-order t c)) call-causes
+  call-accepted = accepted-exactly (callCauses t c) (callReturns t c) (call t c .answer) (Causes.call-apart t c) call-causes
+
+-- document 02, order 3, "plan 255 given, after cause 2": 14 exactly if the bytes are an identifier and the plan may not be given, whatever the
+-- table
+pub cause-14 : (t : List ℕ) (c : Call Token) → (numberOf (call t c .answer) ≡ 14) ↔ ((readOf (subject c) ≡ Word (wordOf (subject c))) × (planAllowed c ≡ false))
+cause-14 = Causes.cause-14
 
 -- document 02, order 2, "The question for one plan tests only cause 4 and reads one number": 4 exactly if the shape is wrong, else the number
 pub total-causes : (t : List ℕ) (p : ℕ) → Exactly (totalCauses t) (totalReturns t p) (totalCall t p)
@@ -147,10 +154,11 @@ total-causes = Causes.total-exactly
 pub open-order : (b1 b2 : ℕ) (t : List ℕ) → InOrder 0 (openCauses b1 b2 t)
 open-order = Causes.open-order
 
-pub call-order : (t : List ℕ) (c : Call Token) → InOrder 0 (callCauses t c)
+-- (14, of document 02, stands between 2 and 4: `callCauses`)
+pub call-order : (t : List ℕ) (c : Call Token) → InOrder 0 (wrongLength (subject c) ∷ wrongByte (subject c) ∷ wrongTable t ∷ notSound t ∷ wordCauses t c)
 call-order = Causes.call-order
 
--- a call that meets none of 1, 2, 4 and 5 does what `served` says
+-- a call that meets none of 1, 2, 14, 4 and 5 does what `served` says
 pub causes-else : (t : List ℕ) (c : Call Token) (w : ℕ) → wordFor c ≡ Word w → shaped t ≡ true → sound t ≡ true → call t c ≡ served t w c
 unfolding call
 causes-else t c w e k h = ap (callRead t c) e ∙ cond-true _ _ k ∙ cond-true _ _ h
@@ -169,7 +177,7 @@ pub opening-stands : (t : List ℕ) (o : Opened t) → FlatStands t (opened (o .
 opening-stands = History.opened-stands
 
 -- each call answers as the model does, and leaves a table that stands for the state that the model comes to
-pub refines : Refines tables states FlatStands
+pub refines : Refines tables model FlatStands
 refines = History.refines
 
 -- a table that stands for a state is sound
@@ -185,7 +193,7 @@ pub stands-one : (t : List ℕ) (s : State) → FlatStands t s → flatState t �
 stands-one = Calls.stands-shows
 
 -- so a call for a word of 64 bits leaves a sound table sound
-pub served-sound : (t : List ℕ) → shaped t ≡ true → FlatSound t → (w : ℕ) → w < 2 ^ 64 → (c : Call Token) → PlanFits c
+pub served-sound : (t : List ℕ) → shaped t ≡ true → FlatSound t → (w : ℕ) → w < 2 ^ 64 → (c : Call Token) → planAllowed c ≡ true
     → (shaped (served t w c .table) ≡ true) × FlatSound (served t w c .table)
 served-sound t k h w l c f =
     let m = Calls.served-match t (flatState t) (sound-stands t k h) w l c f in
@@ -219,6 +227,16 @@ module _ (t : List ℕ) (k : shaped t ≡ true) (h : FlatSound t) where
   totals-sum =
       ap sumOf totals ∙ Totals.totals-sum totalNumbers (flatState t .live) (λ e m. sound-stands t k h .stands .small e m .1) ∙ sym live-count
 
+  -- document 02, order 3: no live word has the desk's plan
+  pub live-given : (w p : ℕ) → find w (flatState t .live) ≡ some p → assignable p ≡ true
+  live-given w p e = sound-stands t k h .stands .given (record { word = w; plan = p }) (find-mem w p (flatState t .live) e)
+
+  -- so its total, which may be asked, is 0
+  pub desk-total : totalCall t deskPlan ≡ Accepted 0
+  desk-total =
+      total-exact deskPlan (omega arith)
+      ∙ ap Accepted (Totals.count-none deskPlan (flatState t .live) (λ e m q. let l = ltb-true (e .plan) deskPlan (sound-stands t k h .stands .given e m) in omega arith))
+
   query-plan : (i : Token) (w : ℕ) → wordFor (query i) ≡ Word w → call t (query i) ≡ queried t (find w (flatState t .live))
   unfolding served
   query-plan i w e = causes-else t (query i) w e k (stands-sound t _ (sound-stands t k h) .1) ∙ ap (queried t) (live-plans w (word-small (query i) w e))
@@ -230,7 +248,7 @@ module _ (t : List ℕ) (k : shaped t ≡ true) (h : FlatSound t) where
   pub query-other : (i : Token) (w : ℕ) → wordFor (query i) ≡ Word w → find w (flatState t .live) ≡ none → call t (query i) ≡ record { answer = NotLive; table = t }
   query-other i w e f = query-plan i w e ∙ ap (queried t) f
 
-  module _ (i : Token) (p : ℕ) (l : p < 256) where
+  module _ (i : Token) (p : ℕ) where
     -- statement 3, the rule of the bounds: after an accepted add each is the largest number, not above the old one, under which no
     -- non-empty selection of the words due there XORs to zero; first level
     pub bounds-first : accepted (call t (add i p) .answer) ≡ true → (j : ℕ) → j < flatState t .size .buckets1
@@ -239,7 +257,7 @@ module _ (t : List ℕ) (k : shaped t ≡ true) (h : FlatSound t) where
         (getD (flatState (call t (add i p) .table) .bounds1) j 0)
     bounds-first a j q =
         subst⁻¹ (λ (u : State). Largest (getD (flatState t .bounds1) j 0) (due firstLevel (flatState t .size .buckets1) (words (u .live)) j) (getD (u .bounds1) j 0))
-        (History.left t k h i p l a) (Model.bounds-first firstLevel secondLevel (flatState t) _ (History.took t k h i p l a) j q)
+        (History.left t k h i p a) (Model.bounds-first firstLevel secondLevel (flatState t) _ (History.took t k h i p a) j q)
 
     -- then the second, where the words are due that the first does not hold now
     pub bounds-second : accepted (call t (add i p) .answer) ≡ true → (j : ℕ) → j < flatState t .size .buckets2
@@ -249,7 +267,7 @@ module _ (t : List ℕ) (k : shaped t ≡ true) (h : FlatSound t) where
         (getD (flatState (call t (add i p) .table) .bounds2) j 0)
     bounds-second a j q =
         subst⁻¹ (λ (u : State). Largest (getD (flatState t .bounds2) j 0) (due secondLevel (flatState t .size .buckets2) (passed firstLevel (flatState t .size .buckets1) (u .bounds1) (words (u .live))) j) (getD (u .bounds2) j 0))
-        (History.left t k h i p l a) (Model.bounds-second firstLevel secondLevel (flatState t) _ (History.took t k h i p l a) j q)
+        (History.left t k h i p a) (Model.bounds-second firstLevel secondLevel (flatState t) _ (History.took t k h i p a) j q)
 
     -- statement 3, the rule of the base list: refused as full exactly when more than 64 words would fall to the base list under the bounds
     -- that the add would so leave
@@ -257,7 +275,7 @@ module _ (t : List ℕ) (k : shaped t ≡ true) (h : FlatSound t) where
         → (call t (add i p) .answer ≡ Full) ↔ (64 < length (base firstLevel secondLevel (wouldLeave firstLevel secondLevel (flatState t) (record { word = w; plan = p }))))
     full-exactly w q f =
         subst⁻¹ (λ (a : Answer). (a ≡ Full) ↔ (64 < length (base firstLevel secondLevel (wouldLeave firstLevel secondLevel (flatState t) (record { word = w; plan = p })))))
-        (History.m t k h i p l .says ∙ ap (λ (x : Read). serveRead (flatState t) (add i p) x .answer) q) (Model.full-exactly firstLevel secondLevel (flatState t) _ f)
+        (History.m t k h i p .says ∙ ap (λ (x : Read). serveRead (flatState t) (add i p) x .answer) q) (Model.full-exactly firstLevel secondLevel (flatState t) _ f)
 
 -- two sound tables that statement 3 calls equal have equal totals, so they answer each question for one alike
 pub same-totals : (t u : List ℕ) → shaped t ≡ true → FlatSound t → shaped u ≡ true → FlatSound u → Same t u
@@ -272,16 +290,16 @@ same-totals t u k h j g e =
 
 -- statement 3, the claim about lists: where two tables are then equal in bucket numbers, live words, plans and bounds, each further
 -- request of every list gets the same answer from both, and they are equal in these again after each
-pub statement-3 : (t u : List ℕ) → Opened t → Opened u → (ps qs : List Put) → Same (after tables t ps) (after tables u qs)
-    → (cs : List Put) → Alike tables Same (after tables t ps) (after tables u qs) cs
-statement-3 t u o r = Model.statement-3 tables states FlatStands refines Same History.compares t u _ _ (opening-stands t o) (opening-stands u r)
+pub statement-3 : (t u : List ℕ) → Opened t → Opened u → (ps qs : List Request) → Same (after tables t ps) (after tables u qs)
+    → (cs : List Request) → Alike tables Same (after tables t ps) (after tables u qs) cs
+statement-3 t u o r = Model.statement-3 tables model FlatStands refines Same History.compares t u _ _ (opening-stands t o) (opening-stands u r)
 
-module _ (t : List ℕ) (o : Opened t) (ps : List Put) where
+module _ (t : List ℕ) (o : Opened t) (ps : List Request) where
   -- "So the opening and these calls alone settle every answer and bound"
-  pub settles : (answers tables t ps ≡ answers states (opened (o .size)) ps)
-      × (flatState (after tables t ps) ≡ after states (opened (o .size)) ps)
+  pub settles : (answers tables t ps ≡ answers model (opened (o .size)) ps)
+      × (flatState (after tables t ps) ≡ after model (opened (o .size)) ps)
   settles =
-      let r = Model.settles tables states FlatStands refines t (opened (o .size)) (opening-stands t o) ps in
+      let r = Model.settles tables model FlatStands refines t (opened (o .size)) (opening-stands t o) ps in
       (r .0, stands-one (after tables t ps) _ (r .1))
 
   -- an opening fixes the bucket numbers: no call changes them
@@ -292,37 +310,44 @@ module _ (t : List ℕ) (o : Opened t) (ps : List Put) where
   pub always-sound : (shaped (after tables t ps) ≡ true) × (sound (after tables t ps) ≡ true) × FlatSound (after tables t ps)
   always-sound = stands-sound (after tables t ps) _ (History.after-stands t o ps)
 
-  pub never-4-5 : (p : Put) → (numberOf (request (after tables t ps) (p .request) .answer) ≡ 4 → ⊥) × (numberOf (request (after tables t ps) (p .request) .answer) ≡ 5 → ⊥)
-  never-4-5 p =
-      subst⁻¹ (λ (a : Answer). (numberOf a ≡ 4 → ⊥) × (numberOf a ≡ 5 → ⊥)) (refines .says _ _ p (History.after-stands t o ps)) (Model.never-4-5 _ (p .request))
+  pub never-4-5 : (q : Request) → (numberOf (request (after tables t ps) q .answer) ≡ 4 → ⊥) × (numberOf (request (after tables t ps) q .answer) ≡ 5 → ⊥)
+  never-4-5 q =
+      subst⁻¹ (λ (a : Answer). (numberOf a ≡ 4 → ⊥) × (numberOf a ≡ 5 → ⊥)) (refines .says _ _ q (History.after-stands t o ps)) (Model.never-4-5 _ q)
 
-  -- so the answer to each further call is that of the first cause met, of 1, 2 and those of its word
-  pub list-causes : (c : Call Token) → PlanFits c → Exactly (soundCauses (after tables t ps) c) (callReturns (after tables t ps) c) (call (after tables t ps) c .answer)
-  list-causes c f = Causes.sound-call (after tables t ps) c f (always-sound .0) (always-sound .2)
+  -- so the answer to each further call is that of the first cause met, of 1, 2, 14 and those of its word
+  pub list-causes : (c : Call Token) → Exactly (soundCauses (after tables t ps) c) (callReturns (after tables t ps) c) (call (after tables t ps) c .answer)
+  list-causes c = Causes.sound-call (after tables t ps) c (always-sound .0) (always-sound .2)
 
   -- "After each call its occupied rows and base entries hold just the live words, and its stored bounds are these": the model's
-  pub holds-live : List·Permᴰ (entriesOf rows unmixOf (tableOf (after tables t ps))) (after states (opened (o .size)) ps .live)
+  pub holds-live : List·Permᴰ (entriesOf rows unmixOf (tableOf (after tables t ps))) (after model (opened (o .size)) ps .live)
   holds-live = Calls.stands-entries (after tables t ps) _ (History.after-stands t o ps)
 
-  pub stored-bounds : (bounds (tableOf (after tables t ps) .level1) ≡ after states (opened (o .size)) ps .bounds1)
-      × (bounds (tableOf (after tables t ps) .level2) ≡ after states (opened (o .size)) ps .bounds2)
+  pub stored-bounds : (bounds (tableOf (after tables t ps) .level1) ≡ after model (opened (o .size)) ps .bounds1)
+      × (bounds (tableOf (after tables t ps) .level2) ≡ after model (opened (o .size)) ps .bounds2)
   stored-bounds = let h = History.after-stands t o ps in (h .stands .bounds1, h .stands .bounds2)
 
   -- "The live count equals accepted adds less accepted withdrawals since opening"
   pub count : getD (after tables t ps) liveCountAt 0 + withdrawalsIn (acceptedCalls t ps) ≡ addsIn (acceptedCalls t ps)
   unfolding tableFrom
   count =
-      let c : getD (after tables t ps) liveCountAt 0 ≡ length (after states (opened (o .size)) ps .live) = History.after-stands t o ps .stands .counted in
+      let c : getD (after tables t ps) liveCountAt 0 ≡ length (after model (opened (o .size)) ps .live) = History.after-stands t o ps .stands .counted in
       subst (λ (cs : List (Call ℕ)). getD (after tables t ps) liveCountAt 0 + withdrawalsIn cs ≡ addsIn cs) (History.same-calls t o ps)
-      (let h = count-after firstLevel secondLevel states callsOf History.each-stands (opened (o .size)) (valid-opened firstLevel secondLevel (o .size)) ps in omega arith)
+      (let h = count-after firstLevel secondLevel model callsOf stands-for (opened (o .size)) (valid-opened firstLevel secondLevel (o .size)) ps in omega arith)
 
   -- statement 2, the table's half: a word is live if, of its accepted adds and withdrawals, the last is an add; its plan is that of its last
   -- accepted add or change; every other word is not live
   pub plan : (v : ℕ) → v < 2 ^ 64 → planIn (after tables t ps) v ≡ told v (acceptedCalls t ps)
   plan v l =
       Calls.stands-look (after tables t ps) _ (History.after-stands t o ps) v l
-      ∙ told-after firstLevel secondLevel states callsOf History.each-stands v (opened (o .size)) (valid-opened firstLevel secondLevel (o .size)) false 0 refl ps
+      ∙ told-after firstLevel secondLevel model callsOf stands-for v (opened (o .size)) (valid-opened firstLevel secondLevel (o .size)) false 0 refl ps
       ∙ ap (told v) (History.same-calls t o ps)
+
+  -- document 02, order 3: after any list no live word has the desk's plan
+  pub plan-given : (v p : ℕ) → v < 2 ^ 64 → told v (acceptedCalls t ps) ≡ some p → assignable p ≡ true
+  plan-given v p l e =
+      let st = History.after-stands t o ps in
+      st .stands .given (record { word = v; plan = p })
+      (find-mem v p (after model (opened (o .size)) ps .live) (sym (Calls.stands-look (after tables t ps) _ st v l) ∙ plan v l ∙ e))
 
   -- so a query of an identifier gives the last accepted plan of its word (`queried`: Accepted), or says that it is not live
   pub query-tells : (i : Token) (w : ℕ) → wordFor (query i) ≡ Word w → call (after tables t ps) (query i) ≡ queried (after tables t ps) (told w (acceptedCalls t ps))
@@ -331,13 +356,13 @@ module _ (t : List ℕ) (o : Opened t) (ps : List Put) where
       causes-else (after tables t ps) (query i) w e (always-sound .0) (always-sound .1) ∙ ap (queried (after tables t ps)) (plan w (word-small (query i) w e))
 
   -- document 02, order 2: after any list the question for a plan gets the number of words then live with it, as the model has them
-  pub total-after : (p : ℕ) → p < planLimit → totalCall (after tables t ps) p ≡ Accepted (planCount p (after states (opened (o .size)) ps .live))
+  pub total-after : (p : ℕ) → p < planLimit → totalCall (after tables t ps) p ≡ Accepted (planCount p (after model (opened (o .size)) ps .live))
   total-after = Calls.stands-total (after tables t ps) _ (History.after-stands t o ps)
 
   -- and as the accepted calls tell them
   pub total-told : (p : ℕ) → p < planLimit → (k : ℕ) × (totalCall (after tables t ps) p ≡ Accepted k) × LiveWith p (acceptedCalls t ps) k
   total-told p l =
-      let s = after states (opened (o .size)) ps in
+      let s = after model (opened (o .size)) ps in
       let st = History.after-stands t o ps in
       let seen : (v : ℕ) → v < 2 ^ 64 → find v (s .live) ≡ told v (acceptedCalls t ps) = (λ v b. sym (Calls.stands-look (after tables t ps) s st v b) ∙ plan v b) in (
         planCount p (s .live),

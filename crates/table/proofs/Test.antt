@@ -6,19 +6,20 @@ use native.Mathlib.Omega.{arith}
 use mathlib.Core.Path.{_≡_, refl, sym, ap, _∙_, subst, subst⁻¹}
 use mathlib.Core.Bool.{Bool, true, not, _&&_, true≢false}
 use mathlib.Core.Logic.{inl, inr, ⊎-elim, _↔_}
-use mathlib.Core.List.{List, [], _∷_, _++_, map, List·Permᴰ, List·Permᴰ·nil, List·Permᴰ·trans, Permᴰ·append-left, Permᴰ·append-right, List·Memᴰ, List·Memᴰ·head, List·Memᴰ·tail, List·Memᴰ·not-nil, List·Memᴰ·cases-cons}
+use mathlib.Core.List.{List, [], _∷_, _++_, map, List·Permᴰ, List·Permᴰ·nil, List·Permᴰ·trans, Permᴰ·append-left, Permᴰ·append-right, List·Memᴰ, List·Memᴰ·head, List·Memᴰ·tail, List·Memᴰ·not-nil, List·Memᴰ·cases-cons, List·Memᴰ·append-cases, Memᴰ·of-map}
+use lib.Arith.{lt-of-le-ne}
 use lib.Dec.{T, eqb, ltb, leb, eqb→eq}
 use lib.ListN.{length, getD, take, drop, length-drop}
 use lib.Pow.{pow-pos}
 use lib.Seq.{getD-drop, length-take-le, ext-getD}
 use borrow.Author.Tests.{eqb-true, eq-eqb, ltb-true, lt-ltb, leb-true, le-leb, not-true}
-use Rattle.lists.specs.Entries.{Entry, Above, Ascending, planLimit}
+use Rattle.lists.specs.Entries.{Entry, Above, Ascending, planLimit, deskPlan, assignable}
 use Rattle.lists.proofs.Tests.{true→T, T→true, and-one, and-two, and-both, or-l, or-r, or-cases}
 use Rattle.lists.specs.Lists.{countFrom}
 use Rattle.lists.specs.Totals.{planCount, totalsOf}
 use Rattle.lists.proofs.Keep.{count-in, count-lt}
-use Rattle.lists.proofs.Entries.{above-up}
-use Rattle.lists.proofs.Totals.{count-perm, count-append, count-map, totals-length, totals-at, totals-ext}
+use Rattle.lists.proofs.Entries.{assignable-byte, above-up}
+use Rattle.lists.proofs.Totals.{count-perm, count-append, count-map, count-none, none-counted, totals-length, totals-at, totals-ext}
 use Rattle.gf2.specs.Select.{elem, chosen}
 use Rattle.gf2.proofs.Chosen.{Row, elem→row}
 use Rattle.bucket_rows.specs.declared.Rows.{Rows}
@@ -40,7 +41,9 @@ use Rattle.table.specs.Content.{allRows, backOf, entriesOf}
 use Rattle.table.specs.Sound as D
 use Rattle.table.specs.Sound.{SoundLevel, SoundTable, FlatSound}
 use Rattle.table.specs.Test.{allOf, before, ascends, rowsIn, bucketTest, levelTest, rowsFound, totalsTest, row1, row2, row0, tableTest, soundTest}
+use Rattle.table.proofs.Level.{Given}
 use Rattle.table.proofs.Numbers.{length-levelFrom, room}
+use Rattle.table.proofs.Sound.{base-given, level-small}
 
 -- ---- tests one after the other
 
@@ -197,6 +200,16 @@ totals-exactly m ts es h = (
       eq-eqb _ _ (ap (λ (l : List ℕ). getD l p 0) e ∙ totals-at m es p k)),
 )
 
+-- the plans of entries may be given exactly if they are bytes and the desk's is counted 0 times
+given-out : (es : List Entry) → ((e : Entry) → List·Memᴰ e es → e .plan < planLimit) → planCount deskPlan es ≡ 0 → Given es
+given-out es low c e m =
+    let l = low e m in
+    let d : e .plan ≡ deskPlan → ⊥ = none-counted deskPlan es c e m in
+    lt-ltb (e .plan) deskPlan (lt-of-le-ne (le-of-suc-le-suc l) d)
+
+given-in : (es : List Entry) → Given es → planCount deskPlan es ≡ 0
+given-in es h = count-none deskPlan es (λ e m q. let l = ltb-true (e .plan) deskPlan (h e m) in omega arith)
+
 -- ---- the whole table
 
 module _ (n r : ℕ) (S U : ℕ → ℕ) (T : Table) where
@@ -207,11 +220,12 @@ module _ (n r : ℕ) (S U : ℕ → ℕ) (T : Table) where
   b2 = nth n r (T .level2)
 
   module _ (some1 : 0 < length (T .level1)) (some2 : 0 < length (T .level2)) (first : (i : ℕ) → i < length (T .level1) → Ranged n r (b1 i))
-      (second : (i : ℕ) → i < length (T .level2) → Ranged n r (b2 i)) (words : (e : Entry) → List·Memᴰ e (T .base) → e .word < 2 ^ n) (totalled : length (T .totals) ≡ totalNumbers) where
+      (second : (i : ℕ) → i < length (T .level2) → Ranged n r (b2 i)) (words : (e : Entry) → List·Memᴰ e (T .base) → e .word < 2 ^ n) (totalled : length (T .totals) ≡ totalNumbers) (bytes : 2 ^ r ≡ planLimit) where
     table-out : tableTest n r S U T ≡ true → SoundTable n r S U T
     table-out t0 =
         let t1 = and-two (leb (length (T .base)) baseLimit) _ t0 in
-        let t2 = and-two (eqb (T .count) _) _ t1 in
+        let td = and-two (eqb (T .count) _) _ t1 in
+        let t2 = and-two (eqb (getD (T .totals) deskPlan 0) 0) _ td in
         let t3 = and-two (levelTest n (row1 n r S U T) 0 (T .level1)) _ t2 in
         let t4 = and-two (levelTest n (row2 n r S U T) 0 (T .level2)) _ t3 in
         let l1 = level-out n r (row1 n r S U T) 0 (T .level1) first (and-one (levelTest n (row1 n r S U T) 0 (T .level1)) _ t2) in
@@ -232,23 +246,34 @@ module _ (n r : ℕ) (S U : ℕ → ℕ) (T : Table) where
           here = λ i v q. eqb-true _ _ (and-one (eqb (index S (length (T .level2)) v) (0 + i)) _ (q2 i v q)) ∙ zero-add i;
           low = λ i v q. ltb-true _ _ (and-one (ltb (thr S v) (b2 i .bound)) _ (and-two (eqb (index S (length (T .level2)) v) (0 + i)) _ (q2 i v q)));
         } in
+        let totals : T .totals ≡ totalsOf totalNumbers (entriesOf n U T) =
+        totals-exactly totalNumbers (T .totals) _ totalled .0 (and-two (ascends (T .base)) _ t5) ∙ sym (totals-ext totalNumbers _ _ (found-count n r S U T level1 level2)) in
+        let byte : (bs : List Bucket) → SoundLevel n r S bs → (e : Entry) → List·Memᴰ e (allRows n bs) → e .plan < planLimit
+        = (λ bs h e m. subst (λ (k : ℕ). e .plan < k) bytes (level-small n r S bs h e m .1)) in
+        let low2 : (e : Entry) → List·Memᴰ e (allRows n (T .level2) ++ T .base) → e .plan < planLimit =
+        (λ e m. ⊎-elim (byte (T .level2) level2 e) (λ b. assignable-byte (e .plan) (and-one (assignable (e .plan)) _ (q0 e b))) (List·Memᴰ·append-cases (allRows n (T .level2)) m)) in
+        let low : (e : Entry) → List·Memᴰ e (entriesOf n U T) → e .plan < planLimit =
+        (λ e m. ⊎-elim (byte (T .level1) level1 e)
+        (λ b. let k = Memᴰ·of-map (backOf U) (allRows n (T .level2) ++ T .base) b in subst (λ (x : Entry). x .plan < planLimit) (k .2) (low2 (k .0) (k .1))) (List·Memᴰ·append-cases (allRows n (T .level1)) m)) in
         record {
           fits = leb-true _ baseLimit (and-one (leb (length (T .base)) baseLimit) _ t0);
           counts = eqb-true _ _ (and-one (eqb (T .count) _) _ t1);
-          totals = totals-exactly totalNumbers (T .totals) _ totalled .0 (and-two (ascends (T .base)) _ t5) ∙ sym (totals-ext totalNumbers _ _ (found-count n r S U T level1 level2));
+          totals = totals;
+          given = given-out (entriesOf n U T) low
+              (sym (totals-at totalNumbers (entriesOf n U T) deskPlan (omega arith)) ∙ ap (λ (ts : List ℕ). getD ts deskPlan 0) (sym totals) ∙ eqb-true _ 0 (and-one (eqb (getD (T .totals) deskPlan 0) 0) _ td));
           level1 = level1;
           level2 = level2;
           passed = λ i v q. not-true _ (and-two (ltb (thr S v) (b2 i .bound)) _ (and-two (eqb (index S (length (T .level2)) v) (0 + i)) _ (q2 i v q)));
           base-words = λ e m.
-              let p = and-two (ltb (e .plan) planLimit) _ (q0 e m) in
+              let p = and-two (assignable (e .plan)) _ (q0 e m) in
               (words e m, not-true _ (and-one (not (holds n r S (T .level2) (e .word))) _ p), not-true _ (and-two (not (holds n r S (T .level2) (e .word))) _ p));
-          base-plans = λ e m. ltb-true _ _ (and-one (ltb (e .plan) planLimit) _ (q0 e m));
           ascending = ascends-out (T .base) (and-one (ascends (T .base)) _ t5);
         }
 
   table-in : SoundTable n r S U T → tableTest n r S U T ≡ true
   table-in h =
       and-both (le-leb _ baseLimit (h .fits)) (and-both (eq-eqb _ _ (h .counts))
+      (and-both (eq-eqb _ 0 (ap (λ (ts : List ℕ). getD ts deskPlan 0) (h .totals) ∙ totals-at totalNumbers (entriesOf n U T) deskPlan (omega arith) ∙ given-in (entriesOf n U T) (h .given)))
       (and-both (level-in n r (row1 n r S U T) 0 (T .level1) (λ j l. (
         h .level1 .buckets j l,
         λ v k t.
@@ -261,8 +286,8 @@ module _ (n r : ℕ) (S U : ℕ → ℕ) (T : Table) where
             let q : D.Row n r (T .level2) j v = record { bucket-lt = l; vector-lt = k; is-live = t } in
             and-both (eq-eqb _ _ (h .level2 .here j v q ∙ sym (zero-add j))) (and-both (lt-ltb _ _ (h .level2 .low j v q)) (ap not (h .passed j v q))),
       )))
-      (and-both (all-in (row0 n r S U T) (T .base) (λ e m. let p = h .base-words e m in and-both (lt-ltb _ _ (h .base-plans e m)) (and-both (ap not (p .1)) (ap not (p .2)))))
-      (and-both (ascends-in (T .base) (h .ascending)) (totals-exactly totalNumbers (T .totals) _ (ap length (h .totals) ∙ totals-length totalNumbers (entriesOf n U T)) .1 (h .totals ∙ totals-ext totalNumbers _ _ (found-count n r S U T (h .level1) (h .level2)))))))))
+      (and-both (all-in (row0 n r S U T) (T .base) (λ e m. let p = h .base-words e m in and-both (base-given n r S U T h e m) (and-both (ap not (p .1)) (ap not (p .2)))))
+      (and-both (ascends-in (T .base) (h .ascending)) (totals-exactly totalNumbers (T .totals) _ (ap length (h .totals) ∙ totals-length totalNumbers (entriesOf n U T)) .1 (h .totals ∙ totals-ext totalNumbers _ _ (found-count n r S U T (h .level1) (h .level2))))))))))
 
 -- ---- numbers of n bits
 
@@ -293,7 +318,7 @@ module _ (n r : ℕ) where
       (pairs-below k (drop 2 xs) (below-drop 2 xs h) e) (List·Memᴰ·cases-cons m)
 
   module _ (S U : ℕ → ℕ) (xs : List ℕ) where
-    module _ (size : length xs ≡ lengthOf n r (getD xs buckets1At 0) (getD xs buckets2At 0)) (bits : Below xs) (some1 : 0 < getD xs buckets1At 0) (some2 : 0 < getD xs buckets2At 0) where
+    module _ (bytes : 2 ^ r ≡ planLimit) (size : length xs ≡ lengthOf n r (getD xs buckets1At 0) (getD xs buckets2At 0)) (bits : Below xs) (some1 : 0 < getD xs buckets1At 0) (some2 : 0 < getD xs buckets2At 0) where
       abbrev a : ℕ
       a = getD xs buckets1At 0
 
@@ -310,7 +335,7 @@ module _ (n r : ℕ) where
                 (λ i l. level-ranged a (drop (bucketPlace n r 0) xs) (room n r xs a b size .0) (below-drop (bucketPlace n r 0) xs bits) i (subst (λ (k : ℕ). i < k) size1 l))
                 (λ i l. level-ranged b (drop (bucketPlace n r a) xs) (room n r xs a b size .1) (below-drop (bucketPlace n r a) xs bits) i (subst (λ (k : ℕ). i < k) size2 l))
                 (pairs-below (getD xs baseCountAt 0) _ (below-drop (bucketPlace n r (a + b)) xs bits))
-                (length-take-le totalNumbers (drop totalsAt xs) (omega (arith, length-drop totalsAt xs, size)))
+                (length-take-le totalNumbers (drop totalsAt xs) (omega (arith, length-drop totalsAt xs, size))) bytes
                 (and-one (tableTest n r S U (tableFrom n r xs)) _ t);
             unused = zeros-out (unusedIn n r xs) (and-two (tableTest n r S U (tableFrom n r xs)) _ t);
           }

@@ -93,7 +93,7 @@ served t w (change i p) = replaced t (T.changedIn rows (solutionsIn t) mixOf (ta
 served t w (withdraw i) = replaced t (T.withdrawnFrom rows (solutionsIn t) mixOf (tableOf t) w) (planIn t w)
 served t w (query i) = queried t (planIn t w)
 
--- the causes that every call meets first: 1 and 2, 4, 5
+-- the causes that every call meets first: 1, 2 and 14, 4, 5
 abbrev pub callRead : List ℕ → Call Token → Read → Outcome
 callRead t c (Refused a) = turnedDown a t
 callRead t c (Word w) = cond (shaped t) (cond (sound t) (served t w c) (turnedDown NotSound t)) (turnedDown (WrongTable (length t)) t)

@@ -5,10 +5,10 @@ use Prim.Native.Nat.{ℕ, suc, _+_, _<_}
 use mathlib.Core.Path.{_≡_}
 use mathlib.Core.Logic.{_⊎_}
 use mathlib.Core.Bool.{false}
-use mathlib.Core.List.{List, [], _∷_}
+use mathlib.Core.List.{List, [], _∷_, _++_}
 use mathlib.Core.Option.{some}
 use lib.ListN.{length, getD}
-use Rattle.lists.specs.Entries.{find}
+use Rattle.lists.specs.Entries.{find, assignable}
 use Rattle.answer.specs.Causes.{Cause, causeIf}
 use Rattle.identifier.specs.Identifier.{wordOf}
 use Rattle.identifier.specs.Causes.{wrongLength, wrongByte}
@@ -45,6 +45,10 @@ notSound t = causeIf 5 (FlatSound t → ⊥) 0
 abbrev pub LivePlan : List ℕ → List ℕ → ℕ → Type 0
 LivePlan t i p = find (wordOf i) (flatState t .live) ≡ some p
 
+-- document 02, order 3, "plan 255 given, after cause 2"; 0
+abbrev pub wrongPlan : ℕ → Cause
+wrongPlan p = causeIf 14 (assignable p ≡ false) 0
+
 -- "add: word live"; its plan
 abbrev pub wordLive : List ℕ → List ℕ → Cause
 wordLive t i = record { number = 6; met = LivePlan t i }
@@ -74,13 +78,20 @@ wordCauses t (change i p) = notLive t i ∷ []
 wordCauses t (withdraw i) = notLive t i ∷ []
 wordCauses t (query i) = notLive t i ∷ []
 
--- every call meets those of the identifier first, then those of the table
+-- that of the call's plan
+abbrev pub planCauses : Call Token → List Cause
+planCauses (add i p) = wrongPlan p ∷ []
+planCauses (change i p) = wrongPlan p ∷ []
+planCauses (withdraw i) = []
+planCauses (query i) = []
+
+-- every call meets those of the identifier first, then that of the plan, then those of the table
 abbrev pub callCauses : List ℕ → Call Token → List Cause
-callCauses t c = wrongLength (subject c) ∷ wrongByte (subject c) ∷ wrongTable t ∷ notSound t ∷ wordCauses t c
+callCauses t c = wrongLength (subject c) ∷ wrongByte (subject c) ∷ (planCauses c ++ (wrongTable t ∷ notSound t ∷ wordCauses t c))
 
 -- on a sound table: in a list of calls "the table itself never gives cause 4 or 5"
 abbrev pub soundCauses : List ℕ → Call Token → List Cause
-soundCauses t c = wrongLength (subject c) ∷ wrongByte (subject c) ∷ wordCauses t c
+soundCauses t c = wrongLength (subject c) ∷ wrongByte (subject c) ∷ (planCauses c ++ wordCauses t c)
 
 -- "add the live count, change and withdraw the earlier plan, query the plan": after an add the word added counts as live
 abbrev pub callReturns : List ℕ → Call Token → ℕ → Type 0

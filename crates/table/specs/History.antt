@@ -6,48 +6,23 @@ use mathlib.Core.Logic.{_↔_}
 use mathlib.Core.Option.{some}
 use mathlib.Core.List.{List, List·Memᴰ}
 use lib.ListN.{length}
-use Rattle.lists.specs.Entries.{Entry, planLimit, Ascending}
+use Rattle.lists.specs.Entries.{Entry, Ascending}
 use Rattle.hash.specs.Mix.{unmixOf}
 use Rattle.answer.specs.declared.Answer.the-variants.{Accepted}
-use Rattle.model.specs.Model.{Size, State, Call, add, change, withdraw, query}
-use Rattle.model.specs.Request as R
-use Rattle.model.specs.Request.{Token, Request, ask, respond}
+use Rattle.model.specs.Model.{Size, State, Call}
+use Rattle.model.specs.Request.{Request, ask, callsOf}
 use Rattle.model.specs.Machine.{Machine, acceptedOf}
 use Rattle.model.specs.History.{callsIn, told}
 use Rattle.table.specs.Content.{stateOf}
 use Rattle.table.specs.Calls.{rows, tableOf, Outcome, openCall, call}
-
--- the plan of a call is a byte, 0 to 255
-abbrev pub PlanFits : Call Token → Type 0
-PlanFits (add i p) = p < planLimit
-PlanFits (change i p) = p < planLimit
-PlanFits (withdraw i) = Unit {0}
-PlanFits (query i) = Unit {0}
-
--- and so are the plans of a request
-abbrev pub PlansFit : Request → Type 0
-PlansFit (ask c) = PlanFits c
-
--- a request with any bytes as identifier
-pub record Put : Type 0 where
-  pub request : Request
-  pub fits : PlansFit request
 
 -- what a request does
 abbrev pub request : List ℕ → Request → Outcome
 request t (ask c) = call t c
 
 -- the table: each request gets it as the last one left it
-abbrev pub tables : Machine (List ℕ) Put
-tables = record { answer = λ t p. request t (p .request) .answer; next = λ t p. request t (p .request) .table }
-
--- the model
-abbrev pub states : Machine State Put
-states = record { answer = λ s p. respond s (p .request) .answer; next = λ s p. respond s (p .request) .after }
-
--- the calls by word that it stands for, if it is accepted
-abbrev pub callsOf : Put → List (Call ℕ)
-callsOf p = R.callsOf (p .request)
+abbrev pub tables : Machine (List ℕ) Request
+tables = record { answer = λ t q. request t q .answer; next = λ t q. request t q .table }
 
 -- t is what an accepted opening left
 pub record Opened (t : List ℕ) : Type 0 where
@@ -55,9 +30,9 @@ pub record Opened (t : List ℕ) : Type 0 where
   pub before : List ℕ
   pub accepted : openCall (size .buckets1) (size .buckets2) before ≡ record { answer = Accepted 0; table = t }
 
--- the calls of ps that the table accepts, by the words of their identifiers
-abbrev pub acceptedCalls : List ℕ → List Put → List (Call ℕ)
-acceptedCalls t ps = callsIn callsOf (acceptedOf tables t ps)
+-- the calls of qs that the table accepts, by the words of their identifiers
+abbrev pub acceptedCalls : List ℕ → List Request → List (Call ℕ)
+acceptedCalls t qs = callsIn callsOf (acceptedOf tables t qs)
 
 -- document 02, order 2: k is the number of words then live with the plan p. They are listed, ascending: of each word of 64 bits the
 -- accepted calls tell the plan p exactly if it is in the list

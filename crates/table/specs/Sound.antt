@@ -1,11 +1,11 @@
--- A sound table, as document 01 lists it, with the totals of document 02, order 2. S is the mix, U its inverse, n the number of rows, r of solution words.
+-- A sound table, as document 01 lists it, with the totals and the plans of document 02, orders 2 and 3. S is the mix, U its inverse, n the number of rows, r of solution words.
 -- Assumes nothing.
 use Prim.Native.Nat.{ℕ, _+_, _^_, _≤_, _<_}
 use mathlib.Core.Path.{_≡_}
 use mathlib.Core.Bool.{true, false}
 use mathlib.Core.List.{List, List·Memᴰ}
 use lib.ListN.{length, getD}
-use Rattle.lists.specs.Entries.{Entry, Ascending, planLimit}
+use Rattle.lists.specs.Entries.{Entry, Ascending, assignable}
 use Rattle.lists.specs.Totals.{totalsOf}
 use Rattle.bucket.specs.declared.Bucket.{Bucket}
 use Rattle.bucket.specs.Bucket.{live}
@@ -36,13 +36,14 @@ module _ (n r : ℕ) (S U : ℕ → ℕ) where
     pub counts : T .count ≡ occupied (T .level1) + (occupied (T .level2) + length (T .base))
     -- each total is the number of live words with that plan
     pub totals : T .totals ≡ totalsOf totalNumbers (entriesOf n U T)
+    -- each live word, of a bucket or of the base list, has a plan that may be given
+    pub given : (e : Entry) → List·Memᴰ e (entriesOf n U T) → assignable (e .plan) ≡ true
     pub level1 : SoundLevel n r S (T .level1)
     pub level2 : SoundLevel n r S (T .level2)
     -- a level 2 word also by its level 1 form
     pub passed : (i v : ℕ) → Row n r (T .level2) i v → holds n r S (T .level1) (U (U v)) ≡ false
     -- a base word is held by neither level
     pub base-words : (e : Entry) → List·Memᴰ e (T .base) → (e .word < 2 ^ n) × (holds n r S (T .level2) (e .word) ≡ false) × (holds n r S (T .level1) (U (U (e .word))) ≡ false)
-    pub base-plans : (e : Entry) → List·Memᴰ e (T .base) → e .plan < planLimit
     pub ascending : Ascending (T .base)
 
   -- numbers that hold a sound table, unused pairs 0

@@ -1,5 +1,5 @@
 -- Document 01's tests of a table that is handed in, as they are computed: the shape (cause 4), and whether it is sound (cause 5; with
--- the totals of document 02, order 2).
+-- the totals and the plans of document 02, orders 2 and 3).
 -- Assumes nothing.
 use Prim.Native.Nat.{ℕ, suc, _+_}
 use mathlib.Core.Bool.{Bool, true, not, _&&_}
@@ -7,7 +7,7 @@ use mathlib.Core.List.{List, [], _∷_, _++_}
 use lib.Dec.{eqb, ltb, leb}
 use lib.ListN.{length, getD}
 use Rattle.lists.specs.Lists.{countFrom}
-use Rattle.lists.specs.Entries.{Entry, planLimit}
+use Rattle.lists.specs.Entries.{Entry, deskPlan, assignable}
 use Rattle.lists.specs.Totals.{planCount}
 use Rattle.gf2.specs.Select.{chosen}
 use Rattle.bucket_rows.specs.Elimination.{soundRows}
@@ -76,17 +76,18 @@ module _ (n r : ℕ) (S U : ℕ → ℕ) (T : Table) where
   abbrev pub row2 : ℕ → Bucket → Entry → Bool
   row2 i b e = eqb (index S (length (T .level2)) (e .word)) i && (ltb (thr S (e .word)) (b .bound) && passes1 (e .word))
 
-  -- in the base list, where its plan is at most 255
+  -- in the base list, where its plan may be given
   abbrev pub row0 : Entry → Bool
-  row0 e = ltb (e .plan) planLimit && (not (holds n r S (T .level2) (e .word)) && passes1 (e .word))
+  row0 e = assignable (e .plan) && (not (holds n r S (T .level2) (e .word)) && passes1 (e .word))
 
-  -- the table is sound, but for the unused pairs
+  -- the table is sound, but for the unused pairs. That no word has the desk's plan is seen from its total, which must be right
   abbrev pub tableTest : Bool
   tableTest =
       leb (length (T .base)) baseLimit
       && (eqb (T .count) (occupied (T .level1) + (occupied (T .level2) + length (T .base)))
+      && (eqb (getD (T .totals) deskPlan 0) 0
       && (levelTest n row1 0 (T .level1) && (levelTest n row2 0 (T .level2) && (allOf row0 (T .base) && (ascends (T .base)
-      && totalsTest totalNumbers (T .totals) (rowsFound n (T .level1) ++ (rowsFound n (T .level2) ++ T .base)))))))
+      && totalsTest totalNumbers (T .totals) (rowsFound n (T .level1) ++ (rowsFound n (T .level2) ++ T .base))))))))
 
 -- not cause 5
 unfoldable pub soundTest : ℕ → ℕ → (ℕ → ℕ) → (ℕ → ℕ) → List ℕ → Bool

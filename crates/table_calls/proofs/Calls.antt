@@ -4,27 +4,28 @@ use Prim.Native.Nat.{ℕ, _+_, _-_, _^_, _≤_, _<_}
 use native.Mathlib.Nat.{sub-zero}
 use native.Mathlib.Omega.{arith}
 use mathlib.Core.Path.{_≡_, refl, sym, ap, _∙_, subst, subst⁻¹}
-use mathlib.Core.Bool.{true, false}
+use mathlib.Core.Bool.{Bool, true, false}
 use mathlib.Core.List.{List, []}
 use mathlib.Core.Option.{Option, none, some}
 use lib.ListN.{length, getD, set, length-set}
 use Rattle.lists.proofs.Tests.{cases, cond-true, cond-false}
 use Rattle.lists.specs.Entries.{Entry, find}
 use Rattle.lists.specs.Totals.{planCount, totalsOf, oneMore, oneLess}
-use Rattle.lists.proofs.Entries.{find-mem, remove-length}
+use Rattle.lists.proofs.Entries.{assignable-byte, find-mem, remove-length}
 use Rattle.lists.proofs.Totals.{count-le, count-found, totals-length, totals-at, less-le}
 use Rattle.hash.specs.Mix.{mixOf}
 use Rattle.answer.specs.declared.Answer.{Answer}
 use Rattle.answer.specs.declared.Answer.the-variants.{Accepted, WrongTable, NotSound, NotLive}
 use Rattle.identifier.specs.Identifier.{readOf}
+use Rattle.identifier.proofs.Causes.{refused≢word}
 use Rattle.identifier.specs.declared.Read.{Read}
 use Rattle.identifier.specs.declared.Read.the-variants.{Word, Refused}
 use Rattle.model.specs.Model.{Call, add, change, withdraw, query}
-use Rattle.model.specs.Request.{Token, wordFor, askOf}
+use Rattle.model.specs.Request.{Token, planAllowed, withPlan, wordFor, askOf}
 use Rattle.table.specs.Table.{Table, totalNumbers, withCount, withTotals}
 use Rattle.table.specs.Layout.{liveCountAt, totalsAt, numbersOf, tableFrom}
 use Rattle.table.specs.Calls.{rows, solutions, tableOf, planIn, shaped, sound, Outcome, turnedDown, queried, replaced, served, callRead, call}
-use Rattle.table.specs.History.{PlanFits, flatState}
+use Rattle.table.specs.History.{flatState}
 use Rattle.table.proofs.Numbers.{write-count, read-total, write-more, write-less, long-numbers}
 use Rattle.table.proofs.Level.{touch-keeps, touch-totals}
 use Rattle.table.proofs.Calls.{FlatStands, stands-look, sound-stands-flat, sound-exactly}
@@ -64,11 +65,11 @@ edit-served t w i (Change p) =
 edit-served t w i Withdraw = refl
 
 -- the totals of a table, moved where they lie
-moved-numbers : (d : Edit) (q : ℕ) (X : Table) → length (X .totals) ≡ totalNumbers → q < totalNumbers → PlanFits (asked d [])
+moved-numbers : (d : Edit) (q : ℕ) (X : Table) → length (X .totals) ≡ totalNumbers → q < totalNumbers → planAllowed (asked d []) ≡ true
     → numbersOf (withTotals X (recounted d q (X .totals))) ≡ recountedIn d q (numbersOf X)
 moved-numbers (Change p) q X h l f =
     let Y : Table = withTotals X (oneLess q (X .totals)) in
-    write-more rows solutions Y p (omega (arith, length-set (X .totals) q (getD (X .totals) q 0 - 1))) ∙ ap (oneMore (totalsAt + p)) (write-less rows solutions X q (omega arith))
+    write-more rows solutions Y p (omega (arith, assignable-byte p f, length-set (X .totals) q (getD (X .totals) q 0 - 1))) ∙ ap (oneMore (totalsAt + p)) (write-less rows solutions X q (omega arith))
 moved-numbers Withdraw q X h l f = write-less rows solutions X q (omega arith)
 
 -- no total is larger than the live count
@@ -78,7 +79,7 @@ total-few t h p l =
     omega (arith, ap (λ (ts : List ℕ). getD ts p 0) (st .stands .totalled), totals-at totalNumbers (flatState t .live) p l, count-le p (flatState t .live), st .stands .counted)
 
 -- a live word's total can be taken one off, and no total is too large for one more
-movable : (d : Edit) (q : ℕ) (X : Table) (es : List Entry) → X .totals ≡ totalsOf totalNumbers es → q < totalNumbers → 0 < planCount q es → length es + 1 < 2 ^ 64 → PlanFits (asked d [])
+movable : (d : Edit) (q : ℕ) (X : Table) (es : List Entry) → X .totals ≡ totalsOf totalNumbers es → q < totalNumbers → 0 < planCount q es → length es + 1 < 2 ^ 64 → planAllowed (asked d []) ≡ true
     → Movable d q (numbersOf X)
 movable d q X es e l h few f = record {
   long = numbers-long;
@@ -139,7 +140,7 @@ module _ (t : List ℕ) (w : ℕ) (i : Token) (f : Found) (e : f ≡ foundOf (pl
       plan-small = st .stands .small _ (find-mem w p (flatState t .live) found) .1
 
       -- the table once it is touched and the live count is written
-      module _ (d : Edit) (pf : PlanFits (asked d [])) (ys : List ℕ) (y : ys ≡ numbersOf (touched d w (tableOf t))) where
+      module _ (d : Edit) (pf : planAllowed (asked d []) ≡ true) (ys : List ℕ) (y : ys ≡ numbersOf (touched d w (tableOf t))) where
         abbrev T : Table
         T = tableOf t
 
@@ -204,16 +205,13 @@ module _ (t : List ℕ) (c : Call Token) (x : Read) (e : x ≡ admitted t (wordF
   call-refused a q = after-admitted t c (wordFor c) ∙ ap (after t c) (sym e ∙ q)
 
 -- the same for an edit
-pub edit-word : (t : List ℕ) (i : Token) (d : Edit) (x : Read) → x ≡ admitted t (readOf i) → (w : ℕ) → x ≡ Word w → call t (asked d i) ≡ served t w (asked d [])
+pub edit-word : (t : List ℕ) (i : Token) (d : Edit) (x : Read) → x ≡ admitted t (withPlan (planAllowed (asked d [])) (readOf i)) → (w : ℕ) → x ≡ Word w → call t (asked d i) ≡ served t w (asked d [])
 edit-word t i (Change q) x = call-word t (change i q) x
 edit-word t i Withdraw x = call-word t (withdraw i) x
 
-pub edit-refused : (t : List ℕ) (i : Token) (d : Edit) (x : Read) → x ≡ admitted t (readOf i) → (a : Answer) → x ≡ Refused a → call t (asked d i) ≡ turnedDown a t
+pub edit-refused : (t : List ℕ) (i : Token) (d : Edit) (x : Read) → x ≡ admitted t (withPlan (planAllowed (asked d [])) (readOf i)) → (a : Answer) → x ≡ Refused a → call t (asked d i) ≡ turnedDown a t
 edit-refused t i (Change q) x = call-refused t (change i q) x
 edit-refused t i Withdraw x = call-refused t (withdraw i) x
-
-refused≢word : (a : Answer) (w : ℕ) → _≡_ {A = Read} (Refused a) (Word w) → ⊥
-refused≢word a w e = let z : _≡_ {A = ℕ} 0 1 = cc in omega arith
 
 passed : (t : List ℕ) (x : Read) (w : ℕ) → admitted t x ≡ Word w → (shaped t ≡ true) × (sound t ≡ true)
 passed t (Refused a) w e = absurd (refused≢word a w e)
@@ -225,6 +223,19 @@ passed t (Word v) w e =
 -- a call that is admitted meets a sound table
 pub ready : (t : List ℕ) (x y : Read) (w : ℕ) → x ≡ admitted t y → x ≡ Word w → ((i : ℕ) → getD t i 0 < 2 ^ rows) → Ready t
 ready t x y w e q b = let p = passed t y w (sym e ∙ q) in record { shape = p .0; sound = sound-exactly t (p .0) b .0 (p .1) }
+
+-- and its plan may be given
+word-allowed : (b : Bool) (y : Read) (w : ℕ) → withPlan b y ≡ Word w → b ≡ true
+word-allowed b (Refused a) w e = absurd (refused≢word a w e)
+word-allowed true (Word v) w e = refl
+word-allowed false (Word v) w e = absurd (refused≢word _ w e)
+
+admitted-word : (t : List ℕ) (y : Read) (w : ℕ) → admitted t y ≡ Word w → y ≡ Word w
+admitted-word t (Refused a) w e = absurd (refused≢word a w e)
+admitted-word t (Word v) w e = let p = passed t (Word v) w e in sym (cond-true _ _ (p .0) ∙ cond-true _ _ (p .1)) ∙ e
+
+pub allowed : (t : List ℕ) (x : Read) (b : Bool) (y : Read) (w : ℕ) → x ≡ admitted t (withPlan b y) → x ≡ Word w → b ≡ true
+allowed t x b y w e q = word-allowed b y w (admitted-word t (withPlan b y) w (sym e ∙ q))
 
 -- ---- the tests of an admission
 

@@ -1,6 +1,8 @@
 -- What a change and a withdrawal do to the bucket or the base list that has the word, to the live count and to the totals.
 -- Assumes nothing.
 use Prim.Native.Nat.{ℕ, _+_, _^_, _≤_, _<_}
+use mathlib.Core.Path.{_≡_}
+use mathlib.Core.Bool.{true}
 use mathlib.Core.List.{List, []}
 use lib.ListN.{length, getD}
 use Rattle.lists.specs.Entries.{Entry, update, remove}
@@ -9,11 +11,10 @@ use Rattle.hash.specs.Mix.{mixOf}
 use Rattle.bucket.specs.declared.Bucket.{Bucket}
 use Rattle.bucket.specs.Bucket as B
 use Rattle.model.specs.Model.{Call, change, withdraw}
-use Rattle.model.specs.Request.{Token}
+use Rattle.model.specs.Request.{Token, planAllowed}
 use Rattle.table.specs.Table.{Table, totalNumbers, touch}
 use Rattle.table.specs.Layout.{totalsAt}
 use Rattle.table.specs.Calls.{rows, solutions}
-use Rattle.table.specs.History.{PlanFits}
 use Rattle.table_calls.specs.declared.Edit.{Edit}
 use Rattle.table_calls.specs.declared.Edit.the-variants.{Change, Withdraw}
 
@@ -56,5 +57,5 @@ pub record Movable (d : Edit) (q : ℕ) (t : List ℕ) : Type 0 where
   pub long : totalsAt + totalNumbers ≤ length t
   pub fits : q < totalNumbers
   pub some : 0 < getD t (totalsAt + q) 0
-  pub plan : PlanFits (asked d [])
+  pub plan : planAllowed (asked d []) ≡ true
   pub room : (p : ℕ) → p < totalNumbers → getD (oneLess (totalsAt + q) t) (totalsAt + p) 0 + 1 < 2 ^ 64

@@ -14,17 +14,18 @@ ghost use mathlib.Core.List.{[]};
 ghost use mathlib.Core.Bool.{true};
 ghost use Prim.Native.Nat.{_+_, _<_, _≤_};
 ghost use lib.ListN.{length, getD};
-ghost use Rattle.lists.specs.Entries.{planLimit};
+ghost use Rattle.lists.specs.Entries.{assignable};
 ghost use Rattle.bucket_words.specs.Words.{bucketFrom, wordsOf};
 ghost use Rattle.bucket_settle.specs.Settle.{planOf};
 ghost use Rattle.table_base.specs.Base.{Pairs, foundOf};
 ghost use Rattle.identifier.specs.Identifier.{readOf};
+ghost use Rattle.identifier.specs.declared.Read.the-variants.{Word};
 ghost use Rattle.model.specs.Model.{baseLimit, change, withdraw, query};
+ghost use Rattle.model.specs.Request.{planAllowed, withPlan};
 ghost use Rattle.answer.specs.declared.Answer.the-variants.{Accepted};
 ghost use Rattle.table.specs.Table.{totalNumbers};
 ghost use Rattle.table.specs.Layout.{totalsAt, pairsFrom, basePairs, numbersOf};
 ghost use Rattle.table.specs.Calls.{rows, solutions, tableOf, planIn, shaped, served, call, totalCall};
-ghost use Rattle.table.specs.History.{PlanFits};
 ghost use Rattle.table_calls.specs.Ready.{Ready, admitted};
 ghost use Rattle.table_calls.specs.Edit.{onBucket, onBase, touched, leaving, recountedIn, Movable, asked};
 
@@ -159,7 +160,7 @@ pub(crate) fn recount(t: &mut [u64], q: u64, edit: Edit)
 
 // The edit of the word w: accepted, the earlier plan.
 pub(crate) fn edit_word(t: &mut [u64], w: u64, edit: Edit) -> Answer
-    requires { ⌜ Ready (now t) × PlanFits (asked edit []) ⌝ }
+    requires { ⌜ Ready (now t) × (planAllowed (asked edit []) ≡ true) ⌝ }
     ensures { λ r. ⌜ (r ≡ served (now (t .entry)) w (asked edit []) .answer) × (now (t .exit) ≡ served (now (t .entry)) w (asked edit []) .table) ⌝ }
 {
     let found = plan_in(t, w);
@@ -177,7 +178,7 @@ pub(crate) fn edit_word(t: &mut [u64], w: u64, edit: Edit) -> Answer
 
 // A change of the word w.
 pub fn change_word(t: &mut [u64], w: u64, plan: u64) -> Answer
-    requires { ⌜ Ready (now t) × (plan < planLimit) ⌝ }
+    requires { ⌜ Ready (now t) × (assignable plan ≡ true) ⌝ }
     ensures { λ r. ⌜ (r ≡ served (now (t .entry)) w (change [] plan) .answer) × (now (t .exit) ≡ served (now (t .entry)) w (change [] plan) .table) ⌝ }
 {
     edit_word(t, w, Edit::Change(plan))
@@ -191,21 +192,43 @@ pub fn withdraw_word(t: &mut [u64], w: u64) -> Answer
     edit_word(t, w, Edit::Withdraw)
 }
 
-// The word that a call is for, or the answer that turns it down: causes 1, 2, 4, 5.
-pub fn admit(t: &[u64], id: &[u8]) -> Read
-    ensures { λ r. ⌜ r ≡ admitted (now (t .entry)) (readOf (now (id .entry))) ⌝ }
+// The word that a call is for, or the cause that turns it down before the table is looked at: 1, 2, 14. Whether the plan that it gives, if it
+// gives one, may be given: `allowed`.
+pub fn word_for(id: &[u8], allowed: bool) -> Read
+    ensures { λ r. ⌜ r ≡ withPlan allowed (readOf (now (id .entry))) ⌝ }
 {
     let read = Identifier::read(id);
     match read {
         Read::Word(w) => {
-            if table_layout::shaped(t) {
-                if table_sound::sound(t) {
-                    return Read::Word(w);
-                }
-                return Read::Refused(Answer::NotSound);
+            if allowed {
+                return Read::Word(w);
             }
-            Read::Refused(Answer::WrongTable(t.len() as u64))
+            Read::Refused(Answer::DeskPlanGiven)
         }
+        Read::Refused(a) => Read::Refused(a),
+    }
+}
+
+// The word, or the cause that the table meets: 4, 5.
+pub(crate) fn admit_word(t: &[u64], word: u64) -> Read
+    ensures { λ r. ⌜ r ≡ admitted (now (t .entry)) (Word word) ⌝ }
+{
+    if table_layout::shaped(t) {
+        if table_sound::sound(t) {
+            return Read::Word(word);
+        }
+        return Read::Refused(Answer::NotSound);
+    }
+    Read::Refused(Answer::WrongTable(t.len() as u64))
+}
+
+// The word that a call is for, or the answer that turns it down: causes 1, 2, 14, 4, 5.
+pub fn admit(t: &[u64], id: &[u8], allowed: bool) -> Read
+    ensures { λ r. ⌜ r ≡ admitted (now (t .entry)) (withPlan allowed (readOf (now (id .entry)))) ⌝ }
+{
+    let word = word_for(id, allowed);
+    match word {
+        Read::Word(w) => admit_word(t, w),
         Read::Refused(a) => Read::Refused(a),
     }
 }
@@ -214,19 +237,28 @@ pub fn admit(t: &[u64], id: &[u8]) -> Read
 pub fn query(t: &[u64], id: &[u8]) -> Answer
     ensures { λ r. ⌜ (r ≡ call (now (t .entry)) (query (now (id .entry))) .answer) × (now (t .exit) ≡ call (now (t .entry)) (query (now (id .entry))) .table) ⌝ }
 {
-    let admitted = admit(t, id);
+    let admitted = admit(t, id, true);
     match admitted {
         Read::Word(w) => query_word(t, w),
         Read::Refused(a) => a,
     }
 }
 
+// The plan that an edit gives, if it gives one, may be given.
+pub(crate) fn plan_allowed(edit: Edit) -> bool
+    ensures { λ r. ⌜ r ≡ planAllowed (asked edit []) ⌝ }
+{
+    match edit {
+        Edit::Change(plan) => table_layout::assignable(plan),
+        Edit::Withdraw => true,
+    }
+}
+
 // The edit of an identifier's word.
 pub(crate) fn edit_identifier(t: &mut [u64], id: &[u8], edit: Edit) -> Answer
-    requires { ⌜ PlanFits (asked edit []) ⌝ }
     ensures { λ r. ⌜ (r ≡ call (now (t .entry)) (asked edit (now (id .entry))) .answer) × (now (t .exit) ≡ call (now (t .entry)) (asked edit (now (id .entry))) .table) ⌝ }
 {
-    let admitted = admit(t, id);
+    let admitted = admit(t, id, plan_allowed(edit));
     match admitted {
         Read::Word(w) => edit_word(t, w, edit),
         Read::Refused(a) => a,

@@ -8,6 +8,7 @@ ghost use mathlib.Core.Path.{_≡_};
 ghost use mathlib.Core.Bool.{true};
 ghost use Prim.Native.Nat.{_+_, _*_, _^_, _<_, _≤_};
 ghost use lib.ListN.{length, getD, drop};
+ghost use Rattle.lists.specs.Entries.{assignable};
 ghost use Rattle.lists.specs.Totals.{oneMore, oneLess};
 ghost use Rattle.hash.specs.Mix.{mixOf};
 ghost use Rattle.bucket_words.specs.Words.{bucketFrom};
@@ -54,6 +55,12 @@ impl Table {
     // A plan is at most this: it is a byte, whatever number of solution words a bucket has.
     pub const MOST_PLAN: u64 = 255;
 
+    // The plan that means "call the desk": no word is given it, and a post answers it for a word that is nowhere.
+    pub const DESK_PLAN: u64 = 255;
+
+    // Where its total stands.
+    pub const DESK_TOTAL_AT: usize = Self::TOTALS_AT + (Self::DESK_PLAN as usize);
+
     // The longest table.
     pub const LONGEST: usize = Self::HEADER
         + Self::MOST_BUCKETS * Bucket::WORDS
@@ -74,6 +81,13 @@ pub fn in_range(b1: u64, b2: u64) -> bool
         return false;
     }
     b2 <= Table::MOST_BUCKETS_2
+}
+
+// The plan may be given to a word.
+pub fn assignable(plan: u64) -> bool
+    ensures { λ r. ⌜ r ≡ assignable plan ⌝ }
+{
+    plan < Table::DESK_PLAN
 }
 
 // The place of bucket i, level 1 first.

@@ -18,9 +18,10 @@ use lib.Pow.{pow-mono}
 use lib.Seq.{drop-drop, getD-drop, drop-cons, getD-set-same, length-take-le}
 use borrow.Author.Tests.{leb-true, ltb-true, ltb-false}
 use Rattle.lists.specs.Lists.{countFrom}
-use Rattle.lists.specs.Entries.{Entry, planLimit}
+use Rattle.lists.specs.Entries.{Entry, deskPlan, assignable}
 use Rattle.lists.specs.Totals.{planCount, totalsOf, oneMore, oneLess}
 use Rattle.lists.proofs.Tests.{cases, bool-ext, true→T, T→true, and-one}
+use Rattle.lists.proofs.Entries.{assignable-byte}
 use Rattle.lists.proofs.Parts.{zeros, zero-at}
 use Rattle.lists.proofs.Totals as C
 use Rattle.lists.proofs.Totals.{totals-length, totals-none, totals-cons, less-more, more-less}
@@ -40,7 +41,7 @@ use Rattle.table.specs.Layout.{buckets1At, buckets2At, baseCountAt, liveCountAt
 use Rattle.table.specs.Content.{occupied}
 use Rattle.table.specs.Test.{allOf, ascends, rowsIn, bucketTest, levelTest, rowsFound, totalsTest, row1, row2, soundTest}
 use Rattle.table.specs.Calls.{rows, solutions, tableOf, shaped, sound}
-use Rattle.table.proofs.Numbers.{header-read}
+use Rattle.table.proofs.Numbers.{header-read, total-read}
 use Rattle.table.proofs.Test.{all-out, zeros-out, zeros-in, totals-exactly}
 use Rattle.table_layout.proofs.Shape.{shape}
 use Rattle.table_sound.specs.Held.{passes, heldTest, rowOf, pairTest, countsSound, gate, next, oneOff, countOff, bucketOff, levelOff, levelLeft, baseLeft, noneLeft, Leaves}
@@ -264,12 +265,14 @@ shuffle3 true false e g = sym (and-false e)
 shuffle3 true true e g = refl
 
 -- what is cheap first
-order : (a b c d e f g z : Bool) → ((a && (b && (c && (d && (e && (f && g)))))) && z) ≡ ((a && b) && (f && (z && (e && (c && (d && g))))))
-order false b c d e f g z = refl
-order true false c d e f g z = refl
-order true true c d e true g true = simp and-true (shuffle3 c d e g)
-order true true c d e true g false = simp and-false
-order true true c d e false g z = simp and-false
+order : (a b k c d e f g z : Bool) → ((a && (b && (k && (c && (d && (e && (f && g))))))) && z) ≡ ((a && (k && b)) && (f && (z && (e && (c && (d && g))))))
+order false b k c d e f g z = refl
+order true false true c d e f g z = refl
+order true false false c d e f g z = refl
+order true true false c d e f g z = refl
+order true true true c d e true g true = simp and-true (shuffle3 c d e g)
+order true true true c d e true g false = simp and-false
+order true true true c d e false g z = simp and-false
 
 -- two tests that agree where a holds
 and-under : (a : Bool) {x y : Bool} → (a ≡ true → x ≡ y) → (a && x) ≡ (a && y)
@@ -363,7 +366,7 @@ module _ (t : List ℕ) where
     plans-fit : allOf (pairTest t) (T .base) ≡ true → (e : Entry) → List·Memᴰ e (T .base ++ (R1 ++ R2)) → e .plan < totalNumbers
     unfolding tableFrom
     plans-fit h e i =
-        ⊎-elim (λ a. ltb-true _ _ (and-one (ltb (e .plan) planLimit) _ (all-out (pairTest t) (T .base) h e a)))
+        ⊎-elim (λ a. assignable-byte (e .plan) (and-one (assignable (e .plan)) _ (all-out (pairTest t) (T .base) h e a)))
         (λ a. ⊎-elim (rows-plans rows solutions b1 _ e) (rows-plans rows solutions b2 _ e) (List·Memᴰ·append-cases R1 a))
         (List·Memᴰ·append-cases (T .base) i)
 
@@ -388,9 +391,11 @@ module _ (t : List ℕ) where
         let f = ascends (T .base) in
         let z = allOf (λ x. eqb x 0) (unusedIn rows solutions t) in
         let es = T .base ++ (R1 ++ R2) in
-        order a b c d e f (totalsTest totalNumbers (T .totals) (R1 ++ (R2 ++ T .base))) z
+        let desk = eqb (getD (T .totals) deskPlan 0) 0 in
+        order a b desk c d e f (totalsTest totalNumbers (T .totals) (R1 ++ (R2 ++ T .base))) z
         ∙ ap₂ (λ (x y : Bool). x && y)
-        (ap₂ (λ (n o : ℕ). leb n baseLimit && eqb (getD t liveCountAt 0) o) (header-read rows solutions t .2) all-rows)
+        (ap₂ (λ (n o : ℕ). leb n baseLimit && (desk && eqb (getD t liveCountAt 0) o)) (header-read rows solutions t .2) all-rows
+        ∙ ap (λ (x : ℕ). leb (getD t baseCountAt 0) baseLimit && (eqb x 0 && eqb (getD t liveCountAt 0) (occupied (levelFrom rows solutions (b1 + b2) (drop header t)) + getD t baseCountAt 0))) (total-read rows solutions t deskPlan (omega arith)))
         (ap (λ (x : Bool). f && (z && x)) (and-under e (λ h. ap (λ (x : Bool). c && (d && x))
         (sym (counted-off totalNumbers es (T .totals) totals-many (plans-fit h) ∙ same-test totalNumbers (T .totals) es _ moved))))
         ∙ sym (tests-none c d e f z (T .base) R1 R2 (T .totals) (countOff any es (T .totals)))

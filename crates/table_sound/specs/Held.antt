@@ -8,7 +8,7 @@ use mathlib.Core.Option.{Option, none, some}
 use mathlib.Core.List.{List, [], _∷_}
 use lib.Dec.{eqb, ltb, leb}
 use lib.ListN.{getD, drop}
-use Rattle.lists.specs.Entries.{Entry}
+use Rattle.lists.specs.Entries.{Entry, deskPlan}
 use Rattle.lists.specs.Totals.{oneLess}
 use Rattle.hash.specs.Mix.{mixOf, unmixOf}
 use Rattle.bucket_rows.specs.Elimination.{soundRows}
@@ -16,7 +16,7 @@ use Rattle.bucket.specs.declared.Bucket.{Bucket}
 use Rattle.bucket.specs.Bucket.{largestBound}
 use Rattle.model.specs.Model.{baseLimit}
 use Rattle.table.specs.Table.{thr, index}
-use Rattle.table.specs.Layout.{buckets1At, buckets2At, baseCountAt, liveCountAt, header, levelFrom, pairsFrom, bucketPlace}
+use Rattle.table.specs.Layout.{buckets1At, buckets2At, baseCountAt, liveCountAt, totalsAt, header, levelFrom, pairsFrom, bucketPlace}
 use Rattle.table.specs.Content.{occupied}
 use Rattle.table.specs.Test.{passes1, row0, allOf, ascends, rowsIn}
 use Rattle.table.specs.Calls.{rows, solutions, tableOf}
@@ -38,11 +38,12 @@ rowOf t second m i b e = heldTest t second m i (b .bound) (e .word)
 abbrev pub pairTest : List ℕ → Entry → Bool
 pairTest t e = row0 rows solutions mixOf unmixOf (tableOf t) e
 
--- the base count is in range, and the live count is right
+-- the base count is in range, the total of the desk's plan is 0, and the live count is right
 abbrev pub countsSound : List ℕ → Bool
 countsSound t =
     leb (getD t baseCountAt 0) baseLimit
-    && eqb (getD t liveCountAt 0) (occupied (levelFrom rows solutions (getD t buckets1At 0 + getD t buckets2At 0) (drop header t)) + getD t baseCountAt 0)
+    && (eqb (getD t (totalsAt + deskPlan) 0) 0
+    && eqb (getD t liveCountAt 0) (occupied (levelFrom rows solutions (getD t buckets1At 0 + getD t buckets2At 0) (drop header t)) + getD t baseCountAt 0))
 
 -- ---- each entry is counted off the totals: what is left of them, or none where a test fails or a total is 0 already
 

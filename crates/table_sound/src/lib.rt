@@ -1,5 +1,6 @@
 // Document 01's cause 5: the test whether a table of the right shape that is handed in is sound, for any contents, with the totals of
-// document 02, order 2: each row and base entry found is counted off a copy of them. The test is an equation with those of the crate table
+// document 02, order 2: each row and base entry found is counted off a copy of them. That of the desk's plan must be 0, so an entry with that
+// plan (order 3) cannot be counted off. The test is an equation with those of the crate table
 // (specs/Test.antt, Calls.antt); specs/Held.antt is for the crate's own functions: what is left of the totals.
 // Cites table, bucket, bucket_rows (the rows of K), bucket_settle (`listed`: rows with their plans), identifier, hash and table_layout (the places); table_calls and plane_write build on it.
 use bucket::Bucket;
@@ -174,13 +175,13 @@ pub(crate) fn pair_held(t: &[u64], word: u64, plan: u64) -> bool
     requires { ⌜ shaped (now t) ≡ true ⌝ }
     ensures { λ r. ⌜ r ≡ pairTest (now (t .entry)) (record { word = word; plan = plan }) ⌝ }
 {
-    if Table::MOST_PLAN < plan {
-        return false;
+    if table_layout::assignable(plan) {
+        if table_layout::holds_second(t, word) {
+            return false;
+        }
+        return !table_layout::holds_first(t, identifier::first(word));
     }
-    if table_layout::holds_second(t, word) {
-        return false;
-    }
-    !table_layout::holds_first(t, identifier::first(word))
+    false
 }
 
 // Such an entry is held so, and counted off.
@@ -246,13 +247,16 @@ pub(crate) fn zero_from(t: &[u64], place: usize) -> bool
     true
 }
 
-// The base count is in range, and the live count is right.
+// The base count is in range, the total of the desk's plan is 0, and the live count is right.
 pub(crate) fn counts_sound(t: &[u64]) -> bool
     requires { ⌜ shaped (now t) ≡ true ⌝ }
     ensures { λ r. ⌜ r ≡ countsSound (now (t .entry)) ⌝ }
 {
     let count = t[Table::BASE_COUNT_AT];
     if Table::BASE_ENTRIES < count {
+        return false;
+    }
+    if 0 < t[Table::DESK_TOTAL_AT] {
         return false;
     }
     let buckets = t[Table::BUCKETS_1_AT] + t[Table::BUCKETS_2_AT];

@@ -195,6 +195,11 @@ fn cards(rng: &mut Rng, count: usize) -> Vec<Vec<u8>> {
         .collect()
 }
 
+/// A plan that a word may be given.
+fn some_plan(rng: &mut Rng) -> u8 {
+    rng.below(255) as u8
+}
+
 /// A table filled until its base list has `base` entries and the next word would raise them, and the identifiers in it.
 fn filled_table(rng: &mut Rng, b1: u64, b2: u64, base: u64) -> (Vec<u64>, Vec<Vec<u8>>) {
     let shape = Shape::new(b1, b2).expect("in range");
@@ -204,7 +209,7 @@ fn filled_table(rng: &mut Rng, b1: u64, b2: u64, base: u64) -> (Vec<u64>, Vec<Ve
     for id in cards(rng, 8000) {
         let word = identifier::word(&id).expect("an identifier");
         let mut next = t.clone();
-        if shape.add(&mut next, word, rng.byte()).is_ok() && next[table::BASE_COUNT] <= base {
+        if shape.add(&mut next, word, some_plan(rng)).is_ok() && next[table::BASE_COUNT] <= base {
             t = next;
             inside.push(id);
         } else if t[table::BASE_COUNT] == base {
@@ -259,7 +264,7 @@ fn filling_words(rng: &mut Rng, b1: u64, b2: u64) {
         table::open(t, b1, b2);
         words
             .iter()
-            .take_while(|&&w| shape.add(t, w, w as u8).is_ok())
+            .take_while(|&&w| shape.add(t, w, (w % 128) as u8).is_ok())
             .count() as u64
     };
     let (mut a, mut b) = (vec![0; shape.table_len()], vec![0; shape.table_len()]);
@@ -455,7 +460,7 @@ fn patches(rng: &mut Rng) {
     assert!(plane::write(&t, &mut old).is_accepted());
     let mut one = old.clone();
     let plan = table::query(&t, &inside[0]).value as u8;
-    assert!(table::change(&mut t, &inside[0], !plan).is_accepted());
+    assert!(table::change(&mut t, &inside[0], (plan + 1) % 255).is_accepted());
     assert!(plane::write(&t, &mut one).is_accepted());
     // One bit of each bucket's solutions, and of each base word.
     let (mut buckets, mut base) = (old.clone(), old.clone());
@@ -524,10 +529,10 @@ fn line_program(rng: &mut Rng) {
     let mut next = 0;
     let adds = full_input(|| {
         next += 1;
-        format!("add {next:X} {}", next % 256)
+        format!("add {next:X} {}", next % 255)
     });
     let mixed = full_input(|| {
-        let (id, plan) = (rng.below(3000), rng.byte());
+        let (id, plan) = (rng.below(3000), some_plan(rng));
         match rng.below(10) {
             0..=4 => format!("add {id:X} {plan}"),
             5 => format!("del {id:X}"),
@@ -570,7 +575,7 @@ fn plane_sizes(rng: &mut Rng) {
         for _ in 0..FILLS {
             let mut t = vec![0; shape.table_len()];
             table::open(&mut t, b1, b2);
-            while shape.add(&mut t, rng.next(), rng.byte()).is_ok() {}
+            while shape.add(&mut t, rng.next(), some_plan(rng)).is_ok() {}
             let written = ours::write_plane(&t, &mut [0; 6000]);
             assert!(written.is_accepted());
             let live = t[table::LIVE_COUNT];

@@ -63,6 +63,20 @@ pub fn random_identifier(rng: &mut Rng, len: usize) -> Vec<u8> {
     (0..len).map(|_| *rng.pick(ALLOWED)).collect()
 }
 
+/// A plan that a word may have.
+pub fn random_plan(rng: &mut Rng) -> u8 {
+    rng.below(255) as u8
+}
+
+/// Any plan, now and then 255, which no word may have.
+pub fn any_plan(rng: &mut Rng) -> u8 {
+    if rng.one_in(16) {
+        255
+    } else {
+        random_plan(rng)
+    }
+}
+
 pub fn second(word: u64) -> u64 {
     mix(mix(word))
 }
@@ -280,6 +294,9 @@ impl SlowTable {
     }
 
     pub fn add(&mut self, word: u64, plan: u8) -> Answer {
+        if plan == 255 {
+            return FOURTEEN;
+        }
         if let Some(&plan) = self.plans.get(&word) {
             return Answer {
                 cause: 6,
@@ -322,6 +339,9 @@ impl SlowTable {
     }
 
     pub fn change(&mut self, word: u64, plan: u8) -> Answer {
+        if plan == 255 {
+            return FOURTEEN;
+        }
         match self.plans.get_mut(&word) {
             Some(kept) => accepted(std::mem::replace(kept, plan)),
             None => Answer { cause: 7, value: 0 },
@@ -347,6 +367,12 @@ impl SlowTable {
         self.plans.values().filter(|&&held| held == plan).count() as u64
     }
 }
+
+/// Plan 255 given.
+const FOURTEEN: Answer = Answer {
+    cause: 14,
+    value: 0,
+};
 
 fn accepted(plan: u8) -> Answer {
     Answer {
@@ -400,8 +426,11 @@ impl ExactTable {
         None
     }
 
-    /// The word must not be live.
+    /// The word must not be live. Nothing happens if the plan is 255.
     pub fn add(&mut self, word: u64, plan: u8) {
+        if plan == 255 {
+            return;
+        }
         let mut next = self.clone();
         let index = bucket_of(word, next.level1.len());
         for (w, plan) in next.level1[index].settle(word, plan, &threshold) {
@@ -415,8 +444,11 @@ impl ExactTable {
         }
     }
 
-    /// The word must be live.
+    /// The word must be live. Nothing happens if the plan is 255.
     pub fn change(&mut self, word: u64, plan: u8) {
+        if plan == 255 {
+            return;
+        }
         match self.bucket(word) {
             Some((bucket, v)) => {
                 let row = bucket.row(v).unwrap();
@@ -473,7 +505,7 @@ pub fn mixed(rng: &mut Rng, buckets1: usize, buckets2: usize) -> Vec<u64> {
     exact.level1[0].bound = 4;
     exact.level2[0].bound = 4;
     for _ in 0..30 * buckets1 {
-        exact.add(rng.next(), rng.byte());
+        exact.add(rng.next(), random_plan(rng));
     }
     let table = exact.numbers();
     assert!(table[2] > 1 && table[2] < 64);
@@ -542,6 +574,25 @@ fn plan_by(solutions: &[u64], vector: u64) -> u64 {
     (0..64)
         .filter(|&j| vector >> j & 1 == 1)
         .fold(0, |plan, j| plan ^ z(j))
+}
+
+/// The plan that row `row` of a bucket of a table has, occupied or free.
+pub fn row_plan(table: &[u64], bucket: usize, row: usize) -> u8 {
+    let part = &table[260 + 74 * bucket..][..74];
+    let rows = rows_by(&part[..64]).expect("invertible");
+    plan_by(&part[65..73], rows[row]) as u8
+}
+
+/// The table with that plan made another, by the solution words alone.
+pub fn with_row_plan(table: &[u64], bucket: usize, row: usize, plan: u8) -> Vec<u64> {
+    let difference = row_plan(table, bucket, row) ^ plan;
+    let mut other = table.to_vec();
+    let first = 260 + 74 * bucket;
+    for c in (0..8).filter(|c| difference >> c & 1 == 1) {
+        other[first + 65 + c] ^= other[first + row];
+    }
+    assert_eq!(row_plan(&other, bucket, row), plan);
+    other
 }
 
 /// A word found in a table, the place it was found at (0 up for buckets, then
@@ -628,6 +679,7 @@ fn is_sound(table: &[u64], b1: usize, b2: usize) -> bool {
     let found = words_in(table, &rows);
     let plans: Vec<u64> = found.iter().map(|f| f.plan).collect();
     found.len() as u64 == table[3]
+        && plans.iter().all(|&plan| plan <= 254)
         && counts(&plans) == table[4..260]
         && found.iter().all(|f| due(&buckets, b1, f.word) == f.at)
 }
@@ -639,12 +691,10 @@ fn free_rows_are_units(buckets: &[&[u64]], rows: &[Vec<u64>]) -> bool {
     })
 }
 
-/// Words ascending, plans bytes, unused pairs 0.
+/// Words ascending, unused pairs 0.
 fn base_in_order(base: &[&[u64]], count: usize) -> bool {
     let (entries, unused) = base.split_at(count);
-    entries.windows(2).all(|two| two[0][0] < two[1][0])
-        && entries.iter().all(|pair| pair[1] < 256)
-        && unused.iter().all(|pair| *pair == [0, 0])
+    entries.windows(2).all(|two| two[0][0] < two[1][0]) && unused.iter().all(|pair| *pair == [0, 0])
 }
 
 /// The place where the bounds send a word: 0 up for buckets, then base.
@@ -734,7 +784,7 @@ pub fn wrong_offset(plane: &[u8]) -> Option<usize> {
                 let number: Vec<u8> = body[..8].iter().rev().copied().collect();
                 let fine = previous.as_ref().is_none_or(|before| number > *before);
                 previous = Some(number);
-                fine
+                fine && body[8] < 255
             }
             _ => body == b"END\n",
         };

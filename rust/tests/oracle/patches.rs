@@ -213,7 +213,8 @@ fn may_follow(plane: &SlowPlane, before: &[Record], kind: u8, body: &[u8]) -> bo
             let word = number(&body[..8]);
             let mut records = before.to_vec();
             records.push((kind, body.to_vec()));
-            earlier(8).all(|(_, other)| number(&other[..8]) < word)
+            body[8] < 255
+                && earlier(8).all(|(_, other)| number(&other[..8]) < word)
                 && earlier(7).all(|(_, other)| number(other) != word)
                 && plane.after(&records).base.len() < 65
         }

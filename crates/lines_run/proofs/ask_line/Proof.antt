@@ -32,7 +32,7 @@ slice-aggregate-ask c =
 ask-requires : tie.Need-ask-requires
 ask-requires c κs =
     let start = c .before .before .before .before .before in
-    (held-ready (start .args .held) (start .args .t .now) (search needs) (start .pre .0), start .pre .2)
+    held-ready (start .args .held) (start .args .t .now) (search needs) (start .pre .0)
 
 put-answer-requires : tie.Need-put-answer-requires
 put-answer-requires c κs = search needs

@@ -36,7 +36,7 @@ ask-line-requires : tie.Need-ask-line-requires
 ask-line-requires c κs =
     let m = c .before .before .before .before in
     let s = m .before .before .before .before .before in
-    (s .pre .1, s .pre .2, omega (arith, within m .2))
+    (s .pre .1, s .pre .2)
 
 enum-told : tie.Need-enum-told
 enum-told c = search needs

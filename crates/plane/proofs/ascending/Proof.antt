@@ -2,27 +2,28 @@
 -- Assumes nothing.
 use mathlib.Core.Path.{_≡_, refl, sym, ap, _∙_}
 use mathlib.Core.Bool.{true}
-use Prim.Native.Nat.{ℕ, suc, _+_, _-_, _*_, _≤_, _<_}
+use Prim.Native.Nat.{ℕ, suc, _+_, _-_, _*_, _≤_}
 use native.Mathlib.Omega.{arith}
 use borrow.Author.Needs.{needs}
-use borrow.Author.Tests.{eq-eqb, ne-eqb}
-use lib.Dec.{eqb, lit<}
-use lib.ListN.{length, getD, take, drop, length-take, length-drop}
-use lib.Seq.{getD-take}
+use lib.Dec.{lit<}
+use lib.ListN.{length, take, drop, length-drop}
+use lib.Seq.{getD-take, length-take-le}
 use mathlib.Core.List.{List}
 use Rattle.lists.specs.Entries.{Entry}
+use Rattle.lists.proofs.Parts.{stretch}
 use Rattle.plane.specs.Record.{entryKind, entryBody, entryLength}
-use Rattle.plane.specs.Plane.{whole, entriesWrong}
-use Rattle.plane.proofs.Scan.{whole-kind, entries-cut, entries-low, entries-step}
+use Rattle.plane.specs.Plane.{entriesWrong}
+use Rattle.plane.proofs.Scan.{refused, passed, whole-kind, assignableEntry, entries-here, entries-low, entries-step}
 use Rattle.plane.proofs.Read.{entry-part}
 use Rattle.plane.proofs.ascending.Statement.{statement}
 use Rattle.plane.proofs.ascending.Tie as tie
 
--- an entry that is not cut is one by the first byte of its part
-kind : (at : ℕ) (p : List ℕ) → at + entryLength ≤ length p → whole entryKind entryBody (drop at p) ≡ eqb (getD (take (at + entryLength - at) (drop at p)) 0 0) entryKind
-kind at p h =
-    let ten : at + entryLength - at ≡ entryLength = omega arith in
-    rw (ten, getD-take entryLength (drop at p) 0 0 (lit< tt)) (whole-kind entryKind entryBody (drop at p) (rw length-drop (omega arith)))
+-- an entry that is not cut, in a part of just its bytes
+part : (at : ℕ) (p : List ℕ) → at + entryLength ≤ length p → assignableEntry entryKind (take (at + entryLength - at) (drop at p)) ≡ assignableEntry entryKind (drop at p)
+part at p h =
+    let n : entryLength ≤ length (drop at p) = rw length-drop (omega arith) in
+    let m : length (take entryLength (drop at p)) ≡ entryLength = length-take-le entryLength (drop at p) n in
+    rw (stretch at entryLength p, whole-kind entryKind entryBody (take entryLength (drop at p)) (omega arith), whole-kind entryKind entryBody (drop at p) n, getD-take entryLength (drop at p) 0 0 (lit< tt), getD-take entryLength (drop at p) entryBody 0 (lit< tt))
 
 abbrev Inv-loop : tie.InvT-loop
 Inv-loop plane first k before at₀ left₀ last₀ at left last =
@@ -46,19 +47,22 @@ part-e-start c = search needs
 part-e-end : tie.Need-part-e-end Inv-loop μ-loop
 part-e-end c = search needs
 
-shared-slice-read-if1 : tie.Need-shared-slice-read-if1 Inv-loop μ-loop
-shared-slice-read-if1 c = simp (length-take, length-drop) (omega arith)
+entry-assignable-requires : tie.Need-entry-assignable-requires Inv-loop μ-loop
+entry-assignable-requires c κs = search needs
 
 returns : tie.Need-returns Inv-loop μ-loop
 returns c =
     let b = c .before .before .before .before in
     let p = b .before .before .args .plane .now in
     let at = b .loop .at in
-    sym (b .loop .inv .1 ∙ entries-cut (suc (b .loop .last)) (b .loop .left) at (drop at p) (omega arith) (kind at p (omega arith) ∙ ne-eqb _ _ (c .if1 .taken)))
+    let off = sym (part at p (omega arith)) ∙ refused (c .before .entry-assignable .result) (c .before .entry-assignable .ensures) (c .if1 .taken) in
+    sym (b .loop .inv .1 ∙ entries-here (suc (b .loop .last)) (b .loop .left) at (drop at p) (omega arith) off)
 
--- the entry is there, and its word
-there : (c : tie.Else1 Inv-loop μ-loop) → whole entryKind entryBody (drop (c .before .before .before .before .loop .at) (c .before .before .before .before .before .before .args .plane .now)) ≡ true
-there c = kind (c .before .before .before .before .loop .at) (c .before .before .before .before .before .before .args .plane .now) (omega arith) ∙ eq-eqb _ _ (c .if1 .left)
+-- the entry is there
+there : (c : tie.Else1 Inv-loop μ-loop) → assignableEntry entryKind (drop (c .before .before .before .before .loop .at) (c .before .before .before .before .before .before .args .plane .now)) ≡ true
+there c =
+    sym (part (c .before .before .before .before .loop .at) (c .before .before .before .before .before .before .args .plane .now) (omega arith))
+    ∙ passed (c .before .entry-assignable .result) (c .before .entry-assignable .ensures) (c .if1 .left)
 
 entry-word-requires : tie.Need-entry-word-requires Inv-loop μ-loop
 entry-word-requires c κs = search needs
@@ -102,7 +106,7 @@ ascending-spec =
     sub-e
     part-e-start
     part-e-end
-    shared-slice-read-if1
+    entry-assignable-requires
     returns
     entry-word-requires
     returns-2

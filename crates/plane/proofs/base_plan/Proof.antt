@@ -7,7 +7,7 @@ use borrow.Author.Needs.{needs}
 use lib.ListN.{length, drop, length-take, length-drop}
 use Rattle.lists.specs.Entries.{Entry, find}
 use Rattle.plane.specs.Record.{readAll, entryLength, entryFrom}
-use Rattle.plane.specs.Lookup.{orStranger}
+use Rattle.plane.specs.Lookup.{orDesk}
 use Rattle.plane.proofs.Read.{entry-part, find-here, find-next}
 use Rattle.plane.proofs.base_plan.Statement.{statement}
 use Rattle.plane.proofs.base_plan.Tie as tie
@@ -49,7 +49,7 @@ returns c =
     let same = entry-part (b .loop .at) (a .p .now) in
     let word = c .before .before .before .entry-word .ensures ∙ ap (λ (e : Entry). e .word) same in
     let plan = c .wide .ensures ∙ ap (λ (e : Entry). e .plan) same in
-    plan ∙ sym (ap orStranger (b .loop .inv .1 ∙ find-here (a .v) (b .loop .left) (c .before .before .before .entry-word .result) (drop (b .loop .at) (a .p .now)) (omega arith) word (c .before .before .if1 .taken)))
+    plan ∙ sym (ap orDesk (b .loop .inv .1 ∙ find-here (a .v) (b .loop .left) (c .before .before .before .entry-word .result) (drop (b .loop .at) (a .p .now)) (omega arith) word (c .before .before .if1 .taken)))
 
 sub-left : tie.Need-sub-left Inv-loop μ-loop
 sub-left c = search needs
@@ -68,7 +68,7 @@ returns-2 : tie.Need-returns-2 Inv-loop μ-loop
 unfolding readAll
 returns-2 c =
     let z : c .before .loop .left ≡ 0 = omega arith in
-    sym (ap orStranger (rw z at (c .before .loop .inv .1)))
+    sym (ap orDesk (rw z at (c .before .loop .inv .1)))
 
 pub base-plan-spec : {M : Type 1} → statement M
 base-plan-spec =

@@ -8,7 +8,7 @@ use lib.ListN.{drop}
 use Rattle.lists.proofs.Parts.{rest}
 use Rattle.plane.specs.Record.{entryKind, entryBody}
 use Rattle.plane.specs.Plane.{whole, entriesWrong}
-use Rattle.plane.proofs.Scan.{refused, passed, whole-next, entries-cut, entries-step}
+use Rattle.plane.proofs.Scan.{both, refused, passed, whole-next, assignableEntry, entries-here, entries-step}
 use Rattle.plane.proofs.entries_wrong.Statement.{statement}
 use Rattle.plane.proofs.entries_wrong.Tie as tie
 
@@ -25,18 +25,18 @@ part-p-start c = search needs
 part-p-end : tie.Need-part-p-end
 part-p-end c = search needs
 
-whole-requires : tie.Need-whole-requires
-whole-requires c κs = search needs
+entry-assignable-requires : tie.Need-entry-assignable-requires
+entry-assignable-requires c κs = search needs
 
 returns-2 : tie.Need-returns-2
 returns-2 c =
     let a = c .before .before .before .before .before .args in
-    let cut = rw (rest (a .first) (a .plane .now)) at (refused (c .before .whole .result) (c .before .whole .ensures) (c .if2 .taken)) in
-    sym (entries-cut 0 (a .k) (a .first) (drop (a .first) (a .plane .now)) (omega arith) cut)
+    let off = rw (rest (a .first) (a .plane .now)) at (refused (c .before .entry-assignable .result) (c .before .entry-assignable .ensures) (c .if2 .taken)) in
+    sym (entries-here 0 (a .k) (a .first) (drop (a .first) (a .plane .now)) (omega arith) off)
 
--- the first entry is not cut
-there : (c : tie.Else2) → whole entryKind entryBody (drop (c .before .before .before .before .before .args .first) (c .before .before .before .before .before .args .plane .now)) ≡ true
-there c = rw rest at (passed (c .before .whole .result) (c .before .whole .ensures) (c .if2 .left))
+-- the first entry is there
+there : (c : tie.Else2) → assignableEntry entryKind (drop (c .before .before .before .before .before .args .first) (c .before .before .before .before .before .args .plane .now)) ≡ true
+there c = rw rest at (passed (c .before .entry-assignable .result) (c .before .entry-assignable .ensures) (c .if2 .left))
 
 add-entries-after : tie.Need-add-entries-after
 add-entries-after c = search needs
@@ -50,7 +50,7 @@ entry-word-requires c κs = search needs
 entries-after-requires : tie.Need-entries-after-requires
 entries-after-requires c κs =
     let a = c .before .before .before .before .before .before .args in
-    whole-next entryKind entryBody (a .first) (a .plane .now) (there (c .before))
+    whole-next entryKind entryBody (a .first) (a .plane .now) (both (whole entryKind entryBody (drop (a .first) (a .plane .now))) _ (there (c .before)) .0)
 
 returns-3 : tie.Need-returns-3
 returns-3 c =
@@ -67,7 +67,7 @@ entries-wrong-spec =
     sub-p
     part-p-start
     part-p-end
-    whole-requires
+    entry-assignable-requires
     returns-2
     add-entries-after
     sub-entries-after

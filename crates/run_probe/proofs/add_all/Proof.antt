@@ -1,11 +1,9 @@
 -- `run_probe::add_all` meets its contract.
 -- Assumes nothing.
 use Prim.Native.Nat.{_-_, _≤_}
-use native.Mathlib.Nat.{mod-lt}
-use native.Mathlib.Omega.{arith}
 use mathlib.Core.Path.{_≡_, refl}
-use lib.ListN.{length}
-use Rattle.run_probe.proofs.Fill.{tested, Filling, filling-next, filling-stops, filling-ends}
+use lib.ListN.{length, getD}
+use Rattle.run_probe.proofs.Fill.{low-plan, tested, Filling, filling-next, filling-stops, filling-ends}
 use borrow.Author.Needs.{needs}
 use Rattle.run_probe.proofs.add_all.Statement.{statement}
 use Rattle.run_probe.proofs.add_all.Tie as tie
@@ -26,7 +24,9 @@ shared-slice-read-w : tie.Need-shared-slice-read-w Inv-loop μ-loop
 shared-slice-read-w c = search needs
 
 add-word-requires : tie.Need-add-word-requires Inv-loop μ-loop
-add-word-requires c κs = (c .before .before .before .loop .inv .1 .1 .ready, mod-lt _ (omega arith))
+add-word-requires c κs =
+    let q = c .before .before .before in
+    (q .loop .inv .1 .1 .ready, low-plan (getD (q .before .before .before .args .words .now) (q .loop .i) 0))
 
 accepted-requires : tie.Need-accepted-requires Inv-loop μ-loop
 accepted-requires c κs = search needs

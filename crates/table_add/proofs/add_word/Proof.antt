@@ -2,6 +2,9 @@
 -- Assumes nothing.
 use mathlib.Core.Path.{refl}
 use mathlib.Core.List.{[]}
+use Prim.Native.Nat.{_<_}
+use Rattle.lists.specs.Entries.{planLimit}
+use Rattle.lists.proofs.Entries.{assignable-byte}
 use Rattle.table_calls.proofs.Calls.{live, gone}
 use Rattle.table_add.proofs.Added.{added-live, added-gone}
 use borrow.Author.Needs.{needs}
@@ -18,7 +21,10 @@ enum-told : tie.Need-enum-told
 enum-told c = search needs
 
 enter-requires : tie.Need-enter-requires
-enter-requires c κs = search needs
+enter-requires c κs =
+    let s = c .before .before .before .before .before .before in
+    let byte : s .args .plan < planLimit = assignable-byte (s .args .plan) (s .pre .1) in
+    (s .pre .0, search needs)
 
 same-length : tie.Need-same-length
 same-length c = search needs

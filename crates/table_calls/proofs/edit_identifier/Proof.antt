@@ -1,11 +1,17 @@
 -- `table_calls::edit_identifier` meets its contract.
 -- Assumes nothing.
-use mathlib.Core.Path.{refl}
+use mathlib.Core.Path.{refl, sym, ap, _∙_}
+use mathlib.Core.Bool.{Bool}
 use borrow.Author.Needs.{needs}
 use Rattle.identifier.specs.Identifier.{readOf}
-use Rattle.table_calls.proofs.Calls.{ready, edit-word, edit-refused}
+use Rattle.model.specs.Request.{withPlan}
+use Rattle.table_calls.specs.Ready.{admitted}
+use Rattle.table_calls.proofs.Calls.{ready, allowed, edit-word, edit-refused}
 use Rattle.table_calls.proofs.edit_identifier.Statement.{statement}
 use Rattle.table_calls.proofs.edit_identifier.Tie as tie
+
+plan-allowed-requires : tie.Need-plan-allowed-requires
+plan-allowed-requires c κs = search needs
 
 admit-requires : tie.Need-admit-requires
 admit-requires c κs = search needs
@@ -17,8 +23,12 @@ edit-word-requires : tie.Need-edit-word-requires
 edit-word-requires c κs =
     let m = c .before .before in
     let d = m .before .before in
-    let s = d .before .before .before .before in
-    (ready _ _ (readOf (s .args .id .now)) _ (d .admit .ensures) (m .admitted .given .1) (λ i. d .before .before .before .slice-known .given i .fits), s .pre)
+    let p = d .before in
+    let s = p .before .before .before .before in
+    let y = readOf (s .args .id .now) in (
+      ready _ _ (withPlan (p .plan-allowed .result) y) _ (d .admit .ensures) (m .admitted .given .1) (λ i. p .before .before .before .slice-known .given i .fits),
+      sym (p .plan-allowed .ensures) ∙ allowed _ _ (p .plan-allowed .result) y _ (d .admit .ensures) (m .admitted .given .1),
+    )
 
 enum-known-admitted-2 : tie.Need-enum-known-admitted-2
 enum-known-admitted-2 c = search needs
@@ -31,7 +41,9 @@ returns c =
     let done = c .before .before in
     let m = done .before .before .before in
     let d = m .before .before in
-    rw (edit-word _ _ (d .before .before .before .before .args .edit) _ (d .admit .ensures) _ (m .admitted .given .1)) (done .edit-word .ensures)
+    let p = d .before in
+    let a = p .before .before .before .before .args in
+    rw (edit-word _ _ (a .edit) _ (d .admit .ensures ∙ ap (λ (b : Bool). admitted (a .t .now) (withPlan b (readOf (a .id .now)))) (p .plan-allowed .ensures)) _ (m .admitted .given .1)) (done .edit-word .ensures)
 
 same-length-2 : tie.Need-same-length-2
 same-length-2 c = search needs
@@ -40,12 +52,15 @@ returns-2 : tie.Need-returns-2
 returns-2 c =
     let m = c .before in
     let d = m .before .before in
-    rw (edit-refused _ _ (d .before .before .before .before .args .edit) _ (d .admit .ensures) _ (m .admitted2 .given .1)) (refl, refl)
+    let p = d .before in
+    let a = p .before .before .before .before .args in
+    rw (edit-refused _ _ (a .edit) _ (d .admit .ensures ∙ ap (λ (b : Bool). admitted (a .t .now) (withPlan b (readOf (a .id .now)))) (p .plan-allowed .ensures)) _ (m .admitted2 .given .1)) (refl, refl)
 
 pub edit-identifier-spec : {M : Type 1} → statement M
 edit-identifier-spec =
     tie.close
     (tie.spec
+    plan-allowed-requires
     admit-requires
     enum-known-admitted
     edit-word-requires

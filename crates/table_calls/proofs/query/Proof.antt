@@ -1,9 +1,11 @@
 -- `table_calls::query` meets its contract.
 -- Assumes nothing.
 use mathlib.Core.Path.{refl}
+use mathlib.Core.Bool.{true}
 use borrow.Author.Needs.{needs}
 use Rattle.identifier.specs.Identifier.{readOf}
 use Rattle.model.specs.Model.{query}
+use Rattle.model.specs.Request.{withPlan}
 use Rattle.table_calls.proofs.Calls.{ready, call-word, call-refused}
 use Rattle.table_calls.proofs.query.Statement.{statement}
 use Rattle.table_calls.proofs.query.Tie as tie
@@ -18,7 +20,7 @@ query-word-requires : tie.Need-query-word-requires
 query-word-requires c κs =
     let m = c .before in
     let d = m .before .before in
-    ready _ _ (readOf (d .before .before .before .args .id .now)) _ (d .admit .ensures) (m .admitted .given .1) (λ i. d .before .before .shared-slice-known .given i .fits)
+    ready _ _ (withPlan true (readOf (d .before .before .before .args .id .now))) _ (d .admit .ensures) (m .admitted .given .1) (λ i. d .before .before .shared-slice-known .given i .fits)
 
 enum-known-admitted-2 : tie.Need-enum-known-admitted-2
 enum-known-admitted-2 c = search needs

@@ -1,10 +1,9 @@
 -- `table_sound::pair_off` meets its contract.
 -- Assumes nothing.
 use mathlib.Core.Path.{sym, _∙_}
-use lib.Dec.{ltb}
-use borrow.Author.Tests.{ltb-true}
-use Rattle.lists.specs.Entries.{planLimit}
+use Rattle.lists.specs.Entries.{assignable}
 use Rattle.lists.proofs.Tests.{and-one}
+use Rattle.lists.proofs.Entries.{assignable-byte}
 use Rattle.table_sound.specs.Held.{pairTest}
 use Rattle.table_sound.proofs.Held.{left-none, off-failed, off-counted}
 use borrow.Author.Needs.{needs}
@@ -18,7 +17,7 @@ count-off-requires : tie.Need-count-off-requires
 count-off-requires c κs =
     let h = c .before .before in
     let s = h .before .before .before in
-    (s .pre .1, ltb-true _ _ (and-one (ltb (s .args .plan) planLimit) _ (sym (h .pair-held .ensures) ∙ c .before .if1 .taken)))
+    (s .pre .1, assignable-byte (s .args .plan) (and-one (assignable (s .args .plan)) _ (sym (h .pair-held .ensures) ∙ c .before .if1 .taken)))
 
 same-length : tie.Need-same-length
 same-length c = search needs

@@ -2,9 +2,9 @@
 //! plain map of the live words' plans, which settles every answer but whether the base list is full.
 
 use crate::compare::{differ, same, same_all, Seen};
-use crate::random::{any_identifier, cards, known_card};
+use crate::random::{any_identifier, any_plan, cards, known_card};
 use reference::rng::Rng;
-use reference::table::{self, Shape, BASE_COUNT, LIVE_COUNT};
+use reference::table::{self, Shape, Spot, BASE_COUNT, LIVE_COUNT};
 use reference::{identifier, ours, plane, Answer};
 use std::collections::BTreeMap;
 
@@ -91,7 +91,7 @@ impl History {
     /// One call put to both and to the map. The reference does not test its table, which is sound.
     fn call(&mut self, rng: &mut Rng, call: Call, pool: usize) {
         let id = self.identifier(rng, pool, call != Call::Add);
-        let plan = rng.byte();
+        let plan = any_plan(rng);
         let word = identifier::word(&id);
         let (shape, t, ours_t) = (self.shape, &mut self.t, &mut self.ours_t);
         let (ours, reference) = match call {
@@ -119,6 +119,7 @@ impl History {
             return;
         };
         let expected = match (call, self.plan(&id)) {
+            (Call::Add | Call::Change, _) if plan == 255 => Answer::refused(14, 0),
             (Call::Add, Some(held)) => Answer::refused(6, held.into()),
             (Call::Add, None) if ours.cause == 8 => Answer::refused(8, 0),
             (Call::Add, None) => Answer::accepted(self.live.len() as u64 + 1),
@@ -177,7 +178,7 @@ impl History {
         same_all("table", (b1, b2), &self.ours_t, &self.t);
     }
 
-    /// The plane of both, looked up for every card: a live one gives its plan.
+    /// The plane of both, looked up for every card: a live one gives its plan, and one that is nowhere 255.
     fn plane(&mut self) {
         if table::check(&self.t) != Ok(self.shape) {
             differ("table", self.t.len(), "not sound by the reference");
@@ -194,6 +195,8 @@ impl History {
             same("lookup", id, read, plane::lookup(id, plane));
             if let Some(&plan) = self.live.get(&word) {
                 same("plan", id, read, Answer::accepted(plan.into()));
+            } else if self.shape.spot(&self.t, word) == Spot::Base {
+                same("stranger", id, read, Answer::accepted(255));
             }
         }
     }
@@ -229,7 +232,7 @@ fn history(rng: &mut Rng, b1: u64, b2: u64) {
     // No call finds the table unsound; 4 comes from openings of another length.
     history.seen.print(
         &format!("{CALLS} calls from one opening of {b1} and {b2} buckets, {most} live at most, {live} at the end, {base} of them in the base list"),
-        &[0, 1, 2, 3, 4, 6, 7, 8],
+        &[0, 1, 2, 3, 4, 6, 7, 8, 14],
     );
     let asked = history.asked.total();
     let what = format!("{asked} questions for a total along it");

@@ -338,5 +338,5 @@ pub fn lines(rng: &mut Rng, cases: u64) {
         "agree: {cases} inputs of the line program, as a function and as a program, {bytes} bytes, {longer} of them over 64 KiB, \
          {refusing} that fill a table"
     );
-    seen.print("their answers", &[0, 1, 2, 3, 6, 7, 8, Seen::BAD]);
+    seen.print("their answers", &[0, 1, 2, 3, 6, 7, 8, 14, Seen::BAD]);
 }

@@ -9,6 +9,7 @@ mod patches;
 mod planes;
 mod random;
 mod records;
+mod strangers;
 mod tables;
 mod totals;
 
@@ -32,6 +33,11 @@ fn main() {
     totals::questions(&mut rng, 20_000 * times);
     totals::wrong(&mut rng, 40 * times);
     totals::one_plan(&mut rng);
+    strangers::given(&mut rng, 400 * times);
+    strangers::tables(&mut rng, long);
+    strangers::free_rows(&mut rng, 100 * times);
+    strangers::lookups(&mut rng, 2_000 * times);
+    strangers::planes(&mut rng, 1_000 * times);
     planes::planes(&mut rng, 400 * times);
     planes::edges(&mut rng);
     tables::histories(&mut rng, if long { 200 } else { 8 });

@@ -1,7 +1,7 @@
 //! Patches, made and applied: of planes put together by hand and of planes along histories; whole, edited and damaged.
 
 use crate::compare::{differ, same, same_all, Seen};
-use crate::random::some_shape;
+use crate::random::{given_plan, some_shape};
 use crate::records::{
     change, edit, end, fit, gone, new, some_patch, some_words, split, sums, Content, BASE_MAX,
 };
@@ -288,7 +288,7 @@ fn history(rng: &mut Rng, both: &mut Both, b1: u64, b2: u64, steps: u64) -> [u64
         if step == steps / 2 {
             loop {
                 let word = rng.next();
-                if shape.add(&mut t, word, rng.byte()).is_err() {
+                if shape.add(&mut t, word, given_plan(rng)).is_err() {
                     break;
                 }
                 words.push(word);
@@ -304,7 +304,7 @@ fn history(rng: &mut Rng, both: &mut Both, b1: u64, b2: u64, steps: u64) -> [u64
         let held = shape.plan(&t, word);
         let plan = match held {
             Some(held) if rng.one_in(4) => held,
-            _ => rng.byte(),
+            _ => given_plan(rng),
         };
         let changing = held.is_some() && !rng.one_in(4);
         let answer = match held {
@@ -444,6 +444,7 @@ pub fn edges(rng: &mut Rng, long: bool) {
     longest(rng, &mut both, long);
     full(rng, &mut both);
     limits(rng, &mut both);
+    desk(rng, &mut both);
     order(rng, &mut both);
     both.print("every cut and every byte of small ones, the longest, every limit");
 }
@@ -576,6 +577,66 @@ fn limits(rng: &mut Rng, both: &mut Both) {
         expect("early end", &[end()], wrong(22));
         expect("end again", &[end(), end()], wrong(22));
     }
+}
+
+/// Plan 255 in each base entry of either plane, and in each kind 8, of a new entry and of one that is there.
+fn desk(rng: &mut Rng, both: &mut Both) {
+    for (b1, b2, entries) in [(1, 1, 1), (2, 1, 3), (1, 2, 32), (48, 32, 64)] {
+        let mut from = Content::some(rng, b1, b2, &[], 0);
+        from.base = (1..=entries).map(|i| (1000 * i, i as u8)).collect();
+        let old = from.bytes();
+        let nothing = both.patch(&old, &old);
+        let first = 5 + 66 * (b1 + b2) as usize;
+        for at in (first..).step_by(10).take(entries as usize) {
+            let mut wrong = old.clone();
+            wrong[at + 9] = 255;
+            let answer = Answer::refused(10, at as u64);
+            for (a, b) in [(&wrong, &old), (&old, &wrong), (&wrong, &wrong)] {
+                let made = both.make(a, b, LONG);
+                same("255 in a plane", Input(a, b, LONG), made, answer);
+            }
+            both.expect("255 in a plane", &wrong, &nothing, answer);
+            // The old plane is tested first.
+            let mut later = old.clone();
+            later[first + 9] = 255;
+            let made = both.make(&wrong, &later, LONG);
+            same("255 in both", Input(&wrong, &later, LONG), made, answer);
+        }
+        // As many new ones as there is room for, one between each two.
+        let mut news: Vec<(u64, u8)> = from.base.clone().into_iter().collect();
+        news.extend((1..=entries.min(64 - entries)).map(|i| (1000 * i + 500, 254)));
+        news.sort();
+        let records = |news: &[(u64, u8)]| -> Vec<Vec<u8>> {
+            news.iter().map(|&(word, plan)| new(word, plan)).collect()
+        };
+        let length = first + 10 * news.len() + 5;
+        let patch = fitted(&old, &records(&news));
+        let right = Answer::accepted(length as u64);
+        both.expect("kind 8", &old, &patch, right);
+        for at in 0..news.len() {
+            let mut wrong = news.clone();
+            wrong[at].1 = 255;
+            let answer = Answer::refused(12, 17 + 10 * at as u64);
+            let patch = fitted(&old, &records(&wrong));
+            both.expect("255 in kind 8", &old, &patch, answer);
+            // Alone, and where its word goes or it would be one too many.
+            let alone = Answer::refused(12, 17);
+            let patch = fitted(&old, &records(&wrong[at..=at]));
+            both.expect("255 in kind 8 alone", &old, &patch, alone);
+            wrong[at + 1..].iter_mut().for_each(|entry| entry.1 = 255);
+            let patch = fitted(&old, &records(&wrong));
+            both.expect("255 in all the others", &old, &patch, answer);
+        }
+        let gone_first = [gone(1000), new(1000, 255)];
+        let answer = Answer::refused(12, 26);
+        both.expect("gone and 255", &old, &fitted(&old, &gone_first), answer);
+    }
+    let mut full = Content::some(rng, 1, 1, &[], 0);
+    full.base = (1..=64).map(|i| (1000 * i, i as u8)).collect();
+    let old = full.bytes();
+    let records = [new(1, 255)];
+    let answer = Answer::refused(12, 17);
+    both.expect("65th and 255", &old, &fitted(&old, &records), answer);
 }
 
 /// The first cause that a call meets, where it would meet the later ones too.

@@ -1,4 +1,4 @@
-//! Random identifiers, and tables, sound and damaged.
+//! Random identifiers and plans, and tables, sound and damaged.
 
 use crate::totals::Wrong;
 use reference::identifier;
@@ -57,6 +57,20 @@ pub fn known_card(rng: &mut Rng, cards: &[Vec<u8>]) -> Vec<u8> {
     id
 }
 
+/// A plan that a word may be given.
+pub fn given_plan(rng: &mut Rng) -> u8 {
+    rng.below(255) as u8
+}
+
+/// Any plan, now and then the one that no word is given.
+pub fn any_plan(rng: &mut Rng) -> u8 {
+    if rng.one_in(16) {
+        255
+    } else {
+        given_plan(rng)
+    }
+}
+
 /// Bucket numbers: mostly few, so that bounds fall and the base list fills; sometimes many.
 pub fn some_shape(rng: &mut Rng) -> (u64, u64) {
     match rng.below(8) {
@@ -75,7 +89,7 @@ pub fn some_table(rng: &mut Rng, cards: &[Vec<u8>]) -> Vec<u64> {
     for _ in 0..rng.below(cards.len() as u64 + 1) {
         let id = rng.pick(cards);
         let word = identifier::word(id).expect("a card");
-        let _ = shape.add(&mut t, word, rng.byte());
+        let _ = shape.add(&mut t, word, given_plan(rng));
         if rng.one_in(5) {
             let _ = shape.withdraw(
                 &mut t,
@@ -111,6 +125,53 @@ pub fn recount(t: &mut [u64]) {
     t[LEADING..HEADER].copy_from_slice(&totals);
 }
 
+/// Where a word of a table stands, or may: its bucket, level 1 first, and its row, or its base entry.
+#[derive(Clone, Copy, Debug, PartialEq)]
+pub enum Place {
+    Row(usize, usize),
+    Entry(usize),
+}
+
+/// The places of all live words of a sound table.
+pub fn places(t: &[u64]) -> Vec<Place> {
+    let mut places = rows(t, true);
+    places.extend((0..t[BASE_COUNT] as usize).map(Place::Entry));
+    places
+}
+
+/// The occupied rows of a table, or the free ones.
+pub fn rows(t: &[u64], occupied: bool) -> Vec<Place> {
+    let shape = Shape::of(t).expect("a table");
+    let buckets = 0..shape.buckets();
+    let rows = buckets.flat_map(|index| {
+        let mark = shape.read_bucket(t, index).mark;
+        let wanted = (0..64).filter(move |j| (mark >> j & 1 == 1) == occupied);
+        wanted.map(move |j| Place::Row(index, j))
+    });
+    rows.collect()
+}
+
+/// Gives a place of a sound table another plan, and no other place; the totals stay. The earlier plan is returned.
+pub fn set_plan(t: &mut [u64], place: Place, plan: u8) -> u8 {
+    let shape = Shape::of(t).expect("a table");
+    match place {
+        Place::Row(index, j) => {
+            let mut bucket = shape.read_bucket(t, index);
+            let earlier = bucket.lookup(bucket.rows().expect("invertible")[j]);
+            // XORing the row's column into a solution word changes its lookup alone.
+            for c in (0..8).filter(|c| (earlier ^ plan) >> c & 1 == 1) {
+                bucket.sols[c] ^= bucket.cols[j];
+            }
+            shape.write_bucket(t, index, &bucket);
+            earlier
+        }
+        Place::Entry(index) => {
+            let at = t.len() - 128 + 2 * index + 1;
+            std::mem::replace(&mut t[at], plan.into()) as u8
+        }
+    }
+}
+
 /// Where one of the buckets of a table starts.
 fn some_bucket(rng: &mut Rng, t: &[u64]) -> usize {
     260 + 74 * rng.below((t.len() as u64 - 388) / 74) as usize
@@ -118,7 +179,7 @@ fn some_bucket(rng: &mut Rng, t: &[u64]) -> usize {
 
 /// A change that a table from elsewhere may have, small or large.
 pub fn damage(rng: &mut Rng, t: &mut Vec<u64>) {
-    match rng.below(15) {
+    match rng.below(16) {
         0 => {
             t.pop();
         }
@@ -177,6 +238,16 @@ pub fn damage(rng: &mut Rng, t: &mut Vec<u64>) {
             let at = HEADER + rng.below((t.len() - HEADER) as u64) as usize;
             t[at] ^= 1 << rng.below(64);
             recount(t);
+        }
+        14 => {
+            // A live word with the plan that none has.
+            let places = places(t);
+            if !places.is_empty() {
+                set_plan(t, *rng.pick(&places), 255);
+            }
+            if rng.one_in(2) {
+                recount(t);
+            }
         }
         _ => {
             let at = rng.below(t.len() as u64) as usize;

@@ -1,5 +1,6 @@
 //! Planes and patches put together record by record, right ones and edited ones.
 
+use crate::random::given_plan;
 use reference::identifier::fnv1a64;
 use reference::patch::{self, Patch};
 use reference::plane::{self, Plane};
@@ -48,7 +49,7 @@ impl Content {
         };
         for &word in words {
             if content.base.len() < entries && !rng.one_in(3) {
-                content.base.insert(word, rng.byte());
+                content.base.insert(word, given_plan(rng));
             }
         }
         content
@@ -70,12 +71,12 @@ impl Content {
         other.base.retain(|_, _| !rng.one_in(gone));
         for plan in other.base.values_mut() {
             if rng.one_in(changed) {
-                *plan = rng.byte();
+                *plan = given_plan(rng);
             }
         }
         for _ in 0..rng.below(BASE_MAX as u64 + 1) {
             if other.base.len() < BASE_MAX && !rng.one_in(4) {
-                other.base.insert(*rng.pick(words), rng.byte());
+                other.base.insert(*rng.pick(words), given_plan(rng));
             }
         }
         other
@@ -169,7 +170,7 @@ pub fn some_patch(rng: &mut Rng, old: &Content) -> Vec<Vec<u8>> {
         if rng.one_in(often) {
             leaving.insert(word);
         } else if rng.one_in(4) {
-            let other = rng.byte();
+            let other = given_plan(rng);
             news.insert(word, *rng.pick(&[plan, other]));
         }
     }
@@ -180,7 +181,13 @@ pub fn some_patch(rng: &mut Rng, old: &Content) -> Vec<Vec<u8>> {
         _ => rng.below(room as u64 + 1) as usize,
     };
     for _ in 0..count {
-        news.insert(rng.next(), rng.byte());
+        news.insert(rng.next(), given_plan(rng));
+    }
+    if rng.one_in(16) {
+        let at = rng.below(news.len() as u64 + 1) as usize;
+        if let Some(plan) = news.values_mut().nth(at) {
+            *plan = 255;
+        }
     }
     if rng.one_in(16) {
         news.extend(leaving.first().map(|&word| (word, 0)));
@@ -234,7 +241,7 @@ pub fn edit(rng: &mut Rng, records: &mut Vec<Vec<u8>>, buckets: usize, words: &[
                 *byte = rng.byte();
             }
         }
-        // A value of a record: index, bound or word.
+        // A value of a record: index, bound, word or plan.
         _ => match records[i].first() {
             Some(6) if records[i].len() > 2 && rng.one_in(2) => {
                 let any = rng.byte();
@@ -244,6 +251,9 @@ pub fn edit(rng: &mut Rng, records: &mut Vec<Vec<u8>>, buckets: usize, words: &[
             Some(6) if records[i].len() > 2 => {
                 let any = rng.byte();
                 records[i][2] = *rng.pick(&[0, 7, 8, 9, 10, 128, 255, any]);
+            }
+            Some(8) if records[i].len() > 9 && rng.one_in(3) => {
+                records[i][9] = *rng.pick(&[0, 254, 255]);
             }
             Some(7 | 8) if records[i].len() > 8 => {
                 let word = some_word(rng, records, i, words);

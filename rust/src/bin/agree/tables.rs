@@ -1,7 +1,7 @@
 //! Calls and questions for a total on tables, sound ones and damaged ones, and short histories.
 
 use crate::compare::{same_all, Seen};
-use crate::random::{card, cards, damage, some_shape, some_table};
+use crate::random::{any_plan, card, cards, damage, some_shape, some_table};
 use crate::totals;
 use reference::ours;
 use reference::rng::Rng;
@@ -34,7 +34,7 @@ fn call_but_open(
     t: &mut [u64],
 ) {
     let id = card(rng, cards);
-    let plan = rng.byte();
+    let plan = any_plan(rng);
     match rng.below(24) {
         0..=6 => seen.same("query", &id, ours::query(ours_t, &id), table::query(t, &id)),
         7..=12 => seen.same(
@@ -82,7 +82,7 @@ pub fn tables(rng: &mut Rng, cases: u64) {
             "{} calls on {cases} tables, sound and damaged",
             seen.total()
         ),
-        &[0, 1, 2, 3, 4, 5, 6, 7, 8],
+        &[0, 1, 2, 3, 4, 5, 6, 7, 8, 14],
     );
     asked.print(
         &format!("{} questions for a total on them", asked.total()),
@@ -115,7 +115,7 @@ pub fn histories(rng: &mut Rng, cases: u64) {
         for _ in 0..2000 {
             if filling {
                 let id = rng.pick::<Vec<u8>>(&cards);
-                let plan = rng.byte();
+                let plan = any_plan(rng);
                 let answer = table::add(&mut t, id, plan);
                 seen.same("add", id, ours::add(&mut ours_t, id, plan), answer);
                 same_all("table", id, &ours_t, &t);
@@ -134,7 +134,7 @@ pub fn histories(rng: &mut Rng, cases: u64) {
         &format!(
             "{cases} histories of 2,000 calls, {refused} of them filled until the first refusal"
         ),
-        &[0, 1, 2, 6, 7, 8],
+        &[0, 1, 2, 6, 7, 8, 14],
     );
     asked.print(
         &format!("{} questions for a total along them", asked.total()),

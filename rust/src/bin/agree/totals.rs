@@ -1,9 +1,12 @@
 //! Totals: the question for one on any numbers, tables whose totals alone are wrong, and tables with one plan for all.
 
 use crate::compare::{differ, same, same_all, Seen};
-use crate::random::{cards, different_cards, known_card, recount, some_shape, some_table};
+use crate::random::{
+    cards, different_cards, given_plan, known_card, places, recount, set_plan, some_shape,
+    some_table, Place,
+};
 use reference::rng::Rng;
-use reference::table::{self, Shape, BASE_COUNT, HEADER, LEADING, LIVE_COUNT, TOTALS};
+use reference::table::{self, Shape, HEADER, LEADING, LIVE_COUNT, TOTALS};
 use reference::{identifier, ours, plane};
 
 /// A plan, often the first or the last.
@@ -13,7 +16,7 @@ fn some_plan(rng: &mut Rng) -> u8 {
 }
 
 /// The question for a plan's total put to both.
-fn ask(asked: &mut Seen, t: &[u64], plan: u8) {
+pub fn ask(asked: &mut Seen, t: &[u64], plan: u8) {
     asked.same(
         "total",
         (t.len(), plan),
@@ -36,7 +39,7 @@ pub fn ask_some(rng: &mut Rng, asked: &mut Seen, t: &[u64]) {
 }
 
 /// Any numbers, mostly with bucket numbers in range and of the length that these give, or nearly.
-fn some_numbers(rng: &mut Rng) -> Vec<u64> {
+pub fn some_numbers(rng: &mut Rng) -> Vec<u64> {
     let (b1, b2) = if rng.one_in(4) {
         *rng.pick(&[(0, 1), (1, 0), (0, 2), (49, 1), (1, 33), (48, 32), (49, 33)])
     } else {
@@ -159,8 +162,8 @@ impl Wrong {
                 plan_where(rng, |p| totals[p] > 0)?;
                 totals.fill(0);
             }
-            Wrong::Row => return other_row_plan(rng, t),
-            Wrong::Entry => return other_entry_plan(rng, t),
+            Wrong::Row => return other_plan(rng, t, |place| matches!(place, Place::Row(..))),
+            Wrong::Entry => return other_plan(rng, t, |place| matches!(place, Place::Entry(_))),
         }
         Some(())
     }
@@ -172,40 +175,24 @@ fn plan_where(rng: &mut Rng, wanted: impl Fn(usize) -> bool) -> Option<usize> {
     (!plans.is_empty()).then(|| *rng.pick(&plans))
 }
 
-/// XORs a row's column into solution words: its lookup alone becomes another.
-fn other_row_plan(rng: &mut Rng, t: &mut [u64]) -> Option<()> {
-    let shape = Shape::of(t).ok()?;
-    let occupied: Vec<usize> = (0..shape.buckets())
-        .filter(|&index| shape.read_bucket(t, index).mark != 0)
-        .collect();
-    if occupied.is_empty() {
+/// Gives a word at one of the wanted places another plan that it may have.
+fn other_plan(rng: &mut Rng, t: &mut [u64], wanted: impl Fn(Place) -> bool) -> Option<()> {
+    let mut places = places(t);
+    places.retain(|&place| wanted(place));
+    if places.is_empty() {
         return None;
     }
-    let index = *rng.pick(&occupied);
-    let mut bucket = shape.read_bucket(t, index);
-    let rows: Vec<usize> = (0..64).filter(|j| bucket.mark >> j & 1 == 1).collect();
-    let col = bucket.cols[*rng.pick(&rows)];
-    let difference = 1 << rng.below(8) | rng.byte();
-    for c in (0..8).filter(|c| difference >> c & 1 == 1) {
-        bucket.sols[c] ^= col;
+    let place = *rng.pick(&places);
+    let plan = given_plan(rng);
+    if set_plan(t, place, plan) == plan {
+        set_plan(t, place, (plan + 1) % 255);
     }
-    shape.write_bucket(t, index, &bucket);
-    Some(())
-}
-
-fn other_entry_plan(rng: &mut Rng, t: &mut [u64]) -> Option<()> {
-    let count = t[BASE_COUNT];
-    if count == 0 {
-        return None;
-    }
-    let entry = t.len() - 128 + 2 * rng.below(count) as usize;
-    t[entry + 1] ^= 1 + rng.below(255);
     Some(())
 }
 
 /// Each call that tests the table put to both: the same answers; the table and the output stay.
-fn refuse(rng: &mut Rng, seen: &mut Seen, id: &[u8], t: &[u64]) {
-    let plan = rng.byte();
+pub fn refuse(rng: &mut Rng, seen: &mut Seen, id: &[u8], t: &[u64]) {
+    let plan = given_plan(rng);
     let (mut ours_t, mut their_t) = (t.to_vec(), t.to_vec());
     let (a, b) = (&mut ours_t, &mut their_t);
     seen.same("add", id, ours::add(a, id, plan), table::add(b, id, plan));
@@ -271,18 +258,19 @@ pub fn wrong(rng: &mut Rng, cases: u64) {
     right.print("queries with the totals right again", &[0, 7]);
 }
 
-/// All live words on the first, the last or another plan until the first refusal, and then some on another plan or withdrawn.
+/// All live words on the first, the last or another plan that they may have until the first refusal, and then some on another plan or
+/// withdrawn.
 pub fn one_plan(rng: &mut Rng) {
     let (mut seen, mut asked) = (Seen::none(), Seen::none());
     for (b1, b2) in [(1, 1), (2, 1), (4, 2), (48, 32)] {
         let shape = Shape::new(b1, b2).expect("in range");
-        for plan in [0, 255, 1 + rng.below(254) as u8] {
+        for plan in [0, 254, 1 + rng.below(253) as u8] {
             let mut filled = Filled::new(shape, plan);
             filled.fill(&mut seen, &mut asked);
             filled.empty(rng, &mut seen, &mut asked);
         }
     }
-    seen.print("tables with one plan for all, filled", &[0, 8]);
+    seen.print("tables with one plan for all, filled", &[0, 8, 14]);
     asked.print("questions for a total on them", &[0]);
 }
 
@@ -340,13 +328,13 @@ impl Filled {
         ask_all(asked, &self.t);
     }
 
-    /// Some words changed, to this plan and to others, and withdrawn.
+    /// Some words changed, to this plan and to others, 255 among them, and withdrawn.
     fn empty(&mut self, rng: &mut Rng, seen: &mut Seen, asked: &mut Seen) {
         for _ in 0..5 {
             let id = self
                 .inside
                 .swap_remove(rng.below(self.inside.len() as u64) as usize);
-            for plan in [self.plan, some_plan(rng), self.plan, !self.plan] {
+            for plan in [self.plan, some_plan(rng), 255, self.plan, 254 - self.plan] {
                 let ours = ours::change(&mut self.ours_t, &id, plan);
                 seen.same("change", &id, ours, table::change(&mut self.t, &id, plan));
                 self.compare(asked, &id);
