@@ -16,7 +16,7 @@ pub record Entry : Type 0 where
 abbrev pub planLimit : ℕ
 planLimit = 256
 
--- document 02, order 3: the plan that means "call the desk". A post answers it for a word that is nowhere
+-- document 02, order 3: the plan that means "call the desk". A post answers it for a word due to the base list and absent
 abbrev pub deskPlan : ℕ
 deskPlan = 255
 
