@@ -1,6 +1,5 @@
 -- `lines_run::obey` meets its contract.
 -- Assumes nothing.
-use native.Mathlib.Omega.{arith}
 use mathlib.Core.Path.{subst}
 use lib.ListN.{length}
 use Rattle.lines_text.specs.declared.Parsed.the-variants.{Ask}
