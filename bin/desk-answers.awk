@@ -2,10 +2,10 @@
 # Exit status: 0 every line was accepted, 1 one was not, 2 there are not as many answers as lines.
 BEGIN {
     form["open"] = "open B1 B2"
-    form["add"] = "add ID PLAN"
-    form["set"] = "set ID PLAN"
-    form["del"] = "del ID"
-    form["get"] = "get ID"
+    form["add"] = "add KIND ID PLAN"
+    form["set"] = "set KIND ID PLAN"
+    form["del"] = "del KIND ID"
+    form["get"] = "get KIND ID"
 }
 FILENAME == ARGV[1] {
     answer[FNR] = $0
@@ -60,6 +60,11 @@ function words(a) {
     return "not read: " fault()
 }
 
+# the identifier that a line is about: kind and letters, as the table tells them apart
+function identifier(kind) {
+    return kind " " toupper(field[3])
+}
+
 # what the number n says that an accepted line returns
 function returned(verb, n) {
     if (verb == "open") {
@@ -68,14 +73,14 @@ function returned(verb, n) {
         return "the table is open and empty"
     }
     if (verb == "add") {
-        since[toupper(field[2])] = lines
-        return "it has plan " field[3] "; live identifiers: " n
+        since[identifier(field[2])] = lines
+        return "it has plan " field[4] "; live identifiers: " n
     }
     if (verb == "set") {
-        return "it has plan " field[3] "; it had plan " n
+        return "it has plan " field[4] "; it had plan " n
     }
     if (verb == "del") {
-        delete since[toupper(field[2])]
+        delete since[identifier(field[2])]
         return "it is withdrawn; it had plan " n
     }
     return "it has plan " n
@@ -83,9 +88,9 @@ function returned(verb, n) {
 
 # the causes that a line can meet
 function cause(n,  id) {
-    id = toupper(field[2])
+    id = identifier(field[2])
     if (n == 1) {
-        return id == "" ? "the identifier is empty" : "the identifier has " id_bytes() " bytes, at most 20 are allowed"
+        return field[3] == "" ? "the identifier is empty" : "the identifier has " id_bytes() " bytes, at most 36 are allowed"
     }
     if (n == 2) {
         return "the identifier has " stranger() "; allowed are letters, digits and * - _ = : + | @ ."
@@ -97,7 +102,7 @@ function cause(n,  id) {
         return "it is live already" (id in since ? ", since line " since[id] : "") "; set changes its plan"
     }
     if (n == 7) {
-        return "it is not live"
+        return "it is not live" other_kinds()
     }
     if (n == 8) {
         return "no room for it, the base list is full; a table with more buckets has more room"
@@ -105,20 +110,33 @@ function cause(n,  id) {
     if (n == 14) {
         return "plan 255 is given to no identifier: it means \"call the desk\""
     }
+    if (n == 15) {
+        return "the kind " field[2] " is none of 1 Central, 2 eMAID, 3 ISO14443, 4 ISO15693, 5 KeyCode, 6 Local, 7 MacAddress"
+    }
     return "cause " n
 }
 
-# the bytes of the second field
+# since when the same letters are live under other kinds: those are other identifiers
+function other_kinds(  kind, found) {
+    for (kind = 1; kind <= 7; kind++) {
+        if (identifier(kind) in since) {
+            found = found "; the same letters under kind " kind " are, since line " since[identifier(kind)]
+        }
+    }
+    return found
+}
+
+# the bytes of ID, which the kind's digit stands before
 function id_bytes(  i, n) {
-    for (i = length(field[1]) + 2; i <= size && at[i] != 32; i++) {
+    for (i = length(field[1]) + 4; i <= size && at[i] != 32; i++) {
         n++
     }
     return n + 0
 }
 
-# the first byte of the second field that is not allowed
+# the first byte of ID that is not allowed
 function stranger(  i) {
-    for (i = length(field[1]) + 2; i <= size && at[i] != 32; i++) {
+    for (i = length(field[1]) + 4; i <= size && at[i] != 32; i++) {
         if (at[i] > 127) {
             return "a character that is not ASCII (byte " shown(at[i]) ")"
         }
@@ -130,7 +148,7 @@ function stranger(  i) {
 }
 
 # why a line was not read
-function fault(  verb, limit, f) {
+function fault(  verb, f) {
     verb = field[1]
     if (size > 63) {
         return "the line has " size " bytes, at most 63 are allowed"
@@ -150,12 +168,17 @@ function fault(  verb, limit, f) {
     if (fields != split(form[verb], f, " ")) {
         return "its form is \"" form[verb] "\", with single spaces"
     }
-    limit = verb == "open" ? 999 : 255
-    if (verb == "open" && misread(field[2], limit) != "") {
-        return "B1 " misread(field[2], limit)
+    if (verb == "open" && misread(field[2], 999) != "") {
+        return "B1 " misread(field[2], 999)
     }
-    if (fields == 3 && misread(field[3], limit) != "") {
-        return (verb == "open" ? "B2 " : "the plan ") misread(field[3], limit)
+    if (verb == "open" && misread(field[3], 999) != "") {
+        return "B2 " misread(field[3], 999)
+    }
+    if (verb != "open" && field[2] !~ /^[0-9]$/) {
+        return "the kind " (field[2] == "" ? "is missing" : "\"" field[2] "\" is wrong") ": it is one digit, 1 to 7"
+    }
+    if (fields == 4 && misread(field[4], 255) != "") {
+        return "the plan " misread(field[4], 255)
     }
     return opened ? "the line program does not know it" : "no table is open yet; open B1 B2 opens one"
 }

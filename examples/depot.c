@@ -1,8 +1,8 @@
 /* A depot: opens a table, adds the cards of a text file, writes the plane file and prints how many cards each plan has.
  * Use: depot B1 B2 CARDS-FILE PLANE-FILE
  *
- * A line of the cards file is an identifier, one space, a plan and a line feed, and nothing else. A last line without line feed is refused,
- * since a file that was cut may end in a wrong plan. If any line is refused, no plane is written and an older plane file stays as it was.
+ * A line of the cards file is a kind, one space, an identifier, one space, a plan and a line feed, and nothing else. A last line without line feed
+ * is refused, since a file that was cut may end in a wrong plan. If any line is refused, no plane is written and an older plane file stays as it was.
  * Status 0: the plane is written; 1: cards refused; 2: wrong use, or a file that cannot be read or written. */
 #define _POSIX_C_SOURCE 200809L
 #include <inttypes.h>
@@ -46,8 +46,16 @@ static size_t read_line(FILE *file, char line[LINE_ROOM], int *end)
     return length;
 }
 
-/* Parts a line into identifier and plan. Returns what is wrong with it, or NULL. */
-static const char *read_card(const char *line, size_t length, int end, size_t *id_length, uint8_t *plan)
+/* A card: a kind, an identifier in the line that it was read from, and a plan. */
+struct card {
+    uint8_t kind;
+    const char *id;
+    size_t id_length;
+    uint8_t plan;
+};
+
+/* Parts a line into a card. Returns what is wrong with it, or NULL. */
+static const char *read_card(const char *line, size_t length, int end, struct card *card)
 {
     if (end == EOF)
         return length == 0 ? "no cards" : "no line feed at the end: is the file cut?";
@@ -57,19 +65,25 @@ static const char *read_card(const char *line, size_t length, int end, size_t *i
         return "line is too long";
     if (line[length - 1] == '\r')
         return "carriage return at the end: a line ends in a line feed alone";
-    const char *space = memchr(line, ' ', length);
-    if (space == NULL)
-        return "no space: a line is an identifier, one space and a plan";
-    *id_length = (size_t)(space - line);
-    size_t plan_length = length - *id_length - 1;
-    if (memchr(space + 1, ' ', plan_length) != NULL)
-        return "more than one space: a line is an identifier, one space and a plan";
+    const char *last = line + length;
+    const char *first = memchr(line, ' ', length);
+    const char *second = first == NULL ? NULL : memchr(first + 1, ' ', (size_t)(last - first - 1));
+    if (second == NULL)
+        return "less than two spaces: a line is a kind, an identifier and a plan, parted by single spaces";
+    size_t plan_length = (size_t)(last - second - 1);
+    if (memchr(second + 1, ' ', plan_length) != NULL)
+        return "more than two spaces: a line is a kind, an identifier and a plan, parted by single spaces";
+    if (first != line + 1 || line[0] < '0' || line[0] > '9')
+        return "kind is not one digit from 1 to 7";
+    card->kind = (uint8_t)(line[0] - '0');
+    card->id = first + 1;
+    card->id_length = (size_t)(second - card->id);
     if (plan_length == 0)
         return "no plan after the space";
-    int n = read_number(space + 1, plan_length, UINT8_MAX);
+    int n = read_number(second + 1, plan_length, UINT8_MAX);
     if (n < 0)
         return "plan is not a decimal number from 0 to 254 (no sign, no leading zeros, nothing after it)";
-    *plan = (uint8_t)n;
+    card->plan = (uint8_t)n;
     return NULL;
 }
 
@@ -77,6 +91,9 @@ static const char *read_card(const char *line, size_t length, int end, size_t *i
 static void say_cause(uint64_t cause, uint64_t value)
 {
     switch (cause) {
+    case LIMGOSHI_WRONG_KIND:
+        fprintf(stderr, "kind is none of 1 Central, 2 eMAID, 3 ISO14443, 4 ISO15693, 5 KeyCode, 6 Local, 7 MacAddress\n");
+        break;
     case LIMGOSHI_WRONG_LENGTH:
         fprintf(stderr, "identifier of %" PRIu64 " bytes: 1 to %u are allowed\n", value, LIMGOSHI_ID_MAX);
         break;
@@ -107,16 +124,15 @@ static bool add_cards(FILE *file, const char *name, size_t numbers)
         size_t length = read_line(file, line, &end);
         if (ferror(file) || (end == EOF && length == 0 && at > 1))
             return right;
-        size_t id_length;
-        uint8_t plan;
+        struct card card;
         uint64_t value;
-        const char *wrong = read_card(line, length, end, &id_length, &plan);
+        const char *wrong = read_card(line, length, end, &card);
         if (wrong != NULL) {
             fprintf(stderr, "%s:%lu: %s\n", name, at, wrong);
             right = false;
             continue;
         }
-        uint64_t cause = limgoshi_add(table, numbers, (const uint8_t *)line, id_length, plan, &value);
+        uint64_t cause = limgoshi_add(table, numbers, card.kind, (const uint8_t *)card.id, card.id_length, card.plan, &value);
         if (cause != LIMGOSHI_ACCEPTED) {
             fprintf(stderr, "%s:%lu: ", name, at);
             say_cause(cause, value);

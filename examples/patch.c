@@ -47,7 +47,7 @@ static bool read_file(const char *name, struct input *input)
 static bool is_plane(const struct input *input)
 {
     uint64_t plan;
-    return limgoshi_plane_lookup((const uint8_t *)"A", 1, input->bytes, input->length, &plan) == LIMGOSHI_ACCEPTED;
+    return limgoshi_plane_lookup(LIMGOSHI_CENTRAL, (const uint8_t *)"A", 1, input->bytes, input->length, &plan) == LIMGOSHI_ACCEPTED;
 }
 
 /* Says why a call was turned down. */

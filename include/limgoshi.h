@@ -3,6 +3,10 @@
  * Answers. Each function returns 0, accepted, or the number of the first cause that it meets, and writes the number that goes with it into
  * *value, turned down or not. A call that is turned down leaves the table and the output exactly as they were.
  *
+ * Identifiers. An identifier is a kind and some bytes; small letters count as capitals. The same bytes under two kinds are two identifiers, each with
+ * a plan of its own. Tables and planes made before there were kinds hold other words. Nothing in them shows that and no call turns them down for it:
+ * make them anew from the identifiers and their kinds.
+ *
  * Buffers. Any bytes may be handed in as identifier, table, plane, patch or output. Nothing is kept between calls. A pointer whose length is 0 may
  * be NULL; value may not. The buffers of one call must not overlap, and value must not point into one of them.
  *
@@ -24,7 +28,7 @@
 extern "C" {
 #endif
 
-#define LIMGOSHI_ID_MAX 20u       /* an identifier is 1 to 20 bytes: letters, digits and * - _ = : + | @ . */
+#define LIMGOSHI_ID_MAX 36u       /* bytes of an identifier: 1 to 36, letters, digits and * - _ = : + | @ . */
 #define LIMGOSHI_PLANS 256u       /* plans: 0 to 255; identifiers are given 0 to 254 */
 #define LIMGOSHI_BUCKETS1_MAX 48u /* buckets of level 1: 1 to 48 */
 #define LIMGOSHI_BUCKETS2_MAX 32u /* buckets of level 2: 1 to 32 */
@@ -51,23 +55,35 @@ extern "C" {
 #define LIMGOSHI_STACK_LOOKUP 500u  /* limgoshi_plane_lookup, limgoshi_plan_total */
 #define LIMGOSHI_STACK 8000u        /* any other */
 
-/* The causes in the order in which they are tested, but 14 after 2 and 9 last of all, each with what *value then is. */
+/* The kinds of identifiers: 1 to 7. */
+enum {
+    LIMGOSHI_CENTRAL = 1,
+    LIMGOSHI_EMAID = 2,
+    LIMGOSHI_ISO14443 = 3,
+    LIMGOSHI_ISO15693 = 4,
+    LIMGOSHI_KEY_CODE = 5,
+    LIMGOSHI_LOCAL = 6,
+    LIMGOSHI_MAC_ADDRESS = 7
+};
+
+/* The causes in the order in which they are tested, but 15 first, 14 after 2 and 9 last of all, each with what *value then is. */
 enum {
     LIMGOSHI_ACCEPTED = 0,
-    LIMGOSHI_WRONG_LENGTH = 1,    /* identifier of 0 or over 20 bytes: its length */
-    LIMGOSHI_WRONG_BYTE = 2,      /* byte of the identifier not allowed: index of the first, from 0 */
-    LIMGOSHI_WRONG_BUCKETS = 3,   /* bucket numbers out of range at opening: 0 */
-    LIMGOSHI_WRONG_TABLE = 4,     /* table of another length than its bucket numbers give, or these out of range: the length */
-    LIMGOSHI_NOT_SOUND = 5,       /* table not sound: 0 */
-    LIMGOSHI_LIVE = 6,            /* the identifier is live already: its plan */
-    LIMGOSHI_NOT_LIVE = 7,        /* the identifier is not live: 0 */
-    LIMGOSHI_FULL = 8,            /* the base list has no room for what the add would send there: 0 */
-    LIMGOSHI_SHORT_OUTPUT = 9,    /* output shorter than the plane or patch: the length needed */
-    LIMGOSHI_WRONG_PLANE = 10,    /* not a plane: offset of the first record that is wrong or cut, or of the first byte after the last */
-    LIMGOSHI_UNLIKE_PLANES = 11,  /* planes that differ in bucket numbers: 0 */
-    LIMGOSHI_WRONG_PATCH = 12,    /* not a patch for this plane: offset in the patch, as for 10; a record out of its place is wrong too */
-    LIMGOSHI_WRONG_SUM = 13,      /* a sum in the patch is not that of the old plane, or not that of the new one: 0 */
-    LIMGOSHI_DESK_PLAN_GIVEN = 14 /* plan LIMGOSHI_CALL_THE_DESK given: 0 */
+    LIMGOSHI_WRONG_LENGTH = 1,     /* identifier of 0 or over 36 bytes: its length */
+    LIMGOSHI_WRONG_BYTE = 2,       /* byte of the identifier not allowed: index of the first, from 0 */
+    LIMGOSHI_WRONG_BUCKETS = 3,    /* bucket numbers out of range at opening: 0 */
+    LIMGOSHI_WRONG_TABLE = 4,      /* table of another length than its bucket numbers give, or these out of range: the length */
+    LIMGOSHI_NOT_SOUND = 5,        /* table not sound: 0 */
+    LIMGOSHI_LIVE = 6,             /* the identifier is live already: its plan */
+    LIMGOSHI_NOT_LIVE = 7,         /* the identifier is not live: 0 */
+    LIMGOSHI_FULL = 8,             /* the base list has no room for what the add would send there: 0 */
+    LIMGOSHI_SHORT_OUTPUT = 9,     /* output shorter than the plane or patch: the length needed */
+    LIMGOSHI_WRONG_PLANE = 10,     /* not a plane: offset of the first record that is wrong or cut, or of the first byte after the last */
+    LIMGOSHI_UNLIKE_PLANES = 11,   /* planes that differ in bucket numbers: 0 */
+    LIMGOSHI_WRONG_PATCH = 12,     /* not a patch for this plane: offset in the patch, as for 10; a record out of its place is wrong too */
+    LIMGOSHI_WRONG_SUM = 13,       /* a sum in the patch is not that of the old plane, or not that of the new one: 0 */
+    LIMGOSHI_DESK_PLAN_GIVEN = 14, /* plan LIMGOSHI_CALL_THE_DESK given: 0 */
+    LIMGOSHI_WRONG_KIND = 15       /* kind not 1 to 7: 0 */
 };
 
 /* The compiler warns where an answer is not looked at. */
@@ -82,20 +98,22 @@ enum {
 LIMGOSHI_ANSWER limgoshi_open(uint64_t *table, size_t table_len, uint64_t b1, uint64_t b2, uint64_t *value);
 
 /* Adds an identifier with its plan, 0 to 254.
- * Value: the number of live identifiers. Causes: 1, 2, 14, 4, 5, 6, 8. Time: 6 to 300 microseconds. Stack: LIMGOSHI_STACK_ADD. */
-LIMGOSHI_ANSWER limgoshi_add(uint64_t *table, size_t table_len, const uint8_t *id, size_t id_len, uint8_t plan, uint64_t *value);
+ * Value: the number of live identifiers. Causes: 15, 1, 2, 14, 4, 5, 6, 8. Time: 6 to 300 microseconds. Stack: LIMGOSHI_STACK_ADD. */
+LIMGOSHI_ANSWER limgoshi_add(uint64_t *table, size_t table_len, uint8_t kind, const uint8_t *id, size_t id_len, uint8_t plan,
+                             uint64_t *value);
 
 /* Changes the plan of a live identifier, to 0 to 254.
- * Value: the earlier plan. Causes: 1, 2, 14, 4, 5, 7. Time: 6 to 300 microseconds. Stack: LIMGOSHI_STACK. */
-LIMGOSHI_ANSWER limgoshi_change(uint64_t *table, size_t table_len, const uint8_t *id, size_t id_len, uint8_t plan, uint64_t *value);
+ * Value: the earlier plan. Causes: 15, 1, 2, 14, 4, 5, 7. Time: 6 to 300 microseconds. Stack: LIMGOSHI_STACK. */
+LIMGOSHI_ANSWER limgoshi_change(uint64_t *table, size_t table_len, uint8_t kind, const uint8_t *id, size_t id_len, uint8_t plan,
+                                uint64_t *value);
 
 /* Withdraws a live identifier.
- * Value: the earlier plan. Causes: 1, 2, 4, 5, 7. Time: 6 to 300 microseconds. Stack: LIMGOSHI_STACK. */
-LIMGOSHI_ANSWER limgoshi_withdraw(uint64_t *table, size_t table_len, const uint8_t *id, size_t id_len, uint64_t *value);
+ * Value: the earlier plan. Causes: 15, 1, 2, 4, 5, 7. Time: 6 to 300 microseconds. Stack: LIMGOSHI_STACK. */
+LIMGOSHI_ANSWER limgoshi_withdraw(uint64_t *table, size_t table_len, uint8_t kind, const uint8_t *id, size_t id_len, uint64_t *value);
 
 /* Finds the plan of a live identifier.
- * Value: the plan. Causes: 1, 2, 4, 5, 7. Time: 6 to 300 microseconds. Stack: LIMGOSHI_STACK. */
-LIMGOSHI_ANSWER limgoshi_query(const uint64_t *table, size_t table_len, const uint8_t *id, size_t id_len, uint64_t *value);
+ * Value: the plan. Causes: 15, 1, 2, 4, 5, 7. Time: 6 to 300 microseconds. Stack: LIMGOSHI_STACK. */
+LIMGOSHI_ANSWER limgoshi_query(const uint64_t *table, size_t table_len, uint8_t kind, const uint8_t *id, size_t id_len, uint64_t *value);
 
 /* Reads how many live identifiers have a plan, from the totals that the table keeps. Only the table's length and bucket numbers are tested: of a table
  * that is not sound the answer is the number that stands there, right or wrong. To have the table tested, make any call that has cause 5, as
@@ -109,8 +127,8 @@ LIMGOSHI_ANSWER limgoshi_write_plane(const uint64_t *table, size_t table_len, ui
 
 /* Finds the plan that a plane gives an identifier: to a live one its plan, to any other LIMGOSHI_CALL_THE_DESK, or some number where a bucket holds
  * it. The whole plane is checked at each call.
- * Value: the plan. Causes: 1, 2, 10. Time: 0.1 microseconds. Stack: LIMGOSHI_STACK_LOOKUP. */
-LIMGOSHI_ANSWER limgoshi_plane_lookup(const uint8_t *id, size_t id_len, const uint8_t *plane, size_t plane_len, uint64_t *value);
+ * Value: the plan. Causes: 15, 1, 2, 10. Time: 0.1 microseconds. Stack: LIMGOSHI_STACK_LOOKUP. */
+LIMGOSHI_ANSWER limgoshi_plane_lookup(uint8_t kind, const uint8_t *id, size_t id_len, const uint8_t *plane, size_t plane_len, uint64_t *value);
 
 /* Makes the patch from an old plane to a new one, for posts that have the old one, to the front of out; what lies past it is untouched.
  * Value: the patch's length. Causes: 10 (old_plane, then new_plane), 11, 9. Time: 1 to 20 microseconds. Stack: LIMGOSHI_STACK_PATCH. */

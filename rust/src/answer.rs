@@ -25,6 +25,7 @@ pub const PLANES_UNLIKE: u64 = 11;
 pub const PATCH_WRONG: u64 = 12;
 pub const SUM_WRONG: u64 = 13;
 pub const DESK_PLAN_GIVEN: u64 = 14;
+pub const KIND_WRONG: u64 = 15;
 
 impl Answer {
     pub const fn accepted(value: u64) -> Answer {

@@ -1,16 +1,25 @@
-//! Identifier, word and place (document 01, "Identifier, word, place").
+//! Identifier, word and place (document 01, "Identifier, word, place"; document
+//! 02, order 4).
 //!
 //! Decisions:
-//! - Cause 1 comes before cause 2: a length of 0 or over 20 is answered with
+//! - An identifier is its kind and its bytes. Cause 15 comes before cause 1: a
+//!   kind out of range is answered with 0, whatever the bytes are.
+//! - Cause 1 comes before cause 2: a length of 0 or over 36 is answered with
 //!   the length, whatever the bytes are.
+//! - The kind is hashed as a byte of that value, 1 to 7, before the bytes. It is
+//!   not folded.
 //! - Both levels use one rule for a place: the place of a vector is S(vector).
 //!   At level 1 the vector is w, at level 2 it is w' = S(S(w)).
 //! - "letters" are the 52 ASCII letters, "digits" the ten ASCII digits.
 
-use crate::answer::{Answer, BYTE_NOT_ALLOWED, IDENTIFIER_LENGTH};
+use crate::answer::{Answer, BYTE_NOT_ALLOWED, IDENTIFIER_LENGTH, KIND_WRONG};
+use std::ops::RangeInclusive;
+
+/// The kinds: Central, eMAID, ISO14443, ISO15693, KeyCode, Local, MacAddress.
+pub const KINDS: RangeInclusive<u8> = 1..=7;
 
 /// The greatest length of an identifier, in bytes.
-pub const MAX_LEN: usize = 20;
+pub const MAX_LEN: usize = 36;
 
 /// Number of thresholds: a place gives a threshold below this.
 pub const THRESHOLDS: u64 = 8;
@@ -43,9 +52,12 @@ pub fn fold(byte: u8) -> Option<u8> {
     }
 }
 
-/// Checks any bytes: cause 1 with the length, cause 2 with the index of the
-/// first byte not allowed.
-pub fn check(bytes: &[u8]) -> Result<(), Answer> {
+/// Checks any kind and bytes: cause 15, cause 1 with the length, cause 2 with
+/// the index of the first byte not allowed.
+pub fn check(kind: u8, bytes: &[u8]) -> Result<(), Answer> {
+    if !KINDS.contains(&kind) {
+        return Err(Answer::refused(KIND_WRONG, 0));
+    }
     if bytes.is_empty() || bytes.len() > MAX_LEN {
         return Err(Answer::refused(IDENTIFIER_LENGTH, bytes.len() as u64));
     }
@@ -108,9 +120,9 @@ fn unshift(y: u64, shift: u32) -> u64 {
 }
 
 /// The word of an identifier, or its refusal.
-pub fn word(bytes: &[u8]) -> Result<u64, Answer> {
-    check(bytes)?;
-    let hash = bytes.iter().fold(FNV_START, |hash, &byte| {
+pub fn word(kind: u8, bytes: &[u8]) -> Result<u64, Answer> {
+    check(kind, bytes)?;
+    let hash = bytes.iter().fold(fnv_step(FNV_START, kind), |hash, &byte| {
         fnv_step(hash, FOLDED[byte as usize])
     });
     Ok(s(hash))

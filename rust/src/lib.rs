@@ -1,6 +1,6 @@
 //! Reference implementation of the plan table, its plane and its patches,
 //! written from the requirement alone (document 01, "The plan table and its
-//! plane"; document 02, orders 1 to 3).
+//! plane"; document 02, orders 1 to 4).
 
 pub mod answer;
 pub mod bucket;

@@ -1,4 +1,4 @@
-//! The line program (document 01, "The line program").
+//! The line program (document 01, "The line program"; document 02, order 4).
 //!
 //! Decisions:
 //! - Only the first 64 KiB count. A line cut by that limit is a last line
@@ -8,10 +8,12 @@
 //! - A field holds no space; so an ID with a space in it makes a line with too
 //!   many fields: `bad`, not cause 2. All other bytes but LF may stand in an
 //!   ID and reach the identifier check (a CR gives `no 2`).
-//! - An empty ID needs its space: `get ` is a call (`no 1`), `get` is `bad`;
-//!   `add  5` has an empty ID.
+//! - The kind is one digit: 0, 8 and 9 are calls (`no 15`); two digits, none
+//!   or another byte make the line `bad`.
+//! - An empty ID needs its space: `get 2 ` is a call (`no 1`), `get 2` is `bad`;
+//!   `add 2  5` has an empty ID.
 //! - `0` is a number without leading zeros; `00` and the empty field are not.
-//! - `add ID 255` is a call (`no 14`), `add ID 256` is `bad`.
+//! - `add 2 ID 255` is a call (`no 14`), `add 2 ID 256` is `bad`.
 //! - A refused open prints `no 3` and keeps the earlier table, if any; before
 //!   an accepted one every call but open prints `bad`.
 //! - Every line printed ends with LF.
@@ -57,30 +59,40 @@ fn call(opened: &mut Option<Opened>, line: &[u8]) -> Option<Answer> {
     }
     let line = line.strip_suffix(b"\n")?;
     let mut parts = line.split(|&byte| byte == b' ');
-    let fields = (parts.next()?, parts.next(), parts.next(), parts.next());
+    let fields = (
+        parts.next()?,
+        parts.next()?,
+        parts.next()?,
+        parts.next(),
+        parts.next(),
+    );
     let answer = match fields {
-        (b"open", Some(buckets1), Some(buckets2), None) => {
+        (b"open", buckets1, buckets2, None, None) => {
             let buckets1 = number(buckets1, BUCKETS_MAX)?;
             let buckets2 = number(buckets2, BUCKETS_MAX)?;
             return Some(open(opened, buckets1, buckets2));
         }
-        (b"add", Some(id), Some(plan), None) => {
+        (b"add", kind, id, Some(plan), None) => {
+            let kind = digit(kind)?;
             let plan = number(plan, PLAN_MAX)? as u8;
             let Opened { shape, table } = opened.as_mut()?;
-            identifier::word(id).and_then(|word| shape.add(table, word, plan))
+            identifier::word(kind, id).and_then(|word| shape.add(table, word, plan))
         }
-        (b"set", Some(id), Some(plan), None) => {
+        (b"set", kind, id, Some(plan), None) => {
+            let kind = digit(kind)?;
             let plan = number(plan, PLAN_MAX)? as u8;
             let Opened { shape, table } = opened.as_mut()?;
-            identifier::word(id).and_then(|word| shape.change(table, word, plan))
+            identifier::word(kind, id).and_then(|word| shape.change(table, word, plan))
         }
-        (b"del", Some(id), None, None) => {
+        (b"del", kind, id, None, None) => {
+            let kind = digit(kind)?;
             let Opened { shape, table } = opened.as_mut()?;
-            identifier::word(id).and_then(|word| shape.withdraw(table, word))
+            identifier::word(kind, id).and_then(|word| shape.withdraw(table, word))
         }
-        (b"get", Some(id), None, None) => {
+        (b"get", kind, id, None, None) => {
+            let kind = digit(kind)?;
             let Opened { shape, table } = opened.as_ref()?;
-            identifier::word(id).and_then(|word| shape.query(table, word))
+            identifier::word(kind, id).and_then(|word| shape.query(table, word))
         }
         _ => return None,
     };
@@ -98,6 +110,14 @@ fn open(opened: &mut Option<Opened>, buckets1: u64, buckets2: u64) -> Answer {
         *opened = Some(Opened { shape, table });
     }
     answer
+}
+
+/// A field of one digit.
+fn digit(field: &[u8]) -> Option<u8> {
+    match field {
+        [byte @ b'0'..=b'9'] => Some(byte - b'0'),
+        _ => None,
+    }
 }
 
 /// A decimal number without leading zeros, at most `max`.

@@ -1,7 +1,7 @@
 //! The proved functions, as declared for other languages, behind safe functions. A slice passes as a pointer and a length.
 
 extern "C" {
-    fn probe_word(id: *const u8, id_len: usize, value: *mut u64) -> u64;
+    fn probe_word(kind: u8, id: *const u8, id_len: usize, value: *mut u64) -> u64;
     fn probe_mix(n: u64) -> u64;
     fn probe_unmix(n: u64) -> u64;
     fn probe_fnv(bytes: *const u8, len: usize) -> u64;
@@ -22,6 +22,7 @@ extern "C" {
     fn limgoshi_query(
         t: *const u64,
         len: usize,
+        kind: u8,
         id: *const u8,
         id_len: usize,
         value: *mut u64,
@@ -29,6 +30,7 @@ extern "C" {
     fn limgoshi_change(
         t: *mut u64,
         len: usize,
+        kind: u8,
         id: *const u8,
         id_len: usize,
         plan: u8,
@@ -37,6 +39,7 @@ extern "C" {
     fn limgoshi_withdraw(
         t: *mut u64,
         len: usize,
+        kind: u8,
         id: *const u8,
         id_len: usize,
         value: *mut u64,
@@ -44,6 +47,7 @@ extern "C" {
     fn limgoshi_add(
         t: *mut u64,
         len: usize,
+        kind: u8,
         id: *const u8,
         id_len: usize,
         plan: u8,
@@ -58,6 +62,7 @@ extern "C" {
         value: *mut u64,
     ) -> u64;
     fn limgoshi_plane_lookup(
+        kind: u8,
         id: *const u8,
         id_len: usize,
         plane: *const u8,
@@ -87,10 +92,8 @@ extern "C" {
 use crate::answer::Answer;
 
 /// The word of an identifier as an accepted answer, or the cause.
-pub fn word(id: &[u8]) -> Answer {
-    let mut value = 0;
-    let cause = unsafe { probe_word(id.as_ptr(), id.len(), &mut value) };
-    Answer { cause, value }
+pub fn word(kind: u8, id: &[u8]) -> Answer {
+    answered(|value| unsafe { probe_word(kind, id.as_ptr(), id.len(), value) })
 }
 
 pub fn mix(n: u64) -> u64 {
@@ -142,25 +145,43 @@ pub fn open(t: &mut [u64], b1: u64, b2: u64) -> Answer {
     answered(|value| unsafe { limgoshi_open(t.as_mut_ptr(), t.len(), b1, b2, value) })
 }
 
-pub fn query(t: &[u64], id: &[u8]) -> Answer {
-    answered(|value| unsafe { limgoshi_query(t.as_ptr(), t.len(), id.as_ptr(), id.len(), value) })
-}
-
-pub fn change(t: &mut [u64], id: &[u8], plan: u8) -> Answer {
+pub fn query(t: &[u64], kind: u8, id: &[u8]) -> Answer {
     answered(|value| unsafe {
-        limgoshi_change(t.as_mut_ptr(), t.len(), id.as_ptr(), id.len(), plan, value)
+        limgoshi_query(t.as_ptr(), t.len(), kind, id.as_ptr(), id.len(), value)
     })
 }
 
-pub fn withdraw(t: &mut [u64], id: &[u8]) -> Answer {
+pub fn change(t: &mut [u64], kind: u8, id: &[u8], plan: u8) -> Answer {
     answered(|value| unsafe {
-        limgoshi_withdraw(t.as_mut_ptr(), t.len(), id.as_ptr(), id.len(), value)
+        limgoshi_change(
+            t.as_mut_ptr(),
+            t.len(),
+            kind,
+            id.as_ptr(),
+            id.len(),
+            plan,
+            value,
+        )
     })
 }
 
-pub fn add(t: &mut [u64], id: &[u8], plan: u8) -> Answer {
+pub fn withdraw(t: &mut [u64], kind: u8, id: &[u8]) -> Answer {
     answered(|value| unsafe {
-        limgoshi_add(t.as_mut_ptr(), t.len(), id.as_ptr(), id.len(), plan, value)
+        limgoshi_withdraw(t.as_mut_ptr(), t.len(), kind, id.as_ptr(), id.len(), value)
+    })
+}
+
+pub fn add(t: &mut [u64], kind: u8, id: &[u8], plan: u8) -> Answer {
+    answered(|value| unsafe {
+        limgoshi_add(
+            t.as_mut_ptr(),
+            t.len(),
+            kind,
+            id.as_ptr(),
+            id.len(),
+            plan,
+            value,
+        )
     })
 }
 
@@ -168,9 +189,16 @@ pub fn plan_total(t: &[u64], plan: u8) -> Answer {
     answered(|value| unsafe { limgoshi_plan_total(t.as_ptr(), t.len(), plan, value) })
 }
 
-pub fn lookup(id: &[u8], plane: &[u8]) -> Answer {
+pub fn lookup(kind: u8, id: &[u8], plane: &[u8]) -> Answer {
     answered(|value| unsafe {
-        limgoshi_plane_lookup(id.as_ptr(), id.len(), plane.as_ptr(), plane.len(), value)
+        limgoshi_plane_lookup(
+            kind,
+            id.as_ptr(),
+            id.len(),
+            plane.as_ptr(),
+            plane.len(),
+            value,
+        )
     })
 }
 

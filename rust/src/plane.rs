@@ -1,5 +1,5 @@
 //! The plane: its writer and its reader (document 01, "The plane"; document 02,
-//! order 3).
+//! orders 3 and 4).
 //!
 //! Decisions:
 //! - The first record that is missing altogether counts as cut: its offset is
@@ -105,9 +105,9 @@ pub(crate) fn push_end(bytes: &mut Vec<u8>) {
     bytes.extend(END);
 }
 
-/// The plan the plane gives for an identifier; causes 1, 2 and 10.
-pub fn lookup(id: &[u8], plane: &[u8]) -> Answer {
-    let word = match identifier::word(id) {
+/// The plan the plane gives for an identifier; causes 15, 1, 2 and 10.
+pub fn lookup(kind: u8, id: &[u8], plane: &[u8]) -> Answer {
+    let word = match identifier::word(kind, id) {
         Ok(word) => word,
         Err(refusal) => return refusal,
     };

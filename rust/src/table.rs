@@ -1,5 +1,5 @@
 //! The whole table as one slice of 64-bit numbers (document 01, "The whole
-//! table"; document 02, orders 2 and 3).
+//! table"; document 02, orders 2 to 4).
 //!
 //! Decisions:
 //! - Every call but opening and the question for a plan's total tests the whole
@@ -89,32 +89,32 @@ pub fn open(table: &mut [u64], buckets1: u64, buckets2: u64) -> Answer {
 }
 
 /// Adds an identifier with its plan; the live count is returned.
-pub fn add(table: &mut [u64], id: &[u8], plan: u8) -> Answer {
-    match identifier::word(id) {
+pub fn add(table: &mut [u64], kind: u8, id: &[u8], plan: u8) -> Answer {
+    match identifier::word(kind, id) {
         Ok(word) => add_word(table, word, plan),
         Err(refusal) => refusal,
     }
 }
 
 /// Changes the plan of a live identifier; the earlier plan is returned.
-pub fn change(table: &mut [u64], id: &[u8], plan: u8) -> Answer {
-    match identifier::word(id) {
+pub fn change(table: &mut [u64], kind: u8, id: &[u8], plan: u8) -> Answer {
+    match identifier::word(kind, id) {
         Ok(word) => change_word(table, word, plan),
         Err(refusal) => refusal,
     }
 }
 
 /// Withdraws a live identifier; its plan is returned.
-pub fn withdraw(table: &mut [u64], id: &[u8]) -> Answer {
-    match identifier::word(id) {
+pub fn withdraw(table: &mut [u64], kind: u8, id: &[u8]) -> Answer {
+    match identifier::word(kind, id) {
         Ok(word) => withdraw_word(table, word),
         Err(refusal) => refusal,
     }
 }
 
 /// The plan of a live identifier.
-pub fn query(table: &[u64], id: &[u8]) -> Answer {
-    match identifier::word(id) {
+pub fn query(table: &[u64], kind: u8, id: &[u8]) -> Answer {
+    match identifier::word(kind, id) {
         Ok(word) => query_word(table, word),
         Err(refusal) => refusal,
     }

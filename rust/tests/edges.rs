@@ -17,15 +17,15 @@ fn refused(cause: u64, value: u64) -> Answer {
 }
 
 #[test]
-fn identifiers_of_20_and_21_bytes() {
+fn identifiers_of_36_and_37_bytes() {
     let mut table = ExactTable::open(1, 1).numbers();
     let opened = table.clone();
-    assert_eq!(table::add(&mut table, &[b'a'; 21], 3), refused(1, 21));
-    assert_eq!(table::add(&mut table, b"", 3), refused(1, 0));
+    assert_eq!(table::add(&mut table, 2, &[b'a'; 37], 3), refused(1, 37));
+    assert_eq!(table::add(&mut table, 2, b"", 3), refused(1, 0));
     assert_eq!(table, opened);
-    assert_eq!(table::add(&mut table, &[b'a'; 20], 3), accepted(1));
-    assert_eq!(table::query(&table, &[b'A'; 20]), accepted(3));
-    assert_eq!(table::query(&table, &[b'A'; 21]), refused(1, 21));
+    assert_eq!(table::add(&mut table, 2, &[b'a'; 36], 3), accepted(1));
+    assert_eq!(table::query(&table, 2, &[b'A'; 36]), accepted(3));
+    assert_eq!(table::query(&table, 2, &[b'A'; 37]), refused(1, 37));
 }
 
 #[test]
@@ -90,11 +90,12 @@ fn base_entries_64_and_65_under_bounds_0() {
     let mut table = exact.numbers();
     for i in 1..=64 {
         let id = format!("card-{i}");
-        assert_eq!(table::add(&mut table, id.as_bytes(), i as u8), accepted(i));
+        let answer = table::add(&mut table, 6, id.as_bytes(), i as u8);
+        assert_eq!(answer, accepted(i));
     }
     let full = table.clone();
-    assert_eq!(table::add(&mut table, b"card-65", 1), refused(8, 0));
-    assert_eq!(table::add(&mut table, b"card-64", 1), refused(6, 64));
+    assert_eq!(table::add(&mut table, 6, b"card-65", 1), refused(8, 0));
+    assert_eq!(table::add(&mut table, 6, b"card-64", 1), refused(6, 64));
     assert_eq!(table, full);
 
     let mut output = vec![0; 10 + 132 + 640 + 1];
@@ -103,13 +104,14 @@ fn base_entries_64_and_65_under_bounds_0() {
     for i in 1..=65 {
         let id = format!("CARD-{i}");
         let plan = if i == 65 { 255 } else { i };
-        assert_eq!(plane::lookup(id.as_bytes(), &output[..782]), accepted(plan));
+        let answer = plane::lookup(6, id.as_bytes(), &output[..782]);
+        assert_eq!(answer, accepted(plan));
     }
 
-    assert_eq!(table::withdraw(&mut table, b"card-7"), accepted(7));
-    assert_eq!(table::add(&mut table, b"card-65", 1), accepted(64));
-    assert_eq!(table::query(&table, b"Card-65"), accepted(1));
-    assert_eq!(table::query(&table, b"Card-7"), refused(7, 0));
+    assert_eq!(table::withdraw(&mut table, 6, b"card-7"), accepted(7));
+    assert_eq!(table::add(&mut table, 6, b"card-65", 1), accepted(64));
+    assert_eq!(table::query(&table, 6, b"Card-65"), accepted(1));
+    assert_eq!(table::query(&table, 6, b"Card-7"), refused(7, 0));
 }
 
 /// From an opened table on, by adds alone, with every number compared: the

@@ -89,7 +89,7 @@ fn compare_plane(table: &[u64], slow: &SlowTable, strangers: &[u64]) {
 }
 
 struct Seen {
-    by_cause: [u32; 15],
+    by_cause: [u32; 16],
     falls1: u32,
     falls2: u32,
 }
@@ -172,7 +172,7 @@ fn history(
 
 fn seen() -> Seen {
     Seen {
-        by_cause: [0; 15],
+        by_cause: [0; 16],
         falls1: 0,
         falls2: 0,
     }
@@ -228,54 +228,63 @@ fn words_until_full() {
 #[test]
 fn identifiers() {
     let mut rng = Rng::new(9);
-    let mut causes = [0; 15];
+    let mut causes = [0; 16];
     for (buckets1, buckets2) in [(1, 1), (2, 3), (5, 1)] {
         let mut table = opened(buckets1, buckets2);
         let mut slow = SlowTable::open(buckets1 as usize, buckets2 as usize);
-        let pool: Vec<Vec<u8>> = (0..300)
-            .map(|_| {
-                let len = 1 + rng.below(20) as usize;
-                oracle::random_identifier(&mut rng, len)
-            })
-            .collect();
+        // The same bytes under several kinds.
+        let mut pool: Vec<(u8, Vec<u8>)> = Vec::new();
+        for _ in 0..100 {
+            let len = 1 + rng.below(36) as usize;
+            let id = oracle::random_identifier(&mut rng, len);
+            let first = oracle::random_kind(&mut rng);
+            pool.extend((0..3).map(|i| (1 + (first + i) % 7, id.clone())));
+        }
         for call in 0..1200 {
-            let id = match rng.below(30) {
+            let (kind, id) = match rng.below(30) {
                 0 => {
-                    let len = rng.below(30) as usize;
-                    rng.bytes(len)
+                    let len = rng.below(45) as usize;
+                    (oracle::any_kind(&mut rng), rng.bytes(len))
                 }
-                1 => oracle::random_identifier(&mut rng, 21),
-                2 => Vec::new(),
+                1 => {
+                    let id = oracle::random_identifier(&mut rng, 37);
+                    (oracle::random_kind(&mut rng), id)
+                }
+                2 => (oracle::random_kind(&mut rng), Vec::new()),
+                3 => (*rng.pick(&[0, 8, 255]), rng.pick(&pool).1.clone()),
                 _ => {
                     // In any writing.
-                    let mut id = rng.pick(&pool).clone();
+                    let (kind, mut id) = rng.pick(&pool).clone();
                     for byte in &mut id {
                         if rng.one_in(2) {
                             *byte = byte.to_ascii_lowercase();
                         }
                     }
-                    id
+                    (kind, id)
                 }
             };
             let plan = oracle::any_plan(&mut rng);
             let before = table.clone();
-            let word = oracle::word(&id);
+            let word = oracle::word(kind, &id);
             let by_word = |outcome: &mut dyn FnMut(u64) -> Answer| match word {
                 Ok(word) => outcome(word),
                 Err(refusal) => refusal,
             };
             let (answer, expected) = match rng.below(8) {
                 0 => (
-                    table::withdraw(&mut table, &id),
+                    table::withdraw(&mut table, kind, &id),
                     by_word(&mut |w| slow.withdraw(w)),
                 ),
                 1 => (
-                    table::change(&mut table, &id, plan),
+                    table::change(&mut table, kind, &id, plan),
                     by_word(&mut |w| slow.change(w, plan)),
                 ),
-                2 => (table::query(&table, &id), by_word(&mut |w| slow.query(w))),
+                2 => (
+                    table::query(&table, kind, &id),
+                    by_word(&mut |w| slow.query(w)),
+                ),
                 _ => (
-                    table::add(&mut table, &id, plan),
+                    table::add(&mut table, kind, &id, plan),
                     by_word(&mut |w| slow.add(w, plan)),
                 ),
             };
@@ -288,9 +297,9 @@ fn identifiers() {
                 compare(&table, &slow);
                 let mut plane = vec![0; 10_000];
                 let len = plane::write(&table, &mut plane).value as usize;
-                for id in &pool {
-                    let looked = plane::lookup(id, &plane[..len]);
-                    let queried = table::query(&table, id);
+                for (kind, id) in &pool {
+                    let looked = plane::lookup(*kind, id, &plane[..len]);
+                    let queried = table::query(&table, *kind, id);
                     if queried.is_accepted() {
                         assert_eq!(looked, queried);
                     } else {
@@ -300,7 +309,7 @@ fn identifiers() {
             }
         }
     }
-    for cause in [0, 1, 2, 6, 7, 8, 14] {
+    for cause in [0, 1, 2, 6, 7, 8, 14, 15] {
         assert!(causes[cause] > 10, "{causes:?}");
     }
 }

@@ -225,7 +225,10 @@ fn along_histories() {
         let mut planes = vec![plane::plane_of(&t, shape)];
         for _ in 0..600 {
             let word = match rng.below(3) {
-                0 => identifier::word(format!("card-{}", rng.below(cards)).as_bytes()).unwrap(),
+                0 => {
+                    let id = format!("card-{}", rng.below(cards));
+                    identifier::word(oracle::random_kind(&mut rng), id.as_bytes()).unwrap()
+                }
                 _ => {
                     let live = shape.live_words(&t);
                     live.get(rng.below(live.len() as u64 + 1) as usize)

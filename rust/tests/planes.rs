@@ -30,7 +30,7 @@ fn some_plane(rng: &mut Rng) -> Vec<u8> {
 /// The library's offset against the slow reader's, and cause 10 with it.
 fn compare(bytes: &[u8]) -> Option<usize> {
     let expected = oracle::wrong_offset(bytes);
-    let answer = plane::lookup(b"Bus-17", bytes);
+    let answer = plane::lookup(2, b"Bus-17", bytes);
     match expected {
         Some(offset) => assert_eq!(answer, refused(10, offset as u64)),
         None => assert!(answer.is_accepted() && answer.value < 256),
@@ -127,10 +127,12 @@ fn base_records_must_ascend() {
 
 #[test]
 fn identifier_comes_first() {
-    assert_eq!(plane::lookup(b"", b""), refused(1, 0));
-    assert_eq!(plane::lookup(&[b'x'; 21], b""), refused(1, 21));
-    assert_eq!(plane::lookup(b"ab/", b""), refused(2, 2));
-    assert_eq!(plane::lookup(b"ab", b""), refused(10, 0));
+    assert_eq!(plane::lookup(0, b"", b""), refused(15, 0));
+    assert_eq!(plane::lookup(8, b"ab", b""), refused(15, 0));
+    assert_eq!(plane::lookup(2, b"", b""), refused(1, 0));
+    assert_eq!(plane::lookup(2, &[b'x'; 37], b""), refused(1, 37));
+    assert_eq!(plane::lookup(2, b"ab/", b""), refused(2, 2));
+    assert_eq!(plane::lookup(2, b"ab", b""), refused(10, 0));
 }
 
 #[test]

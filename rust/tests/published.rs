@@ -103,10 +103,12 @@ fn every_byte_value() {
         };
         assert_eq!(fold(byte), expected, "byte {byte}");
         assert_eq!(oracle::fold(byte), expected, "byte {byte}");
-        let checked = check(&[byte]);
-        match expected {
-            Some(_) => assert_eq!(checked, Ok(())),
-            None => assert_eq!(checked, Err(Answer { cause: 2, value: 0 })),
+        for kind in 1..=7 {
+            let checked = check(kind, &[byte]);
+            match expected {
+                Some(_) => assert_eq!(checked, Ok(())),
+                None => assert_eq!(checked, Err(Answer { cause: 2, value: 0 })),
+            }
         }
         allowed += u32::from(expected.is_some());
     }
@@ -116,36 +118,39 @@ fn every_byte_value() {
 #[test]
 fn lengths_and_first_index() {
     let refused = |cause, value| Err(Answer { cause, value });
-    assert_eq!(check(b""), refused(1, 0));
-    assert_eq!(check(b"x"), Ok(()));
-    assert_eq!(check(&[b'x'; 20]), Ok(()));
-    assert_eq!(check(&[b'x'; 21]), refused(1, 21));
+    assert_eq!(check(2, b""), refused(1, 0));
+    assert_eq!(check(2, b"x"), Ok(()));
+    assert_eq!(check(2, &[b'x'; 20]), Ok(()));
+    assert_eq!(check(2, &[b'x'; 21]), Ok(()));
+    assert_eq!(check(2, &[b'x'; 36]), Ok(()));
+    assert_eq!(check(2, &[b'x'; 37]), refused(1, 37));
     // The length comes first.
-    assert_eq!(check(&[b'/'; 21]), refused(1, 21));
-    assert_eq!(check(&[0; 1000]), refused(1, 1000));
-    for index in 0..20 {
-        let mut bytes = [b'q'; 20];
+    assert_eq!(check(2, &[b'/'; 37]), refused(1, 37));
+    assert_eq!(check(2, &[0; 1000]), refused(1, 1000));
+    for index in 0..36 {
+        let mut bytes = [b'q'; 36];
         bytes[index] = b' ';
-        bytes[19] = b'/';
-        assert_eq!(check(&bytes), refused(2, index as u64));
-        assert_eq!(word(&bytes).map(|_| ()), refused(2, index as u64));
+        bytes[35] = b'/';
+        assert_eq!(check(2, &bytes), refused(2, index as u64));
+        assert_eq!(word(2, &bytes).map(|_| ()), refused(2, index as u64));
     }
 }
 
 #[test]
 fn words_and_places() {
-    assert_eq!(word(b"foobar"), Ok(s(fnv1a64(b"FOOBAR"))));
-    assert_eq!(word(b"Bus-17"), word(b"bUS-17"));
-    assert_ne!(word(b"a0*"), word(b"a\x10*"));
+    assert_eq!(word(2, b"foobar"), Ok(s(fnv1a64(b"\x02FOOBAR"))));
+    assert_eq!(word(2, b"Bus-17"), word(2, b"bUS-17"));
+    assert_ne!(word(2, b"a0*"), word(2, b"a\x10*"));
     let mut rng = Rng::new(2);
     for _ in 0..20_000 {
-        let len = rng.below(24) as usize;
+        let kind = oracle::any_kind(&mut rng);
+        let len = rng.below(40) as usize;
         let bytes = if rng.one_in(4) {
             rng.bytes(len)
         } else {
             oracle::random_identifier(&mut rng, len)
         };
-        assert_eq!(word(&bytes), oracle::word(&bytes));
+        assert_eq!(word(kind, &bytes), oracle::word(kind, &bytes));
     }
     for _ in 0..1000 {
         let p = rng.next();

@@ -38,9 +38,9 @@ fn slow_line(slow: &mut Option<SlowTable>, line: &[u8]) -> Option<Answer> {
         return None;
     }
     let fields: Vec<&[u8]> = line.split(|&byte| byte == b' ').collect();
-    let (word, id) = (*fields.first()?, *fields.get(1)?);
+    let word = *fields.first()?;
     if word == b"open" && fields.len() == 3 {
-        let (b1, b2) = (number(id, 999)?, number(fields[2], 999)?);
+        let (b1, b2) = (number(fields[1], 999)?, number(fields[2], 999)?);
         if b1 == 0 || b1 > 48 || b2 == 0 || b2 > 32 {
             return Some(Answer { cause: 3, value: 0 });
         }
@@ -48,12 +48,13 @@ fn slow_line(slow: &mut Option<SlowTable>, line: &[u8]) -> Option<Answer> {
         return Some(Answer { cause: 0, value: 0 });
     }
     let plan = match (word, fields.len()) {
-        (b"add" | b"set", 3) => number(fields[2], 255)? as u8,
-        (b"del" | b"get", 2) => 0,
+        (b"add" | b"set", 4) => number(fields[3], 255)? as u8,
+        (b"del" | b"get", 3) => 0,
         _ => return None,
     };
+    let kind = number(fields[1], 9)? as u8;
     let slow = slow.as_mut()?;
-    let hashed = match oracle::word(id) {
+    let hashed = match oracle::word(kind, fields[2]) {
         Ok(hashed) => hashed,
         Err(refusal) => return Some(refusal),
     };
@@ -101,8 +102,8 @@ fn base_counts(name: &str) -> Vec<(String, String, usize, usize, bool)> {
     let mut counts = Vec::new();
     for line in input.split_inclusive(|&byte| byte == b'\n') {
         let text = String::from_utf8(line.to_vec()).unwrap();
-        let id = text.trim_end().split(' ').nth(1).unwrap();
-        let word = oracle::word(id.as_bytes()).unwrap();
+        let id = text.trim_end().split(' ').nth(2).unwrap();
+        let word = oracle::word(2, id.as_bytes()).unwrap();
         let before = count(&slow);
         let in_base = |slow: &SlowTable| !slow.held1(word) && !slow.held2(word);
         let due_in_base = slow.as_ref().is_some_and(in_base);
@@ -126,12 +127,12 @@ fn base_64_65_is_about_the_64th_and_the_65th_entry() {
             assert!(after == 64 && !due_in_base, "{line}");
             held += 1;
         } else if after == 64 && before == 63 && added.is_none() {
-            assert_eq!(line, "add E156 156\n");
+            assert_eq!(line, "add 2 F166 166\n");
             added = Some(answer);
         }
     }
-    assert_eq!((full, held), (5, 2));
-    assert_eq!(added.as_deref(), Some("ok 157\n"));
+    assert_eq!((full, held), (5, 5));
+    assert_eq!(added.as_deref(), Some("ok 167\n"));
 }
 
 #[test]
@@ -144,5 +145,5 @@ fn base_halfway_refuses_with_entries_free() {
             before
         })
         .collect();
-    assert_eq!(refused[..2], [38, 38]);
+    assert_eq!(refused[..2], [20, 20]);
 }

@@ -47,10 +47,10 @@ fn each_rule_alone() {
         // All calls give it, and keep the table and the output.
         let kept = other.clone();
         let mut output = [9; 10_000];
-        assert_eq!(table::add(&mut other, b"x", 1), NOT_SOUND);
-        assert_eq!(table::change(&mut other, b"x", 1), NOT_SOUND);
-        assert_eq!(table::withdraw(&mut other, b"x"), NOT_SOUND);
-        assert_eq!(table::query(&other, b"x"), NOT_SOUND);
+        assert_eq!(table::add(&mut other, 2, b"x", 1), NOT_SOUND);
+        assert_eq!(table::change(&mut other, 2, b"x", 1), NOT_SOUND);
+        assert_eq!(table::withdraw(&mut other, 2, b"x"), NOT_SOUND);
+        assert_eq!(table::query(&other, 2, b"x"), NOT_SOUND);
         assert_eq!(reference::plane::write(&other, &mut output), NOT_SOUND);
         // A total is answered all the same.
         for plan in [0, 12, 255] {
@@ -58,10 +58,10 @@ fn each_rule_alone() {
             assert_eq!(table::plan_total(&other, plan), Answer { cause: 0, value });
         }
         assert_eq!(
-            table::add(&mut other, b"", 1),
+            table::add(&mut other, 2, b"", 1),
             Answer { cause: 1, value: 0 }
         );
-        assert_eq!(table::query(&other, b" "), Answer { cause: 2, value: 0 });
+        assert_eq!(table::query(&other, 2, b" "), Answer { cause: 2, value: 0 });
         assert_eq!(other, kept);
         assert_eq!(output, [9; 10_000]);
         // Opening does not mind.
@@ -174,10 +174,10 @@ fn lengths_and_bucket_numbers() {
         assert_eq!(oracle::soundness(table), expected);
         let mut other = table.to_vec();
         let mut output = [9; 200];
-        assert_eq!(table::add(&mut other, b"x", 1), expected);
-        assert_eq!(table::change(&mut other, b"x", 1), expected);
-        assert_eq!(table::withdraw(&mut other, b"x"), expected);
-        assert_eq!(table::query(&other, b"x"), expected);
+        assert_eq!(table::add(&mut other, 2, b"x", 1), expected);
+        assert_eq!(table::change(&mut other, 2, b"x", 1), expected);
+        assert_eq!(table::withdraw(&mut other, 2, b"x"), expected);
+        assert_eq!(table::query(&other, 2, b"x"), expected);
         assert_eq!(reference::plane::write(&other, &mut output), expected);
         for plan in 0..=255 {
             assert_eq!(table::plan_total(&other, plan), expected);

@@ -36,7 +36,7 @@ fn with_cards(bounds: (u64, u64), count: u64) -> Vec<u64> {
     exact.level1[0].bound = bounds.0;
     exact.level2[0].bound = bounds.1;
     for i in 1..=count {
-        exact.add(oracle::word(&card(i)).unwrap(), i as u8);
+        exact.add(oracle::word(2, &card(i)).unwrap(), i as u8);
     }
     let table = exact.numbers();
     assert_eq!(table[3], count);
@@ -46,9 +46,9 @@ fn with_cards(bounds: (u64, u64), count: u64) -> Vec<u64> {
 /// An add and a change to plan 255 are answered so; the table is kept.
 fn gives(table: &[u64], id: &[u8], answer: Answer) {
     let mut other = table.to_vec();
-    assert_eq!(table::add(&mut other, id, 255), answer);
-    assert_eq!(table::change(&mut other, id, 255), answer);
-    if let Ok(word) = oracle::word(id) {
+    assert_eq!(table::add(&mut other, 2, id, 255), answer);
+    assert_eq!(table::change(&mut other, 2, id, 255), answer);
+    if let Ok(word) = oracle::word(2, id) {
         assert_eq!(table::add_word(&mut other, word, 255), answer);
         assert_eq!(table::change_word(&mut other, word, 255), answer);
     }
@@ -57,8 +57,8 @@ fn gives(table: &[u64], id: &[u8], answer: Answer) {
 
 /// Plan 254 gets as far as these answers of an add and of a change.
 fn but_for_255(table: &[u64], id: &[u8], add: Answer, change: Answer) {
-    assert_eq!(table::add(&mut table.to_vec(), id, 254), add);
-    assert_eq!(table::change(&mut table.to_vec(), id, 254), change);
+    assert_eq!(table::add(&mut table.to_vec(), 2, id, 254), add);
+    assert_eq!(table::change(&mut table.to_vec(), 2, id, 254), change);
     gives(table, id, GIVEN);
 }
 
@@ -68,7 +68,7 @@ fn an_add_or_change_to_255() {
     let (mut levels, mut base) = ([0; 2], 0);
     for i in 1..=30 {
         // Live, in a bucket of either level and in the base list.
-        let word = oracle::word(&card(i)).unwrap();
+        let word = oracle::word(2, &card(i)).unwrap();
         match (
             oracle::threshold(word),
             oracle::threshold(oracle::second(word)),
@@ -91,9 +91,9 @@ fn an_add_or_change_to_255() {
     but_for_255(&full, &card(64), refused(6, 64), accepted(64));
     // A change to the plan that it has, but for 255.
     let mut table = with_cards((8, 8), 0);
-    assert_eq!(table::add(&mut table, b"x", 254), accepted(1));
+    assert_eq!(table::add(&mut table, 2, b"x", 254), accepted(1));
     but_for_255(&table, b"X", refused(6, 254), accepted(254));
-    assert_eq!(table::query(&table, b"x"), accepted(254));
+    assert_eq!(table::query(&table, 2, b"x"), accepted(254));
 }
 
 /// Tables with each way of being wrong.
@@ -141,8 +141,8 @@ fn whatever_the_table() {
         for i in [1, 2, 3, 30, 31, 60] {
             but_for_255(&table, &card(i), answer, answer);
             let mut kept = table.clone();
-            assert_eq!(table::withdraw(&mut kept, &card(i)), answer);
-            assert_eq!(table::query(&kept, &card(i)), answer);
+            assert_eq!(table::withdraw(&mut kept, 2, &card(i)), answer);
+            assert_eq!(table::query(&kept, 2, &card(i)), answer);
             assert_eq!(kept, table);
         }
     }
@@ -155,11 +155,11 @@ fn after_causes_1_and_2() {
     tables.push((with_cards((0, 0), 64), accepted(0)));
     for (table, _) in tables {
         gives(&table, b"", refused(1, 0));
-        gives(&table, &[b'x'; 21], refused(1, 21));
-        gives(&table, &[b'/'; 21], refused(1, 21));
+        gives(&table, &[b'x'; 37], refused(1, 37));
+        gives(&table, &[b'/'; 37], refused(1, 37));
         gives(&table, b"card/1", refused(2, 4));
         gives(&table, b"\xff", refused(2, 0));
-        gives(&table, &[b'x'; 20], GIVEN);
+        gives(&table, &[b'x'; 36], GIVEN);
     }
 }
 
@@ -168,10 +168,10 @@ fn not_sound(table: &[u64]) {
     assert_eq!(oracle::soundness(table), NOT_SOUND);
     let mut other = table.to_vec();
     let mut output = [9; 1000];
-    assert_eq!(table::add(&mut other, b"x", 254), NOT_SOUND);
-    assert_eq!(table::change(&mut other, b"x", 254), NOT_SOUND);
-    assert_eq!(table::withdraw(&mut other, b"x"), NOT_SOUND);
-    assert_eq!(table::query(&other, b"x"), NOT_SOUND);
+    assert_eq!(table::add(&mut other, 2, b"x", 254), NOT_SOUND);
+    assert_eq!(table::change(&mut other, 2, b"x", 254), NOT_SOUND);
+    assert_eq!(table::withdraw(&mut other, 2, b"x"), NOT_SOUND);
+    assert_eq!(table::query(&other, 2, b"x"), NOT_SOUND);
     assert_eq!(plane::write(&other, &mut output), NOT_SOUND);
     gives(table, b"x", GIVEN);
     assert_eq!(other, table);
@@ -287,10 +287,10 @@ fn a_stranger_at_a_post() {
         let plane = written(&with_cards(bounds, count));
         let mut desk = 0;
         for i in 1..=300 {
-            let word = oracle::word(&card(i)).unwrap();
+            let word = oracle::word(2, &card(i)).unwrap();
             let held = oracle::threshold(word) < bounds.0
                 || oracle::threshold(oracle::second(word)) < bounds.1;
-            let answer = plane::lookup(&card(i), &plane);
+            let answer = plane::lookup(2, &card(i), &plane);
             if i <= count {
                 assert_eq!(answer, accepted(i));
             } else if !held {
@@ -303,13 +303,13 @@ fn a_stranger_at_a_post() {
         // Held by the buckets of an opened table: their solution words are 0.
         assert_eq!(desk == 0, bounds == (8, 8));
         if count == 0 {
-            assert_eq!(plane::lookup(b"x", &plane), accepted(0));
+            assert_eq!(plane::lookup(2, b"x", &plane), accepted(0));
         }
     }
     // Words beside those of the base list.
     let plane = written(&with_cards((0, 0), 64));
     for i in 1..=64 {
-        let v = oracle::second(oracle::word(&card(i)).unwrap());
+        let v = oracle::second(oracle::word(2, &card(i)).unwrap());
         let beside = |v| plane::lookup_word(oracle::unsecond(v), &plane);
         assert_eq!(beside(v), accepted(i));
         assert_eq!(beside(v.wrapping_add(1)), accepted(255));
@@ -327,16 +327,16 @@ fn a_bucket_may_answer_255() {
     let plane = written(&table);
     let mut desk = 0;
     for i in 1..=100 {
-        let word = oracle::word(&card(i)).unwrap();
+        let word = oracle::word(2, &card(i)).unwrap();
         let odd = (word & 0x0123_4567_89ab_cdef).count_ones() % 2 == 1;
         let plan = if odd { 255 } else { 0 };
-        assert_eq!(plane::lookup(&card(i), &plane), accepted(plan));
+        assert_eq!(plane::lookup(2, &card(i), &plane), accepted(plan));
         desk += u32::from(odd);
         // Added, it has the plan that it is given.
         let mut table = table.clone();
-        assert_eq!(table::add(&mut table, &card(i), 7), accepted(1));
+        assert_eq!(table::add(&mut table, 2, &card(i), 7), accepted(1));
         sound(&table);
-        assert_eq!(plane::lookup(&card(i), &written(&table)), accepted(7));
+        assert_eq!(plane::lookup(2, &card(i), &written(&table)), accepted(7));
     }
     assert!(desk > 20 && desk < 80);
 }
@@ -359,12 +359,12 @@ fn wrong_plane(bytes: &[u8], offset: usize) {
     let ten = refused(10, offset as u64);
     let right = with_entries(&[]);
     let mut output = [9; 2000];
-    assert_eq!(plane::lookup(b"x", bytes), ten);
+    assert_eq!(plane::lookup(2, b"x", bytes), ten);
     assert_eq!(patch::make(bytes, &right, &mut output), ten);
     assert_eq!(patch::make(&right, bytes, &mut output), ten);
     assert_eq!(patch::apply(bytes, b"", &mut output), ten);
     assert_eq!(output, [9; 2000]);
-    assert_eq!(plane::lookup(b"/", bytes), refused(2, 0));
+    assert_eq!(plane::lookup(2, b"/", bytes), refused(2, 0));
 }
 
 #[test]
@@ -376,7 +376,7 @@ fn a_base_entry_of_a_plane_with_255() {
         for i in 0..count as usize {
             let mut bytes = right.clone();
             bytes[start(i) + 9] = 254;
-            assert!(plane::lookup(b"x", &bytes).is_accepted());
+            assert!(plane::lookup(2, b"x", &bytes).is_accepted());
             bytes[start(i) + 9] = 255;
             wrong_plane(&bytes, start(i));
             // The first that is wrong: of two, before a cut, before another kind.

@@ -41,14 +41,20 @@ static int called, given[FUNCTIONS][NUMBERS];
 #define limgoshi_make_patch(...) (called = MAKE_PATCH, limgoshi_make_patch(__VA_ARGS__))
 #define limgoshi_apply_patch(...) (called = APPLY_PATCH, limgoshi_apply_patch(__VA_ARGS__))
 
-/* Identifiers. */
+/* Identifiers: cards of every kind; one as long as it may be; one that is too long and has no byte that is allowed. */
+static const uint8_t kinds[] = {LIMGOSHI_CENTRAL, LIMGOSHI_EMAID, LIMGOSHI_ISO14443, LIMGOSHI_ISO15693, LIMGOSHI_KEY_CODE, LIMGOSHI_LOCAL, LIMGOSHI_MAC_ADDRESS};
 static const uint8_t *bytes(const char *text) { return (const uint8_t *)text; }
+static uint8_t card_kind(unsigned n) { return kinds[n % sizeof kinds]; }
 static const char *card(unsigned n)
 {
     static char text[32];
     snprintf(text, sizeof text, "Card-%u", n);
     return text;
 }
+static const char longest[] = "abcdefghijklmnopqrstuvwxyz0123456789";
+static_assert(sizeof longest - 1 == LIMGOSHI_ID_MAX, "bytes of an identifier");
+#define TOO_LONG (LIMGOSHI_ID_MAX + 1)
+static uint8_t slashes[TOO_LONG];
 
 static void wrong(int line, const char *what)
 {
@@ -92,15 +98,15 @@ static void after(int line, const char *call, uint64_t got, uint64_t cause, uint
             wrong(__LINE__, #fact); \
     } while (0)
 
-/* The four calls on an identifier and a table, and the plan that two of them give. */
-static uint8_t given_plan = 77;
+/* The four calls on an identifier and a table, its kind, and the plan that two of them give. */
+static uint8_t given_kind = LIMGOSHI_EMAID, given_plan = 77;
 static uint64_t table_call(int which, uint64_t *t, size_t n, const uint8_t *id, size_t length)
 {
     switch (which) {
-    case ADD: return limgoshi_add(t, n, id, length, given_plan, &value);
-    case CHANGE: return limgoshi_change(t, n, id, length, given_plan, &value);
-    case WITHDRAW: return limgoshi_withdraw(t, n, id, length, &value);
-    default: return limgoshi_query(t, n, id, length, &value);
+    case ADD: return limgoshi_add(t, n, given_kind, id, length, given_plan, &value);
+    case CHANGE: return limgoshi_change(t, n, given_kind, id, length, given_plan, &value);
+    case WITHDRAW: return limgoshi_withdraw(t, n, given_kind, id, length, &value);
+    default: return limgoshi_query(t, n, given_kind, id, length, &value);
     }
 }
 
@@ -164,22 +170,138 @@ static void identifiers(void)
     size_t n = LIMGOSHI_TABLE_NUMBERS(1, 1), length = make_plane(out, 1, 1, 0);
     ANSWERS(limgoshi_open(table, n, 1, 1, &value), LIMGOSHI_ACCEPTED, 0);
     memset(id, 'x', sizeof id);
-    for (size_t k = 0; k <= sizeof id; k += k == 1 ? LIMGOSHI_ID_MAX - 1 : 1) { /* 0, 1, 20, 21 */
+    for (size_t k = 0; k <= sizeof id; k += k == 1 ? LIMGOSHI_ID_MAX - 1 : 1) { /* 0, 1, 36, 37 */
         int right = k >= 1 && k <= LIMGOSHI_ID_MAX;
         for (int which = CHANGE; which <= QUERY; which++)
             ANSWERS(table_call(which, table, n, id, k), right ? LIMGOSHI_NOT_LIVE : LIMGOSHI_WRONG_LENGTH, right ? 0 : k);
-        ANSWERS(limgoshi_plane_lookup(id, k, out, length, &value), right ? LIMGOSHI_ACCEPTED : LIMGOSHI_WRONG_LENGTH, right ? 0 : k);
+        ANSWERS(limgoshi_plane_lookup(given_kind, id, k, out, length, &value), right ? LIMGOSHI_ACCEPTED : LIMGOSHI_WRONG_LENGTH, right ? 0 : k);
         ANSWERS(table_call(ADD, table, n, id, k), right ? LIMGOSHI_ACCEPTED : LIMGOSHI_WRONG_LENGTH, k == LIMGOSHI_ID_MAX ? 2 : k);
     }
     for (unsigned b = 0; b < 256; b++) {
         int right = b != 0 && strchr(allowed, (int)b) != NULL;
         id[2] = (uint8_t)b;
         id[4] = b == '/' ? '/' : 'x'; /* the first counts */
-        ANSWERS(limgoshi_plane_lookup(id, 5, out, length, &value), right ? LIMGOSHI_ACCEPTED : LIMGOSHI_WRONG_BYTE, right ? 0 : 2);
+        ANSWERS(limgoshi_plane_lookup(given_kind, id, 5, out, length, &value), right ? LIMGOSHI_ACCEPTED : LIMGOSHI_WRONG_BYTE, right ? 0 : 2);
         for (int which = CHANGE; which <= QUERY; which++)
             ANSWERS(table_call(which, table, n, id, 5), right ? LIMGOSHI_NOT_LIVE : LIMGOSHI_WRONG_BYTE, right ? 0 : 2);
         if (!right)
             ANSWERS(table_call(ADD, table, n, id, 5), LIMGOSHI_WRONG_BYTE, 2);
+    }
+}
+
+/* FNV-1a 64. */
+static uint64_t sum(const uint8_t *from, size_t length)
+{
+    uint64_t n = 0xcbf29ce484222325u;
+    for (size_t i = 0; i < length; i++)
+        n = (n ^ from[i]) * 0x100000001b3u;
+    return n;
+}
+
+/* The output step of SplitMix64. */
+static uint64_t mix(uint64_t n)
+{
+    n += 0x9e3779b97f4a7c15u;
+    n = (n ^ n >> 30) * 0xbf58476d1ce4e5b9u;
+    n = (n ^ n >> 27) * 0x94d049bb133111ebu;
+    return n ^ n >> 31;
+}
+
+/* The word of the one identifier that is live, held by the first bucket: the matrix is its own inverse, and its occupied row is the word. */
+static uint64_t only_word(void)
+{
+    const uint64_t *columns = table + 4 + LIMGOSHI_PLANS, mark = columns[64];
+    uint64_t word = 0;
+    HOLDS(table[3] == 1 && mark != 0 && (mark & (mark - 1)) == 0);
+    for (unsigned i = 0; i < 64; i++)
+        word |= (uint64_t)((columns[i] & mark) != 0) << i;
+    return word;
+}
+
+/* The word of each kind; every number as kind, in every function that takes one. Cause 15 comes before every other, whatever identifier, plan, table
+ * and plane are. */
+static void every_kind(void)
+{
+    size_t n = LIMGOSHI_TABLE_NUMBERS(1, 1), length = make_plane(out, 1, 1, 0);
+    for (uint8_t k = 1; k <= sizeof kinds; k++) {
+        const uint8_t hashed[] = {k, 'B', 'U', 'S', '-', '1', '7'};
+        ANSWERS(limgoshi_open(table, n, 1, 1, &value), LIMGOSHI_ACCEPTED, 0);
+        ANSWERS(limgoshi_add(table, n, kinds[k - 1], bytes("Bus-17"), 6, 40, &value), LIMGOSHI_ACCEPTED, 1);
+        HOLDS(only_word() == mix(sum(hashed, sizeof hashed)));
+    }
+    for (unsigned k = 0; k < 256; k++) {
+        int right = k >= 1 && k <= 7;
+        given_kind = (uint8_t)k;
+        ANSWERS(limgoshi_open(table, n, 1, 1, &value), LIMGOSHI_ACCEPTED, 0);
+        ANSWERS(limgoshi_plane_lookup(given_kind, bytes("bus-17"), 6, out, length, &value), right ? LIMGOSHI_ACCEPTED : LIMGOSHI_WRONG_KIND, 0);
+        ANSWERS(limgoshi_plane_lookup(given_kind, NULL, 0, NULL, 0, &value), right ? LIMGOSHI_WRONG_LENGTH : LIMGOSHI_WRONG_KIND, 0);
+        for (int which = CHANGE; which <= QUERY; which++)
+            ANSWERS(table_call(which, table, n, bytes("bus-17"), 6), right ? LIMGOSHI_NOT_LIVE : LIMGOSHI_WRONG_KIND, 0);
+        ANSWERS(table_call(ADD, table, n, bytes("bus-17"), 6), right ? LIMGOSHI_ACCEPTED : LIMGOSHI_WRONG_KIND, right ? 1 : 0);
+        if (right)
+            continue;
+        for (int which = ADD; which <= QUERY; which++) {
+            ANSWERS(table_call(which, NULL, 0, NULL, 0), LIMGOSHI_WRONG_KIND, 0);
+            ANSWERS(table_call(which, table, n, NULL, 0), LIMGOSHI_WRONG_KIND, 0);
+            ANSWERS(table_call(which, table, n, slashes, TOO_LONG), LIMGOSHI_WRONG_KIND, 0);
+            ANSWERS(table_call(which, table, n, slashes, 6), LIMGOSHI_WRONG_KIND, 0);
+            ANSWERS(table_call(which, table, n - 1, bytes("bus-17"), 6), LIMGOSHI_WRONG_KIND, 0);
+            given_plan = LIMGOSHI_CALL_THE_DESK;
+            ANSWERS(table_call(which, table, n, bytes("bus-17"), 6), LIMGOSHI_WRONG_KIND, 0);
+            given_plan = 77;
+            table[3]++; /* not sound */
+            ANSWERS(table_call(which, table, n, bytes("bus-17"), 6), LIMGOSHI_WRONG_KIND, 0);
+            table[3]--;
+        }
+        ANSWERS(limgoshi_plane_lookup(given_kind, NULL, 0, out, length, &value), LIMGOSHI_WRONG_KIND, 0);
+        ANSWERS(limgoshi_plane_lookup(given_kind, slashes, TOO_LONG, out, length, &value), LIMGOSHI_WRONG_KIND, 0);
+        ANSWERS(limgoshi_plane_lookup(given_kind, slashes, 6, out, length, &value), LIMGOSHI_WRONG_KIND, 0);
+        ANSWERS(limgoshi_plane_lookup(given_kind, bytes("bus-17"), 6, out, length - 1, &value), LIMGOSHI_WRONG_KIND, 0);
+    }
+    given_kind = LIMGOSHI_EMAID;
+}
+
+/* Table and plane of `same_bytes`: each kind has the plan that it was given last, or is not live. */
+static void each_plan(size_t n, const uint8_t *id, const uint8_t *plane, size_t length, const int plans[])
+{
+    for (size_t k = 0; k < sizeof kinds; k++) {
+        int live = plans[k] >= 0;
+        ANSWERS(limgoshi_query(table, n, kinds[k], id, LIMGOSHI_ID_MAX, &value), live ? LIMGOSHI_ACCEPTED : LIMGOSHI_NOT_LIVE, live ? (uint64_t)plans[k] : 0);
+        if (!live)
+            continue;
+        ANSWERS(limgoshi_plane_lookup(kinds[k], id, LIMGOSHI_ID_MAX, plane, length, &value), LIMGOSHI_ACCEPTED, (uint64_t)plans[k]);
+        ANSWERS(limgoshi_plan_total(table, n, (uint8_t)plans[k], &value), LIMGOSHI_ACCEPTED, 1);
+    }
+}
+
+/* The same bytes under every kind, live at once with plans of their own: in the table, in its plane, and by a patch. */
+static void same_bytes(void)
+{
+    const uint8_t *id = bytes(longest);
+    int plans[] = {-1, -1, -1, -1, -1, -1, -1};
+    size_t n = LIMGOSHI_TABLE_NUMBERS(2, 1), length = LIMGOSHI_PLANE_BYTES(2, 1, 0);
+    ANSWERS(limgoshi_open(table, n, 2, 1, &value), LIMGOSHI_ACCEPTED, 0);
+    for (size_t k = 0; k < sizeof kinds; k++) {
+        plans[k] = (int)(40 * k);
+        ANSWERS(limgoshi_add(table, n, kinds[k], id, LIMGOSHI_ID_MAX, (uint8_t)plans[k], &value), LIMGOSHI_ACCEPTED, k + 1);
+        ANSWERS(limgoshi_add(table, n, kinds[k], id, LIMGOSHI_ID_MAX, 9, &value), LIMGOSHI_LIVE, (uint64_t)plans[k]);
+        ANSWERS(limgoshi_write_plane(table, n, old_plane, sizeof old_plane, &value), LIMGOSHI_ACCEPTED, length);
+        each_plan(n, id, old_plane, length, plans);
+    }
+    for (size_t k = 0; k < sizeof kinds; k++) {
+        ANSWERS(limgoshi_change(table, n, kinds[k], id, LIMGOSHI_ID_MAX, (uint8_t)(k + 1), &value), LIMGOSHI_ACCEPTED, (uint64_t)plans[k]);
+        plans[k] = (int)k + 1;
+        ANSWERS(limgoshi_write_plane(table, n, new_plane, sizeof new_plane, &value), LIMGOSHI_ACCEPTED, length);
+        ANSWERS(limgoshi_make_patch(old_plane, length, new_plane, length, patch, sizeof patch, &value), LIMGOSHI_ACCEPTED, LIMGOSHI_PATCH_BYTES(1, 0, 0));
+        ANSWERS(limgoshi_apply_patch(old_plane, length, patch, LIMGOSHI_PATCH_BYTES(1, 0, 0), out, sizeof out, &value), LIMGOSHI_ACCEPTED, length);
+        each_plan(n, id, out, length, plans);
+        memcpy(old_plane, out, length);
+    }
+    for (size_t k = 0; k < sizeof kinds; k++) {
+        ANSWERS(limgoshi_withdraw(table, n, kinds[k], id, LIMGOSHI_ID_MAX, &value), LIMGOSHI_ACCEPTED, (uint64_t)plans[k]);
+        plans[k] = -1;
+        ANSWERS(limgoshi_write_plane(table, n, old_plane, sizeof old_plane, &value), LIMGOSHI_ACCEPTED, length);
+        each_plan(n, id, old_plane, length, plans);
     }
 }
 
@@ -188,19 +310,19 @@ static void values(void)
 {
     size_t n = LIMGOSHI_TABLE_NUMBERS(3, 2);
     ANSWERS(limgoshi_open(table, n, 3, 2, &value), LIMGOSHI_ACCEPTED, 0);
-    ANSWERS(limgoshi_add(table, n, bytes("Bus-17"), 6, 40, &value), LIMGOSHI_ACCEPTED, 1);
-    ANSWERS(limgoshi_add(table, n, bytes("Bus-18"), 6, 254, &value), LIMGOSHI_ACCEPTED, 2);
-    ANSWERS(limgoshi_add(table, n, bytes("BUS-17"), 6, 41, &value), LIMGOSHI_LIVE, 40);
-    ANSWERS(limgoshi_query(table, n, bytes("bus-17"), 6, &value), LIMGOSHI_ACCEPTED, 40);
-    ANSWERS(limgoshi_change(table, n, bytes("bus-17"), 6, 9, &value), LIMGOSHI_ACCEPTED, 40);
+    ANSWERS(limgoshi_add(table, n, LIMGOSHI_EMAID, bytes("Bus-17"), 6, 40, &value), LIMGOSHI_ACCEPTED, 1);
+    ANSWERS(limgoshi_add(table, n, LIMGOSHI_EMAID, bytes("Bus-18"), 6, 254, &value), LIMGOSHI_ACCEPTED, 2);
+    ANSWERS(limgoshi_add(table, n, LIMGOSHI_EMAID, bytes("BUS-17"), 6, 41, &value), LIMGOSHI_LIVE, 40);
+    ANSWERS(limgoshi_query(table, n, LIMGOSHI_EMAID, bytes("bus-17"), 6, &value), LIMGOSHI_ACCEPTED, 40);
+    ANSWERS(limgoshi_change(table, n, LIMGOSHI_EMAID, bytes("bus-17"), 6, 9, &value), LIMGOSHI_ACCEPTED, 40);
     ANSWERS(limgoshi_write_plane(table, n, out, sizeof out, &value), LIMGOSHI_ACCEPTED, LIMGOSHI_PLANE_BYTES(3, 2, 0));
-    ANSWERS(limgoshi_plane_lookup(bytes("bus-17"), 6, out, LIMGOSHI_PLANE_BYTES(3, 2, 0), &value), LIMGOSHI_ACCEPTED, 9);
-    ANSWERS(limgoshi_plane_lookup(bytes("bus-18"), 6, out, LIMGOSHI_PLANE_BYTES(3, 2, 0), &value), LIMGOSHI_ACCEPTED, 254);
-    ANSWERS(limgoshi_withdraw(table, n, bytes("bus-17"), 6, &value), LIMGOSHI_ACCEPTED, 9);
-    ANSWERS(limgoshi_withdraw(table, n, bytes("bus-17"), 6, &value), LIMGOSHI_NOT_LIVE, 0);
-    ANSWERS(limgoshi_change(table, n, bytes("bus-17"), 6, 9, &value), LIMGOSHI_NOT_LIVE, 0);
-    ANSWERS(limgoshi_query(table, n, bytes("bus-17"), 6, &value), LIMGOSHI_NOT_LIVE, 0);
-    ANSWERS(limgoshi_add(table, n, bytes("bus-17"), 6, 8, &value), LIMGOSHI_ACCEPTED, 2);
+    ANSWERS(limgoshi_plane_lookup(LIMGOSHI_EMAID, bytes("bus-17"), 6, out, LIMGOSHI_PLANE_BYTES(3, 2, 0), &value), LIMGOSHI_ACCEPTED, 9);
+    ANSWERS(limgoshi_plane_lookup(LIMGOSHI_EMAID, bytes("bus-18"), 6, out, LIMGOSHI_PLANE_BYTES(3, 2, 0), &value), LIMGOSHI_ACCEPTED, 254);
+    ANSWERS(limgoshi_withdraw(table, n, LIMGOSHI_EMAID, bytes("bus-17"), 6, &value), LIMGOSHI_ACCEPTED, 9);
+    ANSWERS(limgoshi_withdraw(table, n, LIMGOSHI_EMAID, bytes("bus-17"), 6, &value), LIMGOSHI_NOT_LIVE, 0);
+    ANSWERS(limgoshi_change(table, n, LIMGOSHI_EMAID, bytes("bus-17"), 6, 9, &value), LIMGOSHI_NOT_LIVE, 0);
+    ANSWERS(limgoshi_query(table, n, LIMGOSHI_EMAID, bytes("bus-17"), 6, &value), LIMGOSHI_NOT_LIVE, 0);
+    ANSWERS(limgoshi_add(table, n, LIMGOSHI_EMAID, bytes("bus-17"), 6, 8, &value), LIMGOSHI_ACCEPTED, 2);
 }
 
 /* Causes 4 and 5 in every call, and what is tested before what. The table is that of `values`. */
@@ -208,7 +330,7 @@ static void order(void)
 {
     size_t n = LIMGOSHI_TABLE_NUMBERS(3, 2);
     for (int which = ADD; which <= QUERY; which++) {
-        ANSWERS(table_call(which, table, n - 1, bytes("/////////////////////"), 21), LIMGOSHI_WRONG_LENGTH, 21);
+        ANSWERS(table_call(which, table, n - 1, slashes, TOO_LONG), LIMGOSHI_WRONG_LENGTH, TOO_LONG);
         ANSWERS(table_call(which, table, n - 1, bytes("bus/17"), 6), LIMGOSHI_WRONG_BYTE, 3);
         for (size_t k = 0; k < 5; k++)
             ANSWERS(table_call(which, table, k, bytes("bus-17"), 6), LIMGOSHI_WRONG_TABLE, k);
@@ -243,9 +365,9 @@ static void order(void)
     ANSWERS(limgoshi_plan_total(table, n, 8, &value), LIMGOSHI_ACCEPTED, 2);
     table[4 + 8]--;
     out[0] = 9;
-    ANSWERS(limgoshi_plane_lookup(bytes("bus-17-bus-17-bus-17/"), 21, out, 142, &value), LIMGOSHI_WRONG_LENGTH, 21);
-    ANSWERS(limgoshi_plane_lookup(bytes("bus-17/"), 7, out, 142, &value), LIMGOSHI_WRONG_BYTE, 6);
-    ANSWERS(limgoshi_plane_lookup(bytes("bus-17"), 6, out, 142, &value), LIMGOSHI_WRONG_PLANE, 0);
+    ANSWERS(limgoshi_plane_lookup(LIMGOSHI_EMAID, slashes, TOO_LONG, out, 142, &value), LIMGOSHI_WRONG_LENGTH, TOO_LONG);
+    ANSWERS(limgoshi_plane_lookup(LIMGOSHI_EMAID, bytes("bus-17/"), 7, out, 142, &value), LIMGOSHI_WRONG_BYTE, 6);
+    ANSWERS(limgoshi_plane_lookup(LIMGOSHI_EMAID, bytes("bus-17"), 6, out, 142, &value), LIMGOSHI_WRONG_PLANE, 0);
 }
 
 /* Cause 14: after 1 and 2, before every other, whatever the table is and whether the identifier is live or not. The table is that of `values`. */
@@ -254,7 +376,7 @@ static void desk_plan(void)
     size_t n = LIMGOSHI_TABLE_NUMBERS(3, 2);
     given_plan = LIMGOSHI_CALL_THE_DESK;
     for (int which = ADD; which <= CHANGE; which++) {
-        ANSWERS(table_call(which, table, n, bytes("/////////////////////"), 21), LIMGOSHI_WRONG_LENGTH, 21);
+        ANSWERS(table_call(which, table, n, slashes, TOO_LONG), LIMGOSHI_WRONG_LENGTH, TOO_LONG);
         ANSWERS(table_call(which, NULL, 0, NULL, 0), LIMGOSHI_WRONG_LENGTH, 0);
         ANSWERS(table_call(which, table, n, bytes("bus/17"), 6), LIMGOSHI_WRONG_BYTE, 3);
         ANSWERS(table_call(which, table, n, bytes("bus-17"), 6), LIMGOSHI_DESK_PLAN_GIVEN, 0);
@@ -271,10 +393,10 @@ static void desk_plan(void)
         }
     }
     given_plan = 77;
-    ANSWERS(limgoshi_query(table, n, bytes("bus-17"), 6, &value), LIMGOSHI_ACCEPTED, 8);
-    ANSWERS(limgoshi_query(table, n, bytes("bus-99"), 6, &value), LIMGOSHI_NOT_LIVE, 0);
-    ANSWERS(limgoshi_change(table, n, bytes("bus-17"), 6, LIMGOSHI_CALL_THE_DESK - 1, &value), LIMGOSHI_ACCEPTED, 8);
-    ANSWERS(limgoshi_change(table, n, bytes("bus-17"), 6, 8, &value), LIMGOSHI_ACCEPTED, LIMGOSHI_CALL_THE_DESK - 1);
+    ANSWERS(limgoshi_query(table, n, LIMGOSHI_EMAID, bytes("bus-17"), 6, &value), LIMGOSHI_ACCEPTED, 8);
+    ANSWERS(limgoshi_query(table, n, LIMGOSHI_EMAID, bytes("bus-99"), 6, &value), LIMGOSHI_NOT_LIVE, 0);
+    ANSWERS(limgoshi_change(table, n, LIMGOSHI_EMAID, bytes("bus-17"), 6, LIMGOSHI_CALL_THE_DESK - 1, &value), LIMGOSHI_ACCEPTED, 8);
+    ANSWERS(limgoshi_change(table, n, LIMGOSHI_EMAID, bytes("bus-17"), 6, 8, &value), LIMGOSHI_ACCEPTED, LIMGOSHI_CALL_THE_DESK - 1);
     ANSWERS(limgoshi_plan_total(table, n, LIMGOSHI_CALL_THE_DESK, &value), LIMGOSHI_ACCEPTED, 0);
 }
 
@@ -293,9 +415,9 @@ static void nulls(void)
     ANSWERS(limgoshi_write_plane(NULL, 0, out, sizeof out, &value), LIMGOSHI_WRONG_TABLE, 0);
     ANSWERS(limgoshi_write_plane(table, n, NULL, 0, &value), LIMGOSHI_SHORT_OUTPUT, length);
     ANSWERS(limgoshi_write_plane(NULL, 0, NULL, 0, &value), LIMGOSHI_WRONG_TABLE, 0);
-    ANSWERS(limgoshi_plane_lookup(NULL, 0, out, length, &value), LIMGOSHI_WRONG_LENGTH, 0);
-    ANSWERS(limgoshi_plane_lookup(bytes("bus-17"), 6, NULL, 0, &value), LIMGOSHI_WRONG_PLANE, 0);
-    ANSWERS(limgoshi_plane_lookup(NULL, 0, NULL, 0, &value), LIMGOSHI_WRONG_LENGTH, 0);
+    ANSWERS(limgoshi_plane_lookup(LIMGOSHI_EMAID, NULL, 0, out, length, &value), LIMGOSHI_WRONG_LENGTH, 0);
+    ANSWERS(limgoshi_plane_lookup(LIMGOSHI_EMAID, bytes("bus-17"), 6, NULL, 0, &value), LIMGOSHI_WRONG_PLANE, 0);
+    ANSWERS(limgoshi_plane_lookup(LIMGOSHI_EMAID, NULL, 0, NULL, 0, &value), LIMGOSHI_WRONG_LENGTH, 0);
     ANSWERS(limgoshi_make_patch(NULL, 0, NULL, 0, NULL, 0, &value), LIMGOSHI_WRONG_PLANE, 0);
     ANSWERS(limgoshi_apply_patch(NULL, 0, NULL, 0, NULL, 0, &value), LIMGOSHI_WRONG_PLANE, 0);
     length = make_plane(old_plane, 3, 2, 0);
@@ -309,10 +431,10 @@ static void plane(unsigned b1, unsigned b2, unsigned entries)
     int right = b1 >= 1 && b1 <= B1_MAX && b2 >= 1 && b2 <= B2_MAX && entries <= LIMGOSHI_BASE_MAX;
     size_t length = make_plane(out, b1, b2, entries);
     HOLDS(length == LIMGOSHI_PLANE_BYTES(b1, b2, entries));
-    ANSWERS(limgoshi_plane_lookup(bytes("bus-17"), 6, out, length, &value), right ? LIMGOSHI_ACCEPTED : LIMGOSHI_WRONG_PLANE, 0);
+    ANSWERS(limgoshi_plane_lookup(LIMGOSHI_EMAID, bytes("bus-17"), 6, out, length, &value), right ? LIMGOSHI_ACCEPTED : LIMGOSHI_WRONG_PLANE, 0);
     if (right) {
-        ANSWERS(limgoshi_plane_lookup(bytes("bus-17"), 6, out, length - 1, &value), LIMGOSHI_WRONG_PLANE, length - 5);
-        ANSWERS(limgoshi_plane_lookup(bytes("bus-17"), 6, out, length + 1, &value), LIMGOSHI_WRONG_PLANE, length);
+        ANSWERS(limgoshi_plane_lookup(LIMGOSHI_EMAID, bytes("bus-17"), 6, out, length - 1, &value), LIMGOSHI_WRONG_PLANE, length - 5);
+        ANSWERS(limgoshi_plane_lookup(LIMGOSHI_EMAID, bytes("bus-17"), 6, out, length + 1, &value), LIMGOSHI_WRONG_PLANE, length);
     }
 }
 
@@ -329,10 +451,10 @@ static void planes(void)
     HOLDS(2 * LIMGOSHI_TABLE_NUMBERS(0 | 1, 0 | 1) == 1072 && 2 * LIMGOSHI_PLANE_BYTES(0 | 1, 0 | 1, 1 - 1) == 284); /* brackets */
     make_plane(out, 1, 1, 2);
     out[5 + 66 + 1] = 9; /* the second bucket's bound */
-    ANSWERS(limgoshi_plane_lookup(bytes("bus-17"), 6, out, LIMGOSHI_PLANE_BYTES(1, 1, 2), &value), LIMGOSHI_WRONG_PLANE, 5 + 66);
+    ANSWERS(limgoshi_plane_lookup(LIMGOSHI_EMAID, bytes("bus-17"), 6, out, LIMGOSHI_PLANE_BYTES(1, 1, 2), &value), LIMGOSHI_WRONG_PLANE, 5 + 66);
     make_plane(out, 1, 1, 2);
     out[5 + 132 + 10 + 1] = 0; /* the second base record's word */
-    ANSWERS(limgoshi_plane_lookup(bytes("bus-17"), 6, out, LIMGOSHI_PLANE_BYTES(1, 1, 2), &value), LIMGOSHI_WRONG_PLANE, 5 + 132 + 10);
+    ANSWERS(limgoshi_plane_lookup(LIMGOSHI_EMAID, bytes("bus-17"), 6, out, LIMGOSHI_PLANE_BYTES(1, 1, 2), &value), LIMGOSHI_WRONG_PLANE, 5 + 132 + 10);
 }
 
 /* The desk's plan in each base record; strangers, where no bucket holds them and where one does. */
@@ -342,10 +464,10 @@ static void strangers(void)
     for (size_t i = 0; i < LIMGOSHI_BASE_MAX; i++) {
         size_t at = 5 + 132 + 10 * i;
         out[at + 9] = LIMGOSHI_CALL_THE_DESK - 1;
-        ANSWERS(limgoshi_plane_lookup(bytes("bus-17"), 6, out, length, &value), LIMGOSHI_ACCEPTED, 0);
+        ANSWERS(limgoshi_plane_lookup(LIMGOSHI_EMAID, bytes("bus-17"), 6, out, length, &value), LIMGOSHI_ACCEPTED, 0);
         out[at + 9] = LIMGOSHI_CALL_THE_DESK;
-        ANSWERS(limgoshi_plane_lookup(bytes("bus-17"), 6, out, length, &value), LIMGOSHI_WRONG_PLANE, at);
-        ANSWERS(limgoshi_plane_lookup(bytes("bus/17"), 6, out, length, &value), LIMGOSHI_WRONG_BYTE, 3);
+        ANSWERS(limgoshi_plane_lookup(LIMGOSHI_EMAID, bytes("bus-17"), 6, out, length, &value), LIMGOSHI_WRONG_PLANE, at);
+        ANSWERS(limgoshi_plane_lookup(LIMGOSHI_EMAID, bytes("bus/17"), 6, out, length, &value), LIMGOSHI_WRONG_BYTE, 3);
         memcpy(old_plane, out, length);
         ANSWERS(limgoshi_make_patch(old_plane, length, new_plane, right_length, out, sizeof out, &value), LIMGOSHI_WRONG_PLANE, at);
         ANSWERS(limgoshi_make_patch(new_plane, right_length, old_plane, length, out, sizeof out, &value), LIMGOSHI_WRONG_PLANE, at);
@@ -356,18 +478,18 @@ static void strangers(void)
     for (unsigned i = 0; i < 100; i++) {
         size_t k = strlen(card(i));
         length = make_plane(out, 1, 1, 0); /* a bucket of the bound 8 holds everything */
-        ANSWERS(limgoshi_plane_lookup(bytes(card(i)), k, out, length, &value), LIMGOSHI_ACCEPTED, 0);
+        ANSWERS(limgoshi_plane_lookup(card_kind(i), bytes(card(i)), k, out, length, &value), LIMGOSHI_ACCEPTED, 0);
         out[5 + 1] = 0;
-        ANSWERS(limgoshi_plane_lookup(bytes(card(i)), k, out, length, &value), LIMGOSHI_ACCEPTED, 0);
+        ANSWERS(limgoshi_plane_lookup(card_kind(i), bytes(card(i)), k, out, length, &value), LIMGOSHI_ACCEPTED, 0);
         out[5 + 66 + 1] = 0;
-        ANSWERS(limgoshi_plane_lookup(bytes(card(i)), k, out, length, &value), LIMGOSHI_ACCEPTED, LIMGOSHI_CALL_THE_DESK);
+        ANSWERS(limgoshi_plane_lookup(card_kind(i), bytes(card(i)), k, out, length, &value), LIMGOSHI_ACCEPTED, LIMGOSHI_CALL_THE_DESK);
         length = make_plane(out, 1, 1, LIMGOSHI_BASE_MAX); /* other words in the base list */
         out[5 + 1] = out[5 + 66 + 1] = 0;
-        ANSWERS(limgoshi_plane_lookup(bytes(card(i)), k, out, length, &value), LIMGOSHI_ACCEPTED, LIMGOSHI_CALL_THE_DESK);
+        ANSWERS(limgoshi_plane_lookup(card_kind(i), bytes(card(i)), k, out, length, &value), LIMGOSHI_ACCEPTED, LIMGOSHI_CALL_THE_DESK);
         length = make_plane(out, 1, 1, 0); /* eight equal solution words: the bucket gives 0 or 255 */
         memset(out + 5 + 2, 0x35, 64);
         before();
-        uint64_t answer = limgoshi_plane_lookup(bytes(card(i)), k, out, length, &value);
+        uint64_t answer = limgoshi_plane_lookup(card_kind(i), bytes(card(i)), k, out, length, &value);
         desk += value == LIMGOSHI_CALL_THE_DESK;
         after(__LINE__, "limgoshi_plane_lookup by a bucket", answer, LIMGOSHI_ACCEPTED, value == LIMGOSHI_CALL_THE_DESK ? value : 0);
     }
@@ -412,15 +534,6 @@ static void patches(void)
         between(1, 1, 2, 0, entries);
     }
     HOLDS(2 * LIMGOSHI_PATCH_BYTES(0 | 1, 1 - 1, 1 - 1) == 178); /* brackets */
-}
-
-/* FNV-1a 64. */
-static uint64_t sum(const uint8_t *plane, size_t length)
-{
-    uint64_t n = 0xcbf29ce484222325u;
-    for (size_t i = 0; i < length; i++)
-        n = (n ^ plane[i]) * 0x100000001b3u;
-    return n;
 }
 
 /* The next number of a text, 0 at its end. */
@@ -563,7 +676,7 @@ static unsigned fill(size_t n, unsigned b1, unsigned b2)
     for (; (entries < LIMGOSHI_BASE_MAX || answer != LIMGOSHI_FULL) && tried < 10000; tried++) {
         const char *id = card(tried);
         before();
-        answer = limgoshi_add(table, n, bytes(id), strlen(id), (uint8_t)tried, &value);
+        answer = limgoshi_add(table, n, card_kind(tried), bytes(id), strlen(id), (uint8_t)tried, &value);
         if (answer == LIMGOSHI_FULL) {
             after(__LINE__, "limgoshi_add to a full table", answer, LIMGOSHI_FULL, 0);
             continue;
@@ -592,20 +705,21 @@ static void full(void)
     for (unsigned i = 0; i < tried; i++) {
         const uint8_t *id = bytes(card(i));
         size_t k = strlen(card(i));
+        uint8_t kind = card_kind(i);
         before();
-        uint64_t answer = limgoshi_query(table, n, id, k, &value);
+        uint64_t answer = limgoshi_query(table, n, kind, id, k, &value);
         uint64_t plan = value;
         if (answer == LIMGOSHI_ACCEPTED) {
             live++;
             after(__LINE__, "limgoshi_query", answer, LIMGOSHI_ACCEPTED, (uint8_t)i);
-            ANSWERS(limgoshi_plane_lookup(id, k, out, length, &value), LIMGOSHI_ACCEPTED, plan);
-            ANSWERS(limgoshi_add(table, n, id, k, 5, &value), LIMGOSHI_LIVE, plan);
+            ANSWERS(limgoshi_plane_lookup(kind, id, k, out, length, &value), LIMGOSHI_ACCEPTED, plan);
+            ANSWERS(limgoshi_add(table, n, kind, id, k, 5, &value), LIMGOSHI_LIVE, plan);
         } else {
             after(__LINE__, "limgoshi_query", answer, LIMGOSHI_NOT_LIVE, 0);
         }
-        ANSWERS(limgoshi_query(restored, n, id, k, &value), answer, plan);
-        ANSWERS(limgoshi_add(table, n, id, k, LIMGOSHI_CALL_THE_DESK, &value), LIMGOSHI_DESK_PLAN_GIVEN, 0);
-        ANSWERS(limgoshi_change(table, n, id, k, LIMGOSHI_CALL_THE_DESK, &value), LIMGOSHI_DESK_PLAN_GIVEN, 0);
+        ANSWERS(limgoshi_query(restored, n, kind, id, k, &value), answer, plan);
+        ANSWERS(limgoshi_add(table, n, kind, id, k, LIMGOSHI_CALL_THE_DESK, &value), LIMGOSHI_DESK_PLAN_GIVEN, 0);
+        ANSWERS(limgoshi_change(table, n, kind, id, k, LIMGOSHI_CALL_THE_DESK, &value), LIMGOSHI_DESK_PLAN_GIVEN, 0);
     }
     HOLDS(live == table[3]);
     size_t base = n - 128;
@@ -617,7 +731,7 @@ static void full(void)
         for (unsigned counted = 0; counted < 2; counted++) {
             restored[4 + earlier] -= counted;
             restored[4 + LIMGOSHI_CALL_THE_DESK] += counted;
-            ANSWERS(limgoshi_query(restored, n, bytes(card(0)), 6, &value), LIMGOSHI_NOT_SOUND, 0);
+            ANSWERS(limgoshi_query(restored, n, card_kind(0), bytes(card(0)), 6, &value), LIMGOSHI_NOT_SOUND, 0);
             ANSWERS(limgoshi_plan_total(restored, n, LIMGOSHI_CALL_THE_DESK, &value), LIMGOSHI_ACCEPTED, counted);
         }
         restored[4 + earlier]++;
@@ -627,7 +741,7 @@ static void full(void)
     for (size_t i = 0; i < n; i++) {
         restored[i]++;
         before();
-        uint64_t answer = limgoshi_query(restored, n, bytes(card(0)), 6, &value);
+        uint64_t answer = limgoshi_query(restored, n, card_kind(0), bytes(card(0)), 6, &value);
         HOLDS(i < 3 || i >= 4 + LIMGOSHI_PLANS || answer == LIMGOSHI_NOT_SOUND); /* live count, totals */
         HOLDS(answer == LIMGOSHI_ACCEPTED || answer == LIMGOSHI_WRONG_TABLE || answer == LIMGOSHI_NOT_SOUND || answer == LIMGOSHI_NOT_LIVE);
         HOLDS(value == (answer == LIMGOSHI_WRONG_TABLE ? n : answer == LIMGOSHI_ACCEPTED ? value : 0) && value < 537);
@@ -664,7 +778,7 @@ static void totals(void)
     for (unsigned i = 0; i < TRIED; i++) {
         uint8_t plan = (uint8_t)(i % 3 * 127); /* 0, 127, 254 */
         before();
-        uint64_t answer = limgoshi_add(table, n, bytes(card(i)), strlen(card(i)), plan, &value);
+        uint64_t answer = limgoshi_add(table, n, card_kind(i), bytes(card(i)), strlen(card(i)), plan, &value);
         live[i] = answer != LIMGOSHI_FULL;
         count += live[i];
         full += !live[i];
@@ -678,10 +792,10 @@ static void totals(void)
         uint8_t earlier = (uint8_t)(i % 3 * 127), plan = (uint8_t)(i % 5 * 63 + 2); /* the same for some */
         heads[earlier] -= live[i];
         heads[plan] += live[i];
-        ANSWERS(limgoshi_change(table, n, bytes(card(i)), strlen(card(i)), plan, &value), live[i] ? LIMGOSHI_ACCEPTED : LIMGOSHI_NOT_LIVE, live[i] ? earlier : 0);
+        ANSWERS(limgoshi_change(table, n, card_kind(i), bytes(card(i)), strlen(card(i)), plan, &value), live[i] ? LIMGOSHI_ACCEPTED : LIMGOSHI_NOT_LIVE, live[i] ? earlier : 0);
         total(n, earlier);
         total(n, plan);
-        ANSWERS(limgoshi_change(table, n, bytes(card(i)), strlen(card(i)), LIMGOSHI_CALL_THE_DESK, &value), LIMGOSHI_DESK_PLAN_GIVEN, 0);
+        ANSWERS(limgoshi_change(table, n, card_kind(i), bytes(card(i)), strlen(card(i)), LIMGOSHI_CALL_THE_DESK, &value), LIMGOSHI_DESK_PLAN_GIVEN, 0);
         total(n, plan);
         total(n, LIMGOSHI_CALL_THE_DESK);
     }
@@ -691,11 +805,11 @@ static void totals(void)
         for (size_t k = 0; k < sizeof off / sizeof *off; k++) {
             uint64_t *held = table + 4 + plan, right = *held;
             *held += off[k];
-            ANSWERS(limgoshi_query(table, n, bytes(card(0)), 6, &value), LIMGOSHI_NOT_SOUND, 0);
+            ANSWERS(limgoshi_query(table, n, card_kind(0), bytes(card(0)), 6, &value), LIMGOSHI_NOT_SOUND, 0);
             ANSWERS(limgoshi_plan_total(table, n, (uint8_t)plan, &value), LIMGOSHI_ACCEPTED, right + off[k]);
             if (plan < UINT8_MAX) {
                 held[1] -= off[k];
-                ANSWERS(limgoshi_query(table, n, bytes(card(0)), 6, &value), LIMGOSHI_NOT_SOUND, 0);
+                ANSWERS(limgoshi_query(table, n, card_kind(0), bytes(card(0)), 6, &value), LIMGOSHI_NOT_SOUND, 0);
                 held[1] += off[k];
             }
             *held = right;
@@ -704,7 +818,7 @@ static void totals(void)
     for (unsigned i = 0; i < TRIED; i++) {
         uint8_t plan = (uint8_t)(i % 5 * 63 + 2);
         heads[plan] -= live[i];
-        ANSWERS(limgoshi_withdraw(table, n, bytes(card(i)), strlen(card(i)), &value), live[i] ? LIMGOSHI_ACCEPTED : LIMGOSHI_NOT_LIVE, live[i] ? plan : 0);
+        ANSWERS(limgoshi_withdraw(table, n, card_kind(i), bytes(card(i)), strlen(card(i)), &value), live[i] ? LIMGOSHI_ACCEPTED : LIMGOSHI_NOT_LIVE, live[i] ? plan : 0);
         total(n, plan);
     }
     HOLDS(table[3] == 0);
@@ -719,11 +833,12 @@ static void plans(void)
     for (unsigned i = 0; in_bucket + in_base < table[3] && i < 10000; i++) {
         const uint8_t *id = bytes(card(i));
         size_t k = strlen(card(i));
+        uint8_t kind = card_kind(i);
         before();
-        if (limgoshi_query(table, n, id, k, &value) != LIMGOSHI_ACCEPTED)
+        if (limgoshi_query(table, n, kind, id, k, &value) != LIMGOSHI_ACCEPTED)
             continue;
         ANSWERS(limgoshi_write_plane(table, n, old_plane, length, &value), LIMGOSHI_ACCEPTED, length);
-        ANSWERS(limgoshi_change(table, n, id, k, (uint8_t)(i + 1), &value), LIMGOSHI_ACCEPTED, (uint8_t)i);
+        ANSWERS(limgoshi_change(table, n, kind, id, k, (uint8_t)(i + 1), &value), LIMGOSHI_ACCEPTED, (uint8_t)i);
         ANSWERS(limgoshi_write_plane(table, n, new_plane, length, &value), LIMGOSHI_ACCEPTED, length);
         before();
         uint64_t answer = limgoshi_make_patch(old_plane, length, new_plane, length, patch, LIMGOSHI_PATCH_BYTES(1, 0, 0), &value);
@@ -731,12 +846,12 @@ static void plans(void)
         after(__LINE__, "limgoshi_make_patch of a changed plan", answer, LIMGOSHI_ACCEPTED, size);
         in_bucket += size == LIMGOSHI_PATCH_BYTES(1, 0, 0);
         in_base += size == LIMGOSHI_PATCH_BYTES(0, 0, 1);
-        ANSWERS(limgoshi_plane_lookup(id, k, old_plane, length, &value), LIMGOSHI_ACCEPTED, (uint8_t)i);
+        ANSWERS(limgoshi_plane_lookup(kind, id, k, old_plane, length, &value), LIMGOSHI_ACCEPTED, (uint8_t)i);
         ANSWERS(limgoshi_apply_patch(old_plane, length, patch, size, out, sizeof out, &value), LIMGOSHI_ACCEPTED, length);
-        ANSWERS(limgoshi_plane_lookup(id, k, out, length, &value), LIMGOSHI_ACCEPTED, (uint8_t)(i + 1));
+        ANSWERS(limgoshi_plane_lookup(kind, id, k, out, length, &value), LIMGOSHI_ACCEPTED, (uint8_t)(i + 1));
         HOLDS(memcmp(out, new_plane, length) == 0);
 
-        ANSWERS(limgoshi_change(table, n, id, k, (uint8_t)(i + 1), &value), LIMGOSHI_ACCEPTED, (uint8_t)(i + 1));
+        ANSWERS(limgoshi_change(table, n, kind, id, k, (uint8_t)(i + 1), &value), LIMGOSHI_ACCEPTED, (uint8_t)(i + 1));
         ANSWERS(limgoshi_write_plane(table, n, old_plane, length, &value), LIMGOSHI_ACCEPTED, length);
         ANSWERS(limgoshi_make_patch(new_plane, length, old_plane, length, patch, sizeof patch, &value), LIMGOSHI_ACCEPTED, LIMGOSHI_PATCH_BYTES(0, 0, 0));
     }
@@ -745,8 +860,11 @@ static void plans(void)
 
 int main(void)
 {
+    memset(slashes, '/', sizeof slashes);
     openings();
     identifiers();
+    every_kind();
+    same_bytes();
     values();
     order();
     desk_plan();

@@ -38,8 +38,8 @@ static uint8_t plane[LIMGOSHI_PLANE_BYTES(B1_MAX, B2_MAX, LIMGOSHI_BASE_MAX)], o
 static uint8_t patch[LIMGOSHI_PATCH_BYTES(B1_MAX + B2_MAX, LIMGOSHI_BASE_MAX, LIMGOSHI_BASE_MAX)];
 static size_t numbers, plane_length, old_length, patch_length, room, id_length;
 static uint64_t b1, b2, value, cause;
-static char id[32];
-static uint8_t plan;
+static char id[LIMGOSHI_ID_MAX + 1];
+static uint8_t kind, plan;
 
 /* The painted stack, where the call found it, and the most that each call has used. */
 static _Alignas(16) unsigned char stack[STACK_BYTES];
@@ -55,13 +55,13 @@ static void make_call(int which)
     start = __builtin_frame_address(0);
     switch (which) {
     case OPEN: cause = limgoshi_open(table, numbers, b1, b2, &value); break;
-    case ADD: cause = limgoshi_add(table, numbers, bytes, id_length, plan, &value); break;
-    case CHANGE: cause = limgoshi_change(table, numbers, bytes, id_length, plan, &value); break;
-    case WITHDRAW: cause = limgoshi_withdraw(table, numbers, bytes, id_length, &value); break;
-    case QUERY: cause = limgoshi_query(table, numbers, bytes, id_length, &value); break;
+    case ADD: cause = limgoshi_add(table, numbers, kind, bytes, id_length, plan, &value); break;
+    case CHANGE: cause = limgoshi_change(table, numbers, kind, bytes, id_length, plan, &value); break;
+    case WITHDRAW: cause = limgoshi_withdraw(table, numbers, kind, bytes, id_length, &value); break;
+    case QUERY: cause = limgoshi_query(table, numbers, kind, bytes, id_length, &value); break;
     case PLAN_TOTAL: cause = limgoshi_plan_total(table, numbers, plan, &value); break;
     case WRITE_PLANE: cause = limgoshi_write_plane(table, numbers, plane, sizeof plane, &value); break;
-    case PLANE_LOOKUP: cause = limgoshi_plane_lookup(bytes, id_length, plane, plane_length, &value); break;
+    case PLANE_LOOKUP: cause = limgoshi_plane_lookup(kind, bytes, id_length, plane, plane_length, &value); break;
     case MAKE_PATCH: cause = limgoshi_make_patch(old_plane, old_length, plane, plane_length, patch, room, &value); break;
     default: cause = limgoshi_apply_patch(old_plane, old_length, patch, patch_length, new_plane, room, &value);
     }
@@ -90,9 +90,11 @@ static void note(int which, unsigned char paint)
     memset(stack, paint, sizeof stack);
 }
 
+/* A card of any kind, its identifier as long as it may be. */
 static void set_card(unsigned n)
 {
-    id_length = (size_t)snprintf(id, sizeof id, "Card-%u", n);
+    id_length = (size_t)snprintf(id, sizeof id, "Card-%031u", n);
+    kind = (uint8_t)(LIMGOSHI_CENTRAL + n % LIMGOSHI_MAC_ADDRESS);
     plan = (uint8_t)(n % LIMGOSHI_CALL_THE_DESK);
 }
 
@@ -194,6 +196,8 @@ static void fill(uint64_t n1, uint64_t n2, unsigned char paint)
         id[0] = '/';
         call(which);
         id_length = 0;
+        call(which);
+        kind = 0;
         call(which);
         numbers--;
         call(which);

@@ -1,15 +1,16 @@
 -- Laws of causes. For a call: show `Given` along its tests (`unless`, `if-so`; `unless-met`, `if-met` where a test says just whether the cause is
 -- met), then `exactly`. `number-exactly` and `accepted-exactly` read off what that says of one cause, and of none.
 -- Assumes nothing.
-use Prim.Native.Nat.{ℕ, _≤_, _<_}
-use native.Mathlib.Nat.{le-refl}
-use native.Mathlib.Omega.{arith}
+use Prim.Native.Nat.{ℕ}
 use mathlib.Core.Path.{_≡_, refl, sym, _∙_, subst}
 use mathlib.Core.Logic.{inl, inr, _↔_}
-use mathlib.Core.Bool.{Bool, true, false, cond, true≢false}
+use mathlib.Core.Bool.{Bool, true, false, cond, not, _&&_, true≢false}
 use mathlib.Core.List.{List, [], _∷_, _++_}
+use lib.Dec.{eqb}
+use borrow.Author.Tests.{eqb-false, not-true}
+use Rattle.lists.proofs.Tests.{and-one, and-two}
 use Rattle.answer.specs.Numbers.{numberOf, valueOf}
-use Rattle.answer.specs.Causes.{Cause, causeIf, Unmet, NoneMet, InOrder, NotAmong, Apart, FirstMet, Exactly}
+use Rattle.answer.specs.Causes.{Cause, causeIf, Unmet, NoneMet, NotAmong, Apart, FirstMet, Exactly}
 use Rattle.answer.specs.declared.Answer.{Answer}
 
 -- ---- one answer
@@ -82,18 +83,27 @@ module _ {A : Type 0} (answer : A → Answer) (k : ℕ) (P : Type 0) (value : �
 
 -- ---- what it says of one cause, and of none
 
--- numbers that ascend are apart
-above-none : (n : ℕ) (cs : List Cause) → InOrder n cs → (k : ℕ) → k ≤ n → NotAmong k cs
-above-none n [] o k l = tt
-above-none n (c ∷ cs) o k l =
-    let h : n < c .number = o .0 in
-    (λ e. let e : k ≡ c .number = e in omega arith, above-none (c .number) cs (o .1) k (omega arith))
+-- numbers differ where this test says so
+abbrev others : ℕ → List Cause → Bool
+others k [] = true
+others k (c ∷ cs) = not (eqb k (c .number)) && others k cs
 
-pub in-order-apart : (n : ℕ) (cs : List Cause) → InOrder n cs → Apart cs
-in-order-apart n [] o = tt
-in-order-apart n (c ∷ cs) o =
-    let h : n < c .number = o .0 in
-    (λ e. let e : c .number ≡ 0 = e in omega arith, (above-none (c .number) cs (o .1) (c .number) (le-refl (c .number)), in-order-apart (c .number) cs (o .1)))
+abbrev apartTest : List Cause → Bool
+apartTest [] = true
+apartTest (c ∷ cs) = not (eqb (c .number) 0) && (others (c .number) cs && apartTest cs)
+
+differ : (j k : ℕ) (b : Bool) → (not (eqb j k) && b) ≡ true → j ≡ k → ⊥
+differ j k b t = eqb-false j k (not-true (eqb j k) (and-one (not (eqb j k)) b t))
+
+others-out : (k : ℕ) (cs : List Cause) → others k cs ≡ true → NotAmong k cs
+others-out k [] t = tt
+others-out k (c ∷ cs) t = (differ k (c .number) _ t, others-out k cs (and-two (not (eqb k (c .number))) _ t))
+
+pub test-apart : (cs : List Cause) → apartTest cs ≡ true → Apart cs
+test-apart [] t = tt
+test-apart (c ∷ cs) t =
+    let r = and-two (not (eqb (c .number) 0)) _ t in
+    (differ (c .number) 0 _ t, (others-out (c .number) cs (and-one (others (c .number) cs) _ r), test-apart cs (and-two (others (c .number) cs) _ r)))
 
 -- a number that no cause has is not given
 given-zero : (cs : List Cause) (returns : ℕ → Type 0) (k v : ℕ) → NotAmong k cs → FirstMet cs returns k v → k ≡ 0

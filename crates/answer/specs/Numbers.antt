@@ -1,8 +1,8 @@
--- Document 01's table of causes, with those that document 02's orders add (11 to 13: order 1; 14: order 3): the number of each case of an answer, and what is
+-- Document 01's table of causes, with those that document 02's orders add (11 to 13: order 1; 14: order 3; 15: order 4): the number of each case of an answer, and what is
 -- returned with it.
 use Prim.Native.Nat.{ℕ}
 use Rattle.answer.specs.declared.Answer.{Answer}
-use Rattle.answer.specs.declared.Answer.the-variants.{Accepted, WrongLength, WrongByte, WrongBuckets, WrongTable, NotSound, Live, NotLive, Full, ShortOutput, WrongPlane, UnlikePlanes, WrongPatch, WrongSum, DeskPlanGiven}
+use Rattle.answer.specs.declared.Answer.the-variants.{Accepted, WrongLength, WrongByte, WrongBuckets, WrongTable, NotSound, Live, NotLive, Full, ShortOutput, WrongPlane, UnlikePlanes, WrongPatch, WrongSum, DeskPlanGiven, WrongKind}
 
 -- the number of the cause, 0 if there is none
 abbrev pub numberOf : Answer → ℕ
@@ -21,6 +21,7 @@ numberOf UnlikePlanes = 11
 numberOf (WrongPatch i) = 12
 numberOf WrongSum = 13
 numberOf DeskPlanGiven = 14
+numberOf WrongKind = 15
 
 -- document 01's "returned with it"
 abbrev pub valueOf : Answer → ℕ
@@ -39,3 +40,4 @@ valueOf UnlikePlanes = 0
 valueOf (WrongPatch i) = i
 valueOf WrongSum = 0
 valueOf DeskPlanGiven = 0
+valueOf WrongKind = 0

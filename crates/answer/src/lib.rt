@@ -2,7 +2,7 @@
 // Definitions: specs/Numbers.antt, the number and value of each case by documents 01 and 02; specs/Causes.antt, a list of causes and the first of them
 // that is met. Laws: proofs/Determined.antt, proofs/Causes.antt.
 // A later order's cause gets its case, number and value here; it is tested by the call that can meet it, and stated and proved there too.
-// Cites nothing of the project; every crate with a call cites it.
+// Cites lists; every crate with a call cites it.
 ghost use mathlib.Core.Path.{_≡_};
 ghost use Rattle.answer.specs.Numbers.{numberOf, valueOf};
 
@@ -10,7 +10,7 @@ ghost use Rattle.answer.specs.Numbers.{numberOf, valueOf};
 pub enum Answer {
     // Accepted: what the call returns.
     Accepted(u64),
-    // Identifier of 0 or over 20 bytes: its length.
+    // Identifier of 0 or over 36 bytes: its length.
     WrongLength(u64),
     // Byte not allowed: index of the first.
     WrongByte(u64),
@@ -39,6 +39,8 @@ pub enum Answer {
     WrongSum,
     // Order 3: plan 255 given.
     DeskPlanGiven,
+    // Order 4: kind not 1 to 7.
+    WrongKind,
 }
 
 // The number of an answer: 0 if accepted, else that of the cause.
@@ -61,6 +63,7 @@ pub fn number(a: Answer) -> u64
         Answer::WrongPatch(_) => 12,
         Answer::WrongSum => 13,
         Answer::DeskPlanGiven => 14,
+        Answer::WrongKind => 15,
     }
 }
 
@@ -84,5 +87,6 @@ pub fn value(a: Answer) -> u64
         Answer::WrongPatch(i) => i,
         Answer::WrongSum => 0,
         Answer::DeskPlanGiven => 0,
+        Answer::WrongKind => 0,
     }
 }

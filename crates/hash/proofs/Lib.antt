@@ -1,3 +1,4 @@
 pub mod Product
 pub mod Inverse
 pub mod FnvLaws
+pub mod FnvOne

@@ -23,7 +23,7 @@ or-cases : {P : Type 0} (a b : Bool) → (a || b) ≡ true → (a ≡ true → P
 or-cases true b e f g = f refl
 or-cases false b e f g = g e
 
-between-parts : (first last b : ℕ) → between first last b ≡ true → (first ≤ b) × (b ≤ last)
+pub between-parts : (first last b : ℕ) → between first last b ≡ true → (first ≤ b) × (b ≤ last)
 between-parts first last b e =
     let p = and-parts (leb first b) (leb b last) e in
     (leb-true first b (p .0), leb-true b last (p .1))
@@ -107,10 +107,6 @@ pub entry-low : (b : ℕ) → allowed b ≡ true → foldOf b < refusedFrom
 entry-low b e = rw (entry-allowed b e) (lt-of-le-of-lt (folded-le b) (allowed-low b e))
 
 -- ---- lists
-
-pub fold-twice : (s : List ℕ) → map folded (map folded s) ≡ map folded s
-fold-twice [] = refl
-fold-twice (b ∷ s) = ap₂ _∷_ (folded-twice b) (fold-twice s)
 
 small-eq : (a b : ℕ) → (small a && eqb (a - 0x20) b) ≡ true → folded a ≡ folded b
 small-eq a b e =

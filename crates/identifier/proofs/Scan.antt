@@ -1,4 +1,4 @@
--- One pass over the bytes, byte by byte, finds what `readOf` says.
+-- One pass over the bytes finds what `readOf` says.
 -- Assumes nothing.
 use mathlib.Core.Path.{_≡_, refl, sym, _∙_}
 use mathlib.Core.Bool.{true, false, cond}
@@ -13,15 +13,11 @@ use borrow.Author.Tests.{lt-ltb}
 use Rattle.answer.specs.declared.Answer.the-variants.{WrongByte}
 use Rattle.hash.specs.Mix.{mixOf}
 use Rattle.hash.specs.Fnv.{fnvStep, fnvFrom, fnvStart}
-use Rattle.identifier.specs.Identifier.{sized, allowed, folded, refusedFrom, foldOf, wordOf, firstRefused, readOf}
+use Rattle.identifier.specs.Identifier.{Token, idBytes, isKind, sized, allowed, folded, refusedFrom, foldOf, wordOf, firstRefused, readOf}
+use Rattle.identifier.specs.Scan.{scan}
 use Rattle.identifier.specs.declared.Read.{Read}
 use Rattle.identifier.specs.declared.Read.the-variants.{Word, Refused}
 use Rattle.identifier.proofs.Folding.{by-test, entry-allowed, entry-refused, entry-low}
-
--- the bytes from index i on, h being the hash of those before
-unfoldable pub scan : ℕ → ℕ → List ℕ → Read
-scan i h [] = Word (mixOf h)
-scan i h (b ∷ bs) = cond (allowed b) (scan (suc i) (fnvStep h (folded b)) bs) (Refused (WrongByte i))
 
 -- what a scan of s finds
 abbrev found : ℕ → ℕ → List ℕ → Read
@@ -48,10 +44,10 @@ scan-found i h (b ∷ s) =
     ∙ sym (rw (e, leb·suc-suc (suc (firstRefused s)) (length s), add-suc i (firstRefused s), suc-add i (firstRefused s))))
     (λ e. scan-here i h b s e ∙ sym (rw (e, lt-ltb 0 (suc (length s)) (zero-lt-suc (length s)), add-zero i)))
 
--- bytes of a right number are scanned from the start
-pub scan-read : (s : List ℕ) → sized (length s) ≡ true → scan 0 fnvStart s ≡ readOf s
-unfolding readOf wordOf
-scan-read s e = scan-found 0 fnvStart s ∙ rw (e, zero-add (firstRefused s))
+-- an identifier of a right kind and length is scanned from the start, after its kind
+pub scan-read : (i : Token) → isKind (i .kind) ≡ true → sized (i .stated) ≡ true → scan 0 (fnvStep fnvStart (i .kind)) (idBytes i) ≡ readOf i
+unfolding readOf wordOf fnvFrom
+scan-read i k e = scan-found 0 (fnvStep fnvStart (i .kind)) (idBytes i) ∙ rw (k, e, zero-add (firstRefused (idBytes i)))
 
 -- ---- one byte, by its entry of the table
 

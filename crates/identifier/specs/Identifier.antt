@@ -1,10 +1,10 @@
--- Document 01's identifier: which bytes are allowed, folding, the word, and the causes 1 and 2.
+-- Document 01's identifier with document 02's order 4: which bytes are allowed, folding, kinds, the word, and the causes 15, 1 and 2.
 use Prim.Native.Nat.{ℕ, suc, _+_, _-_, _%_}
 use mathlib.Core.Bool.{Bool, true, false, cond, not, _&&_, _||_}
 use mathlib.Core.List.{List, [], _∷_, map}
 use lib.Dec.{leb, ltb, eqb}
-use lib.ListN.{length}
-use Rattle.answer.specs.declared.Answer.the-variants.{WrongLength, WrongByte}
+use lib.ListN.{length, take}
+use Rattle.answer.specs.declared.Answer.the-variants.{WrongLength, WrongByte, WrongKind}
 use Rattle.hash.specs.Mix.{mixOf}
 use Rattle.hash.specs.Fnv.{fnvOf}
 use Rattle.identifier.specs.declared.Read.{Read}
@@ -51,17 +51,39 @@ refusedFrom = 128
 unfoldable pub foldOf : ℕ → ℕ
 foldOf b = cond (allowed b) (folded b) (refusedFrom + b % refusedFrom)
 
--- the bytes that are hashed
-abbrev pub hashed : List ℕ → List ℕ
-hashed s = map folded s
+-- an identifier as it is handed in: its kind, its stated length, and bytes that begin with it. What follows them is not read
+pub record Token : Type 0 where
+  pub kind : ℕ
+  pub stated : ℕ
+  pub bytes : List ℕ
 
--- document 01's word of an identifier: S(FNV of the folded bytes)
-unfoldable pub wordOf : List ℕ → ℕ
-wordOf s = mixOf (fnvOf (hashed s))
+-- the identifier's own bytes
+abbrev pub idBytes : Token → List ℕ
+idBytes i = take (i .stated) (i .bytes)
+
+-- the bytes s, all of them, as an identifier of this kind: every call is handed one so
+abbrev pub token : ℕ → List ℕ → Token
+token kind s = record { kind = kind; stated = length s; bytes = s }
+
+-- the bytes that are hashed: "the kind byte followed by the folded bytes"
+abbrev pub hashed : Token → List ℕ
+hashed i = i .kind ∷ map folded (idBytes i)
+
+-- the word of an identifier: "S(FNV of the kind byte followed by the folded bytes)"
+unfoldable pub wordOf : Token → ℕ
+wordOf i = mixOf (fnvOf (hashed i))
+
+-- kinds go from 1 to 7: 1 Central, 2 eMAID, 3 ISO14443, 4 ISO15693, 5 KeyCode, 6 Local, 7 MacAddress
+abbrev pub lastKind : ℕ
+lastKind = 7
+
+-- k is a kind
+abbrev pub isKind : ℕ → Bool
+isKind k = between 1 lastKind k
 
 -- an identifier has at most this many bytes
 abbrev pub mostBytes : ℕ
-mostBytes = 20
+mostBytes = 36
 
 -- and at least 1
 abbrev pub sized : ℕ → Bool
@@ -72,12 +94,13 @@ unfoldable pub firstRefused : List ℕ → ℕ
 firstRefused [] = 0
 firstRefused (b ∷ bs) = cond (allowed b) (suc (firstRefused bs)) 0
 
--- what the bytes s are found to be: document 01's cause 1, then 2, else the word
-unfoldable pub readOf : List ℕ → Read
-readOf s =
-    cond (not (sized (length s))) (Refused (WrongLength (length s)))
-    (cond (ltb (firstRefused s) (length s)) (Refused (WrongByte (firstRefused s)))
-    (Word (wordOf s)))
+-- what an identifier is found to be: cause 15, then 1, then 2, else its word
+unfoldable pub readOf : Token → Read
+readOf i =
+    cond (not (isKind (i .kind))) (Refused WrongKind)
+    (cond (not (sized (i .stated))) (Refused (WrongLength (i .stated)))
+    (cond (ltb (firstRefused (idBytes i)) (length (idBytes i))) (Refused (WrongByte (firstRefused (idBytes i))))
+    (Word (wordOf i))))
 
 -- a and b are equal, or one is a letter a to z and the other its capital
 abbrev pub sameLetter : ℕ → ℕ → Bool

@@ -1,3 +1,4 @@
 pub mod Identifier
 pub mod Place
 pub mod Causes
+pub mod Scan

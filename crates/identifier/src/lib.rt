@@ -1,17 +1,25 @@
-// Identifiers: which bytes are one, the word of an identifier, and the place of a word at each level.
-// Definitions: specs/Identifier.antt, specs/Place.antt and specs/Causes.antt, in document 01's words. Laws: proofs/Folding.antt (what
-// folding changes), proofs/Causes.antt (each cause is given if and only if it is the first met), proofs/Words.antt (either
-// case of a letter gives the same word, the vector at level 2 determines the word).
+// Identifiers: which kinds and bytes are one, the word of an identifier, and the place of a word at each level.
+// Definitions: specs/Identifier.antt, specs/Place.antt and specs/Causes.antt, in the documents' words; specs/Scan.antt has what one pass finds.
+// Laws: proofs/Folding.antt (what folding changes), proofs/Causes.antt (each cause is given if and only if it is the first met),
+// proofs/Words.antt (either case of a letter gives the same word, the same letters under two kinds give two, the vector at level 2
+// determines the word).
 // Cites answer (the causes) and hash (the word). table_calls, table_add and plane cite it.
 mod fold;
 
 use answer::Answer;
 ghost use mathlib.Core.Path.{_≡_};
-ghost use Rattle.identifier.specs.Identifier.{readOf};
+ghost use Prim.Native.Nat.{_≤_};
+ghost use mathlib.Core.Bool.{not};
+ghost use lib.ListN.{length};
+ghost use Rattle.identifier.specs.Identifier.{between, mostBytes, readOf};
+ghost use Rattle.identifier.specs.Scan.{scan};
 ghost use Rattle.identifier.specs.Place.{secondOf, firstOf, placeOf, thresholdAt, bucketAt};
 
-// An identifier is 1 to 20 bytes. Only its word is kept of it.
+// An identifier is 1 to 36 bytes of a kind. Only its word is kept of it.
 pub struct Identifier {}
+
+// The kinds of identifiers, document 02, order 4.
+pub struct Kind {}
 
 // What bytes that are handed in as an identifier are found to be.
 pub enum Read {
@@ -21,38 +29,74 @@ pub enum Read {
     Refused(Answer),
 }
 
-impl Identifier {
-    pub const MIN_LEN: usize = 1;
+impl Kind {
+    pub const CENTRAL: u8 = 1;
 
-    pub const MAX_LEN: usize = 20;
+    pub const EMAID: u8 = 2;
+
+    pub const ISO14443: u8 = 3;
+
+    pub const ISO15693: u8 = 4;
+
+    pub const KEY_CODE: u8 = 5;
+
+    pub const LOCAL: u8 = 6;
+
+    pub const MAC_ADDRESS: u8 = 7;
+}
+
+impl Identifier {
+    pub const MAX_LEN: usize = 36;
 
     // The threshold of a word at a level is a number below this.
     pub const THRESHOLDS: u64 = 8;
 
-    // The word of the bytes, or the cause for which they are turned down. One pass; the table of bytes is made once.
-    pub fn read(s: &[u8]) -> Read
-        ensures { λ r. ⌜ r ≡ readOf (now (s .entry)) ⌝ }
+    // The word of the first n bytes as an identifier of this kind, or the cause for which they are turned down.
+    pub fn read(kind: u8, n: usize, s: &[u8]) -> Read
+        requires { ⌜ (n ≤ mostBytes → n ≤ length (now s)) ⌝ }
+        ensures { λ r. ⌜ r ≡ readOf (record { kind = kind; stated = n; bytes = now (s .entry) }) ⌝ }
     {
-        let n = s.len();
-        if n < Identifier::MIN_LEN {
+        if out_of_range(kind as u64, Kind::MAC_ADDRESS as u64) {
+            return Read::Refused(Answer::WrongKind);
+        }
+        if out_of_range(n as u64, Identifier::MAX_LEN as u64) {
             return Read::Refused(Answer::WrongLength(n as u64));
         }
-        if Identifier::MAX_LEN < n {
-            return Read::Refused(Answer::WrongLength(n as u64));
-        }
-        let table = fold::table();
-        let mut h = hash::FNV_START;
-        let mut i = 0;
-        while i < n {
-            let b = table[s[i] as usize];
-            if fold::REFUSED <= b {
-                return Read::Refused(Answer::WrongByte(i as u64));
-            }
-            h = hash::fnv_step(h, b);
-            i += 1;
-        }
-        Read::Word(hash::mix(h))
+        read_bytes(hash::fnv_step(hash::FNV_START, kind), &s[..n])
     }
+}
+
+// n is not 1 to last.
+fn out_of_range(n: u64, last: u64) -> bool
+    ensures { λ r. ⌜ r ≡ not (between 1 last n) ⌝ }
+{
+    if n < 1 {
+        return true;
+    }
+    if last < n {
+        return true;
+    }
+    false
+}
+
+// The word of the bytes of an identifier, start being the hash of its kind, or the index of the first byte that is not allowed. One pass;
+// the table of bytes is made once.
+fn read_bytes(start: u64, s: &[u8]) -> Read
+    ensures { λ r. ⌜ r ≡ scan 0 start (now (s .entry)) ⌝ }
+{
+    let n = s.len();
+    let table = fold::table();
+    let mut h = start;
+    let mut i = 0;
+    while i < n {
+        let b = table[s[i] as usize];
+        if fold::REFUSED <= b {
+            return Read::Refused(Answer::WrongByte(i as u64));
+        }
+        h = hash::fnv_step(h, b);
+        i += 1;
+    }
+    Read::Word(hash::mix(h))
 }
 
 // The threshold of the vector v at its level.

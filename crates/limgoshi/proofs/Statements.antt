@@ -2,11 +2,11 @@
 -- under the words that it is for; the crates named prove it. docs/READING.md lists the definitions that it takes to read this file.
 -- Assumes nothing.
 use Prim.Native.Nat.{ℕ, _^_, _≤_, _<_}
-use mathlib.Core.Path.{_≡_, ap, _∙_}
+use mathlib.Core.Path.{_≡_, refl, sym, ap, _∙_}
 use mathlib.Core.Bool.{true, false}
-use mathlib.Core.Logic.{_↔_}
+use mathlib.Core.Logic.{_⊎_, _↔_}
 use mathlib.Core.Option.{none, some}
-use mathlib.Core.List.{List}
+use mathlib.Core.List.{List, [], _∷_, _++_}
 use native.Mathlib.Omega.{arith}
 use lib.ListN.{length, getD, take}
 use borrow.Author.Tests.{ltb-true, ltb-false, le-ltb}
@@ -14,17 +14,23 @@ use Rattle.lists.specs.Entries.{planLimit, deskPlan, assignable, words, find}
 use Rattle.lists.specs.Totals.{planCount}
 use Rattle.gf2.specs.Bound.{Largest}
 use Rattle.answer.specs.declared.Answer.{Answer}
-use Rattle.answer.specs.declared.Answer.the-variants.{Accepted, WrongLength, WrongByte, WrongBuckets, WrongTable, NotSound, Live, NotLive, Full, ShortOutput, WrongPlane, UnlikePlanes, WrongPatch, WrongSum, DeskPlanGiven}
-use Rattle.answer.specs.Numbers.{numberOf}
+use Rattle.answer.specs.declared.Answer.the-variants.{Accepted, WrongLength, WrongByte, WrongBuckets, WrongTable, NotSound, Live, NotLive, Full, ShortOutput, WrongPlane, UnlikePlanes, WrongPatch, WrongSum, DeskPlanGiven, WrongKind}
+use Rattle.answer.specs.Numbers.{numberOf, valueOf}
 use Rattle.answer.specs.Causes.{Exactly}
-use Rattle.identifier.specs.Identifier.{wordOf, readOf}
+use Rattle.answer.proofs.Causes.{test-apart, number-exactly}
+use Rattle.identifier.specs.Identifier.{Token, idBytes, wordOf, readOf, onlyCase}
+use Rattle.identifier.specs.Causes.{wrongKind, wrongLength, wrongByte, idCauses, wordAnswer}
 use Rattle.identifier.specs.Place.{secondOf}
 use Rattle.identifier.specs.declared.Read.the-variants.{Word}
+use Rattle.identifier.proofs.Causes.{OfIdentifier, read-exactly}
+use Rattle.identifier.proofs.Words as Words
+use Rattle.identifier.proofs.Words.{read-case, kinds-differ}
 use Rattle.model.specs.Levels.{firstLevel, secondLevel, passed, due}
 use Rattle.model.specs.Model.{baseLimit, Call, add, change, query, wouldLeave, base}
-use Rattle.model.specs.Request.{Token, wordFor, Request, ask}
+use Rattle.model.specs.Request.{subject, wordFor, Request, ask}
 use Rattle.model.specs.Machine.{accepted, after, Alike}
 use Rattle.model.specs.History.{told}
+use Rattle.model.proofs.Others.{told-other}
 use Rattle.table.specs.Calls.{tableOf, shaped, FlatSound, openCall, queried, call, totalCall}
 use Rattle.table.specs.History.{tables, Opened, acceptedCalls, LiveWith, flatState, Same}
 use Rattle.table.specs.Causes.{openCauses, openReturns, callCauses, callReturns, totalCauses, totalReturns}
@@ -34,6 +40,7 @@ use Rattle.plane.specs.Record.{format1}
 use Rattle.plane.specs.Plane.{wrongAt, planeFrom}
 use Rattle.plane.specs.Lookup.{holds, lookupCall}
 use Rattle.plane.specs.Causes.{lookupCauses, lookupReturns}
+use Rattle.plane.proofs.Causes as PlaneCauses
 use Rattle.plane.proofs.Desk.{stranger-answer}
 use Rattle.plane_write.specs.Write.{putFront, writeCall, shownTo}
 use Rattle.plane_write.specs.Causes.{writeCauses, writeReturns}
@@ -48,8 +55,8 @@ use Rattle.patch_make.proofs.Lists.{list-follows, list-new, plane-tells}
 -- ---- statement 1: "Any bytes as identifier, table or plane are answered or turned down by a number of document 01's table, without fault", and any
 -- as patch; document 02's orders add their numbers. No entry has a `requires`, and every function is proved safe and ending
 
--- "by a number of document 01's table", 11 to 13 of order 1 or 14 of order 3
-pub numbers : (a : Answer) → numberOf a ≤ 14
+-- "by a number of document 01's table", 11 to 13 of order 1, 14 of order 3 or 15 of order 4
+pub numbers : (a : Answer) → numberOf a ≤ 15
 numbers (Accepted n) = omega arith
 numbers (WrongLength n) = omega arith
 numbers (WrongByte i) = omega arith
@@ -65,6 +72,7 @@ numbers UnlikePlanes = omega arith
 numbers (WrongPatch i) = omega arith
 numbers WrongSum = omega arith
 numbers DeskPlanGiven = omega arith
+numbers WrongKind = omega arith
 
 -- "each number given if and only if its cause is the first met", and what is returned with it: specs/Causes of the crates named list the causes
 -- of each entry in the document's words
@@ -82,7 +90,7 @@ total-causes = Table.total-causes
 pub write-causes : (t out : List ℕ) → ((i : ℕ) → getD t i 0 < 2 ^ 64) → Exactly (writeCauses t out) (writeReturns t) (writeCall t out .answer)
 write-causes = Plane.write-causes
 
-pub lookup-causes : (id p : List ℕ) → Exactly (lookupCauses id p) (lookupReturns id p) (lookupCall id p)
+pub lookup-causes : (id : Token) (p : List ℕ) → Exactly (lookupCauses id p) (lookupReturns id p) (lookupCall id p)
 lookup-causes = Plane.lookup-causes
 
 pub make-causes : (p q out : List ℕ) → Exactly (makeCauses p q out) (makeReturns p q) (makeCall p q out .answer)
@@ -117,12 +125,12 @@ module _ (t : List ℕ) (o : Opened t) (ps : List Request) where
 
   module _ (out : List ℕ) (n : ℕ) (e : writeCall (after tables t ps) out .answer ≡ Accepted n) where
     -- "and from the plane": n bytes were written
-    pub plan-from-plane : (id : List ℕ) (w p : ℕ) → readOf id ≡ Word w → told w (acceptedCalls t ps) ≡ some p
+    pub plan-from-plane : (id : Token) (w p : ℕ) → readOf id ≡ Word w → told w (acceptedCalls t ps) ≡ some p
         → lookupCall id (take n (writeCall (after tables t ps) out .output)) ≡ Accepted p
     plan-from-plane = Plane.last-plan t o ps out n e
 
     -- "a plane written and read again answers for each identifier as the table's own XOR words or base list do"
-    pub plane-as-table : (id : List ℕ) → lookupCall id (take n (writeCall (after tables t ps) out .output)) ≡ shownTo (tableOf (after tables t ps)) (readOf id)
+    pub plane-as-table : (id : Token) → lookupCall id (take n (writeCall (after tables t ps) out .output)) ≡ shownTo (tableOf (after tables t ps)) (readOf id)
     plane-as-table = Plane.list-gives t o ps out n e
 
 -- ---- head counts, document 02, order 2: "After any list the answer is the number of words then live with that plan" (`LiveWith`: they are listed, as
@@ -137,7 +145,7 @@ head-count-sound = Table.total-exact
 
 -- ---- strangers, document 02, order 3: plan 255 means "call the desk" (`deskPlan`; `assignable`: below it)
 
--- "An add or change to plan 255 is refused": with 14, exactly if the bytes are an identifier and the plan, which is a byte, is 255, whatever the table
+-- "An add or change to plan 255 is refused": with 14, exactly if the identifier is one and the plan, which is a byte, is 255, whatever the table
 pub plan-14 : (t : List ℕ) (i : Token) (p : ℕ) → p < planLimit
     → ((numberOf (call t (add i p) .answer) ≡ 14) ↔ ((readOf i ≡ Word (wordOf i)) × (p ≡ 255)))
     × ((numberOf (call t (change i p) .answer) ≡ 14) ↔ ((readOf i ≡ Word (wordOf i)) × (p ≡ 255)))
@@ -156,7 +164,7 @@ live-not-255 t o ps v p l e = ltb-true p deskPlan (Table.plan-given t o ps v p l
 
 -- so no live identifier gets 255 from the plane that is written
 pub plane-not-255 : (t : List ℕ) → Opened t → (ps : List Request) (out : List ℕ) (n : ℕ) → writeCall (after tables t ps) out .answer ≡ Accepted n
-    → (id : List ℕ) (w p : ℕ) → readOf id ≡ Word w → told w (acceptedCalls t ps) ≡ some p → lookupCall id (take n (writeCall (after tables t ps) out .output)) ≡ Accepted 255 → ⊥
+    → (id : Token) (w p : ℕ) → readOf id ≡ Word w → told w (acceptedCalls t ps) ≡ some p → lookupCall id (take n (writeCall (after tables t ps) out .output)) ≡ Accepted 255 → ⊥
 plane-not-255 = Plane.plane-live-given
 
 -- the same of any sound table, also one handed in from elsewhere; so the total of 255, which may be asked, is 0
@@ -164,10 +172,50 @@ pub sound-not-255 : (t : List ℕ) → shaped t ≡ true → FlatSound t → ((w
 sound-not-255 t k h = (λ w p e. ltb-true p deskPlan (Table.live-given t k h w p e), Table.desk-total t k h)
 
 -- "for a word due to the base list and absent" the lookup in any plane that is right answers 255
-pub stranger-255 : (id p : List ℕ) (w : ℕ) → wrongAt format1 p ≡ Nowhere → readOf id ≡ Word w
+pub stranger-255 : (id : Token) (p : List ℕ) (w : ℕ) → wrongAt format1 p ≡ Nowhere → readOf id ≡ Word w
     → holds (planeFrom format1 p .level1) w ≡ false → holds (planeFrom format1 p .level2) (secondOf w) ≡ false → find (secondOf w) (planeFrom format1 p .base) ≡ none
     → lookupCall id p ≡ Accepted 255
 stranger-255 = stranger-answer
+
+-- ---- kinds, document 02, order 4: an identifier is read by its kind, its stated length and the bytes of that length (`Token`, `readOf`); a call is
+-- handed the bytes alone, and their length (`token`)
+
+-- "15: kind not 1 to 7, before cause 1", then 1 and 2: each exactly if it is the first met; else the word
+pub reading-causes : (i : Token) → Exactly (idCauses i) (λ v. v ≡ wordOf i) (wordAnswer (readOf i))
+reading-causes = read-exactly
+
+-- every call gives these numbers exactly as the reading of its identifier does, whatever the table
+pub call-as-read : (t : List ℕ) (c : Call Token) (n v : ℕ) → OfIdentifier n
+    → ((numberOf (call t c .answer) ≡ n) × (valueOf (call t c .answer) ≡ v)) ↔ ((numberOf (wordAnswer (readOf (subject c))) ≡ n) × (valueOf (wordAnswer (readOf (subject c))) ≡ v))
+call-as-read = Table.as-read
+
+-- and so does the lookup, whatever the plane
+pub lookup-as-read : (id : Token) (p : List ℕ) (n v : ℕ) → OfIdentifier n
+    → ((numberOf (lookupCall id p) ≡ n) × (valueOf (lookupCall id p) ≡ v)) ↔ ((numberOf (wordAnswer (readOf id)) ≡ n) × (valueOf (wordAnswer (readOf id)) ≡ v))
+lookup-as-read = PlaneCauses.as-read
+
+-- so 15 is given exactly if the kind is 0 or over 7
+pub kind-15 : (i : Token) → (numberOf (wordAnswer (readOf i)) ≡ 15) ↔ ((i .kind ≡ 0) ⊎ (7 < i .kind))
+kind-15 i =
+    let e = number-exactly [] (wrongKind i) (wrongLength i ∷ wrongByte i ∷ []) (λ v. v ≡ wordOf i) (wordAnswer (readOf i)) (test-apart (idCauses i) refl) (read-exactly i) in
+    (λ n. e (valueOf (wordAnswer (readOf i))) .0 (n, refl) .1 .0, λ m. e 0 .1 (tt, (m, refl)) .0)
+
+-- case makes no difference within a kind
+pub case-alike : (i j : Token) → i .kind ≡ j .kind → i .stated ≡ j .stated → onlyCase (idBytes i) (idBytes j) ≡ true → readOf i ≡ readOf j
+case-alike = read-case
+
+-- what follows the bytes of the stated length is not read
+pub rest-unread : (i j : Token) → i .kind ≡ j .kind → i .stated ≡ j .stated → idBytes i ≡ idBytes j → readOf i ≡ readOf j
+rest-unread = Words.rest-unread
+
+module _ (i j : Token) (v w : ℕ) (read-i : readOf i ≡ Word v) (read-j : readOf j ≡ Word w) (letters : onlyCase (idBytes i) (idBytes j) ≡ true) (kinds : i .kind ≡ j .kind → ⊥) where
+  -- "A card and a key code with the same letters are different people": they have two words
+  pub two-words : v ≡ w → ⊥
+  two-words = kinds-differ i j v w read-i read-j letters kinds
+
+  -- and a call for the one may be left out of what the accepted calls tell of the other, so of what table, plane and post give it
+  pub two-plans : (c : Call ℕ) → subject c ≡ v → (before later : List (Call ℕ)) → told w (before ++ (c ∷ later)) ≡ told w (before ++ later)
+  two-plans c s before later = told-other w c later (λ e. two-words (sym s ∙ sym e)) before
 
 -- ---- patches, document 02, order 1: a post that has the plane after the calls ps and applies the patch to the plane after the calls qs, of the same
 -- opening (qs may begin with ps), has that plane and answers by it
@@ -179,7 +227,7 @@ module _ (t : List ℕ) (o : Opened t) (ps qs : List Request) (out : List ℕ) (
 
   -- every live identifier then gives its word's last accepted plan from the post's plane
   pub plan-from-post : (m : ℕ) → applyCall (planeAfter t ps) (take n (makeCall (planeAfter t ps) (planeAfter t qs) out .output)) into .answer ≡ Accepted m
-      → (id : List ℕ) (w p : ℕ) → readOf id ≡ Word w → told w (acceptedCalls t qs) ≡ some p
+      → (id : Token) (w p : ℕ) → readOf id ≡ Word w → told w (acceptedCalls t qs) ≡ some p
       → lookupCall id (take m (applyCall (planeAfter t ps) (take n (makeCall (planeAfter t ps) (planeAfter t qs) out .output)) into .output)) ≡ Accepted p
   plan-from-post m e id w p i h = ap (lookupCall id) (list-new t o ps qs out n made into m e) ∙ plane-tells t o qs id w p i h
 

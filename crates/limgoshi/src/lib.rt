@@ -4,6 +4,7 @@
 // Cites answer, table_open, table_calls, table_add, plane, plane_write, patch_make and patch_apply. Programs in other languages call it.
 ghost use mathlib.Core.Path.{_≡_};
 ghost use Rattle.answer.specs.Numbers.{numberOf, valueOf};
+ghost use Rattle.identifier.specs.Identifier.{token};
 ghost use Rattle.model.specs.Model.{add, change, withdraw, query};
 ghost use Rattle.table.specs.Calls.{openCall, call, totalCall};
 ghost use Rattle.plane.specs.Lookup.{lookupCall};
@@ -22,40 +23,46 @@ pub extern "C" fn limgoshi_open(t: &mut [u64], b1: u64, b2: u64, value: &mut u64
 
 // Adds an identifier with its plan.
 #[no_mangle]
-pub extern "C" fn limgoshi_add(t: &mut [u64], id: &[u8], plan: u8, value: &mut u64) -> u64
-    ensures { λ r. ⌜ (r ≡ numberOf (call (now (t .entry)) (add (now (id .entry)) plan) .answer)) × (now (value .exit) ≡ valueOf (call (now (t .entry)) (add (now (id .entry)) plan) .answer)) × (now (t .exit) ≡ call (now (t .entry)) (add (now (id .entry)) plan) .table) × (now (id .exit) ≡ now (id .entry)) ⌝ }
+pub extern "C" fn limgoshi_add(t: &mut [u64], kind: u8, id: &[u8], plan: u8, value: &mut u64) -> u64
+    ensures { λ r. ⌜ (r ≡ numberOf (call (now (t .entry)) (add (token kind (now (id .entry))) plan) .answer)) × (now (value .exit) ≡ valueOf (call (now (t .entry)) (add (token kind (now (id .entry))) plan) .answer)) × (now (t .exit) ≡ call (now (t .entry)) (add (token kind (now (id .entry))) plan) .table) × (now (id .exit) ≡ now (id .entry)) ⌝ }
 {
-    let added = table_add::add(t, id, plan);
+    let added = table_add::add(t, kind, id, plan);
     *value = answer::value(added);
     answer::number(added)
 }
 
 // The plan of a live identifier.
 #[no_mangle]
-pub extern "C" fn limgoshi_query(t: &[u64], id: &[u8], value: &mut u64) -> u64
-    ensures { λ r. ⌜ (r ≡ numberOf (call (now (t .entry)) (query (now (id .entry))) .answer)) × (now (value .exit) ≡ valueOf (call (now (t .entry)) (query (now (id .entry))) .answer)) × (now (t .exit) ≡ call (now (t .entry)) (query (now (id .entry))) .table) × (now (id .exit) ≡ now (id .entry)) ⌝ }
+pub extern "C" fn limgoshi_query(t: &[u64], kind: u8, id: &[u8], value: &mut u64) -> u64
+    ensures { λ r. ⌜ (r ≡ numberOf (call (now (t .entry)) (query (token kind (now (id .entry)))) .answer)) × (now (value .exit) ≡ valueOf (call (now (t .entry)) (query (token kind (now (id .entry)))) .answer)) × (now (t .exit) ≡ call (now (t .entry)) (query (token kind (now (id .entry)))) .table) × (now (id .exit) ≡ now (id .entry)) ⌝ }
 {
-    let found = table_calls::query(t, id);
+    let found = table_calls::query(t, kind, id);
     *value = answer::value(found);
     answer::number(found)
 }
 
 // Changes the plan of a live identifier.
 #[no_mangle]
-pub extern "C" fn limgoshi_change(t: &mut [u64], id: &[u8], plan: u8, value: &mut u64) -> u64
-    ensures { λ r. ⌜ (r ≡ numberOf (call (now (t .entry)) (change (now (id .entry)) plan) .answer)) × (now (value .exit) ≡ valueOf (call (now (t .entry)) (change (now (id .entry)) plan) .answer)) × (now (t .exit) ≡ call (now (t .entry)) (change (now (id .entry)) plan) .table) × (now (id .exit) ≡ now (id .entry)) ⌝ }
+pub extern "C" fn limgoshi_change(
+    t: &mut [u64],
+    kind: u8,
+    id: &[u8],
+    plan: u8,
+    value: &mut u64,
+) -> u64
+    ensures { λ r. ⌜ (r ≡ numberOf (call (now (t .entry)) (change (token kind (now (id .entry))) plan) .answer)) × (now (value .exit) ≡ valueOf (call (now (t .entry)) (change (token kind (now (id .entry))) plan) .answer)) × (now (t .exit) ≡ call (now (t .entry)) (change (token kind (now (id .entry))) plan) .table) × (now (id .exit) ≡ now (id .entry)) ⌝ }
 {
-    let changed = table_calls::change(t, id, plan);
+    let changed = table_calls::change(t, kind, id, plan);
     *value = answer::value(changed);
     answer::number(changed)
 }
 
 // Withdraws a live identifier.
 #[no_mangle]
-pub extern "C" fn limgoshi_withdraw(t: &mut [u64], id: &[u8], value: &mut u64) -> u64
-    ensures { λ r. ⌜ (r ≡ numberOf (call (now (t .entry)) (withdraw (now (id .entry))) .answer)) × (now (value .exit) ≡ valueOf (call (now (t .entry)) (withdraw (now (id .entry))) .answer)) × (now (t .exit) ≡ call (now (t .entry)) (withdraw (now (id .entry))) .table) × (now (id .exit) ≡ now (id .entry)) ⌝ }
+pub extern "C" fn limgoshi_withdraw(t: &mut [u64], kind: u8, id: &[u8], value: &mut u64) -> u64
+    ensures { λ r. ⌜ (r ≡ numberOf (call (now (t .entry)) (withdraw (token kind (now (id .entry)))) .answer)) × (now (value .exit) ≡ valueOf (call (now (t .entry)) (withdraw (token kind (now (id .entry)))) .answer)) × (now (t .exit) ≡ call (now (t .entry)) (withdraw (token kind (now (id .entry)))) .table) × (now (id .exit) ≡ now (id .entry)) ⌝ }
 {
-    let withdrawn = table_calls::withdraw(t, id);
+    let withdrawn = table_calls::withdraw(t, kind, id);
     *value = answer::value(withdrawn);
     answer::number(withdrawn)
 }
@@ -82,10 +89,10 @@ pub extern "C" fn limgoshi_write_plane(t: &[u64], out: &mut [u8], value: &mut u6
 
 // The plan that a plane gives an identifier.
 #[no_mangle]
-pub extern "C" fn limgoshi_plane_lookup(id: &[u8], plane: &[u8], value: &mut u64) -> u64
-    ensures { λ r. ⌜ (r ≡ numberOf (lookupCall (now (id .entry)) (now (plane .entry)))) × (now (value .exit) ≡ valueOf (lookupCall (now (id .entry)) (now (plane .entry)))) × (now (id .exit) ≡ now (id .entry)) × (now (plane .exit) ≡ now (plane .entry)) ⌝ }
+pub extern "C" fn limgoshi_plane_lookup(kind: u8, id: &[u8], plane: &[u8], value: &mut u64) -> u64
+    ensures { λ r. ⌜ (r ≡ numberOf (lookupCall (token kind (now (id .entry))) (now (plane .entry)))) × (now (value .exit) ≡ valueOf (lookupCall (token kind (now (id .entry))) (now (plane .entry)))) × (now (id .exit) ≡ now (id .entry)) × (now (plane .exit) ≡ now (plane .entry)) ⌝ }
 {
-    let looked_up = plane::lookup(id, plane);
+    let looked_up = plane::lookup(kind, id, plane);
     *value = answer::value(looked_up);
     answer::number(looked_up)
 }

@@ -10,6 +10,7 @@ use lib.ListN.{length, replicate, length-replicate}
 use borrow.Author.Tests.{eq-eqb}
 use Rattle.lists.proofs.Tests.{cases}
 use Rattle.answer.specs.declared.Answer.the-variants.{Accepted, WrongBuckets}
+use Rattle.identifier.specs.Identifier.{Token}
 use Rattle.model.specs.Model.{State, Call}
 use Rattle.model.specs.Request as R
 use Rattle.model.specs.Machine.{accepted}
@@ -51,7 +52,7 @@ BothStand (some t) (some s) = FlatStands t s
 abbrev pub SameTurn : Turn (List ℕ) → Turn State → Type 0
 SameTurn x y = (x .output ≡ y .output) × BothStand (x .state) (y .state)
 
-ask-same : (m : Option (List ℕ)) (k : Option State) → BothStand m k → (c : Call R.Token) → SameTurn (obey tables m (ask c)) (obey states k (ask c))
+ask-same : (m : Option (List ℕ)) (k : Option State) → BothStand m k → (c : Call Token) → SameTurn (obey tables m (ask c)) (obey states k (ask c))
 ask-same none none h c = (refl, tt)
 ask-same none (some s) h c = absurd h
 ask-same (some t) none h c = absurd h

@@ -2,13 +2,13 @@
 -- Assumes nothing.
 use mathlib.Core.Path.{_≡_, refl, sym, ap, _∙_}
 use mathlib.Core.Bool.{true}
-use mathlib.Core.List.{List, []}
+use mathlib.Core.List.{List}
 use Prim.Native.Nat.{ℕ}
 use Rattle.answer.specs.declared.Answer.{Answer}
-use Rattle.identifier.specs.Identifier.{readOf}
+use Rattle.identifier.specs.Identifier.{Token, readOf}
 use Rattle.identifier.specs.declared.Read.{Read}
 use Rattle.identifier.specs.declared.Read.the-variants.{Word, Refused}
-use Rattle.model.specs.Request.{planAllowed, withPlan, askOf, wordFor}
+use Rattle.model.specs.Request.{withPlan, askOf, wordFor}
 use Rattle.table.specs.Calls.{turnedDown, served, call}
 use Rattle.table.specs.History.{flatState}
 use Rattle.table.proofs.Statements.{stands-sound, sound-stands}
@@ -17,29 +17,30 @@ use Rattle.table_calls.proofs.Calls.{call-word, call-refused, allowed, admits}
 use Rattle.lines_text.specs.declared.Verb.{Verb}
 use Rattle.lines_text.specs.declared.Verb.the-variants.{Add, Set, Del, Get}
 use Rattle.lines_text.specs.Parsed.{callOf}
+use Rattle.lines_run.specs.Buffer.{verbAllowed}
 
 -- neither cause 4 nor cause 5 is met
 admits-all : (t : List ℕ) → Ready t → (x : Read) → x ≡ admitted t x
 admits-all t h (Refused a) = refl
 admits-all t h (Word w) = sym (admits t w (h .shape) (stands-sound t (flatState t) (sound-stands t (h .shape) (h .sound)) .1))
 
--- what the call is for, and the call without its identifier
-named : (v : Verb) (i : List ℕ) (p : ℕ) → (withPlan (planAllowed (callOf v [] p)) (readOf i) ≡ wordFor (callOf v i p)) × (askOf [] (callOf v i p) ≡ callOf v [] p)
-named Add i p = (refl, refl)
-named Set i p = (refl, refl)
-named Del i p = (refl, refl)
-named Get i p = (refl, refl)
+-- what the call is for, and the call by its word
+named : (v : Verb) (i : Token) (p w : ℕ) → (withPlan (verbAllowed v p) (readOf i) ≡ wordFor (callOf v i p)) × (askOf w (callOf v i p) ≡ callOf v w p)
+named Add i p w = (refl, refl)
+named Set i p w = (refl, refl)
+named Del i p w = (refl, refl)
+named Get i p w = (refl, refl)
 
-module _ (t : List ℕ) (h : Ready t) (v : Verb) (i : List ℕ) (p : ℕ) (x : Read) (e : x ≡ withPlan (planAllowed (callOf v [] p)) (readOf i)) where
+module _ (t : List ℕ) (h : Ready t) (v : Verb) (i : Token) (p : ℕ) (x : Read) (e : x ≡ withPlan (verbAllowed v p) (readOf i)) where
   read : x ≡ admitted t (wordFor (callOf v i p))
-  read = e ∙ named v i p .0 ∙ admits-all t h (wordFor (callOf v i p))
+  read = e ∙ named v i p 0 .0 ∙ admits-all t h (wordFor (callOf v i p))
 
-  pub asked-word : (w : ℕ) → x ≡ Word w → call t (callOf v i p) ≡ served t w (callOf v [] p)
-  asked-word w q = call-word t (callOf v i p) x read w q ∙ ap (served t w) (named v i p .1)
+  pub asked-word : (w : ℕ) → x ≡ Word w → call t (callOf v i p) ≡ served t (callOf v w p)
+  asked-word w q = call-word t (callOf v i p) x read w q ∙ ap (served t) (named v i p w .1)
 
   pub asked-refused : (a : Answer) → x ≡ Refused a → call t (callOf v i p) ≡ turnedDown a t
   asked-refused = call-refused t (callOf v i p) x read
 
   -- and a word is only taken where the plan may be given
-  pub asked-allowed : (w : ℕ) → x ≡ Word w → planAllowed (callOf v [] p) ≡ true
-  asked-allowed w q = allowed t x (planAllowed (callOf v [] p)) (readOf i) w (e ∙ admits-all t h (withPlan (planAllowed (callOf v [] p)) (readOf i))) q
+  pub asked-allowed : (w : ℕ) → x ≡ Word w → verbAllowed v p ≡ true
+  asked-allowed w q = allowed t x (verbAllowed v p) (readOf i) w (e ∙ admits-all t h (withPlan (verbAllowed v p) (readOf i))) q

@@ -11,8 +11,8 @@ use lib.Seq.{length-take-le}
 use Rattle.codec.specs.Parts.{written}
 use Rattle.answer.specs.declared.Answer.{Answer}
 use Rattle.answer.specs.declared.Answer.the-variants.{WrongBuckets}
+use Rattle.identifier.specs.Identifier.{Token}
 use Rattle.model.specs.Model.{Call}
-use Rattle.model.specs.Request.{Token}
 use Rattle.table.specs.Layout.{inRange, lengthOf, longest}
 use Rattle.table.specs.Calls.{rows, solutions, Outcome, openCall, call}
 use Rattle.lines_text.specs.Line.{opening, ask}

@@ -2,13 +2,16 @@
 -- Assumes nothing.
 use Prim.Native.Nat.{ℕ, _+_, _≤_}
 use mathlib.Core.Path.{_≡_}
-use mathlib.Core.Bool.{cond}
+use mathlib.Core.Bool.{Bool, cond}
 use mathlib.Core.List.{List}
 use mathlib.Core.Option.{Option, none, some}
 use lib.Dec.{eqb}
 use lib.ListN.{length, take}
 use Rattle.codec.specs.Parts.{written}
+use Rattle.model.specs.Request.{planAllowed}
 use Rattle.table_calls.specs.Ready.{Ready}
+use Rattle.lines_text.specs.declared.Verb.{Verb}
+use Rattle.lines_text.specs.Parsed.{callOf}
 use Rattle.lines_run.specs.declared.Progress.{Progress}
 use Rattle.lines_run.specs.Run.{Turn}
 
@@ -25,6 +28,10 @@ AllReady (some t) = Ready t
 pub record Holds (n : ℕ) (t : List ℕ) : Type 0 where
   pub fits : n ≤ length t
   pub ready : AllReady (heldIn n t)
+
+-- the plan that a call of this verb gives, if it gives one, may be given; the word plays no part
+abbrev pub verbAllowed : Verb → ℕ → Bool
+verbAllowed v p = planAllowed {I = ℕ} (callOf v 0 p)
 
 -- the turn w is done: its output stands in the bytes o from index at on, as far as they reach, and its state in the buffer
 pub record Did (w : Turn (List ℕ)) (at : ℕ) (o : List ℕ) (p : Progress) (t' o' : List ℕ) : Type 0 where

@@ -8,9 +8,10 @@ use lib.Dec.{leb}
 use lib.ListN.{length, take, replicate}
 use Rattle.answer.specs.declared.Answer.{Answer}
 use Rattle.answer.specs.declared.Answer.the-variants.{Accepted, WrongBuckets}
+use Rattle.identifier.specs.Identifier.{Token}
 use Rattle.model.specs.Model as M
 use Rattle.model.specs.Model.{State, Call}
-use Rattle.model.specs.Request.{Token, serve}
+use Rattle.model.specs.Request.{serve}
 use Rattle.model.specs.Machine.{Machine, accepted}
 use Rattle.table.specs.Layout.{inRange, lengthOf}
 use Rattle.table.specs.Calls.{rows, solutions, openCall, call}

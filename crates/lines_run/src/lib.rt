@@ -2,7 +2,8 @@
 // the other.
 // Definitions: specs/Run.antt (what is printed for an input: the calls of the crate table folded over the lines); specs/Buffer.antt has what is
 // open, in the code's buffer, and what the code does at a line.
-// Laws: proofs/Agree.antt (the model would print the same; the table is sound at each line), proofs/Session.antt (document 01's session).
+// Laws: proofs/Agree.antt (the model would print the same; the table is sound at each line), proofs/Session.antt (document 01's
+// session; lines with plan 255; lines with each form of a kind).
 // Cites lines_text (a line and what is printed for it), codec, answer, identifier, table_layout, table_open, table_calls and table_add. lines is the program over
 // it, and run_probe has an entry to it.
 use answer::Answer;
@@ -13,17 +14,16 @@ use table_layout::Table;
 ghost use mathlib.Core.Path.{_≡_};
 ghost use Prim.Native.Nat.{_*_, _^_, _≤_, _<_};
 ghost use mathlib.Core.Bool.{true};
-ghost use mathlib.Core.List.{[]};
 ghost use mathlib.Core.Option.{none};
 ghost use lib.ListN.{length};
-ghost use Rattle.model.specs.Request.{planAllowed};
+ghost use Rattle.identifier.specs.Identifier.{token};
 ghost use Rattle.table.specs.Calls.{served, call};
 ghost use Rattle.table_calls.specs.Ready.{Ready};
 ghost use Rattle.lines_text.specs.Line.{lf, parted, opening, ask};
 ghost use Rattle.lines_text.specs.Parsed.{callOf, meant, Within};
 ghost use Rattle.lines_text.specs.Printed.{mostPrinted};
 ghost use Rattle.lines_run.specs.Run.{inputLimit, counted, obey, turn, outputFrom, tables, output};
-ghost use Rattle.lines_run.specs.Buffer.{heldIn, Holds, Did, Printed};
+ghost use Rattle.lines_run.specs.Buffer.{heldIn, Holds, verbAllowed, Did, Printed};
 
 // The first bytes of an input that count.
 pub const INPUT_LIMIT: usize = 65536;
@@ -34,9 +34,9 @@ pub(crate) const LINE_LIMIT: usize = 64;
 // The longest output: the longest line that is printed for each byte of an input.
 pub const MOST_OUTPUT: usize = lines_text::MOST_PRINTED * INPUT_LIMIT;
 
-// The plan that a call gives, if it gives one, may be given.
+// The plan that a call of this verb gives, if it gives one, may be given.
 pub(crate) fn plan_allowed(verb: Verb, plan: u64) -> bool
-    ensures { λ r. ⌜ r ≡ planAllowed (callOf verb [] plan) ⌝ }
+    ensures { λ r. ⌜ r ≡ verbAllowed verb plan ⌝ }
 {
     match verb {
         Verb::Add => table_layout::assignable(plan),
@@ -48,8 +48,8 @@ pub(crate) fn plan_allowed(verb: Verb, plan: u64) -> bool
 
 // A call put to a sound table by its word.
 pub(crate) fn serve(t: &mut [u64], w: u64, verb: Verb, plan: u64) -> Answer
-    requires { ⌜ Ready (now t) × (planAllowed (callOf verb [] plan) ≡ true) ⌝ }
-    ensures { λ r. ⌜ (r ≡ served (now (t .entry)) w (callOf verb [] plan) .answer) × (now (t .exit) ≡ served (now (t .entry)) w (callOf verb [] plan) .table) ⌝ }
+    requires { ⌜ Ready (now t) × (verbAllowed verb plan ≡ true) ⌝ }
+    ensures { λ r. ⌜ (r ≡ served (now (t .entry)) (callOf verb w plan) .answer) × (now (t .exit) ≡ served (now (t .entry)) (callOf verb w plan) .table) ⌝ }
 {
     match verb {
         Verb::Add => table_add::add_word(t, w, plan),
@@ -60,11 +60,11 @@ pub(crate) fn serve(t: &mut [u64], w: u64, verb: Verb, plan: u64) -> Answer
 }
 
 // A call put to a sound table.
-pub(crate) fn ask(t: &mut [u64], id: &[u8], verb: Verb, plan: u64) -> Answer
+pub(crate) fn ask(t: &mut [u64], kind: u8, id: &[u8], verb: Verb, plan: u64) -> Answer
     requires { ⌜ Ready (now t) ⌝ }
-    ensures { λ r. ⌜ (r ≡ call (now (t .entry)) (callOf verb (now (id .entry)) plan) .answer) × (now (t .exit) ≡ call (now (t .entry)) (callOf verb (now (id .entry)) plan) .table) ⌝ }
+    ensures { λ r. ⌜ (r ≡ call (now (t .entry)) (callOf verb (token kind (now (id .entry))) plan) .answer) × (now (t .exit) ≡ call (now (t .entry)) (callOf verb (token kind (now (id .entry))) plan) .table) ⌝ }
 {
-    let word = table_calls::word_for(id, plan_allowed(verb, plan));
+    let word = table_calls::word_for(kind, id, plan_allowed(verb, plan));
     match word {
         Read::Word(w) => serve(t, w, verb, plan),
         Read::Refused(a) => a,
@@ -107,6 +107,7 @@ pub(crate) fn open_line(
 pub(crate) fn ask_line(
     t: &mut [u64],
     held: usize,
+    kind: u8,
     id: &[u8],
     verb: Verb,
     plan: u64,
@@ -114,7 +115,7 @@ pub(crate) fn ask_line(
     at: usize,
 ) -> Progress
     requires { ⌜ Holds held (now t) × (at < 2 ^ 31) ⌝ }
-    ensures { λ r. ⌜ Did (obey tables (heldIn held (now (t .entry))) (ask (callOf verb (now (id .entry)) plan))) at (now (out .entry)) r (now (t .exit)) (now (out .exit)) ⌝ }
+    ensures { λ r. ⌜ Did (obey tables (heldIn held (now (t .entry))) (ask (callOf verb (token kind (now (id .entry))) plan))) at (now (out .entry)) r (now (t .exit)) (now (out .exit)) ⌝ }
 {
     if held == 0 {
         return Progress {
@@ -122,7 +123,7 @@ pub(crate) fn ask_line(
             printed: lines_text::put_bad(out, at),
         };
     }
-    let a = ask(&mut t[..held], id, verb, plan);
+    let a = ask(&mut t[..held], kind, id, verb, plan);
     Progress {
         held,
         printed: lines_text::put_answer(out, at, a),
@@ -145,10 +146,11 @@ pub(crate) fn obey(
         Parsed::Open(b1, b2) => open_line(t, held, b1, b2, out, at),
         Parsed::Ask {
             verb,
+            kind,
             start,
             end,
             plan,
-        } => ask_line(t, held, &s[start..end], verb, plan, out, at),
+        } => ask_line(t, held, kind as u8, &s[start..end], verb, plan, out, at),
         Parsed::Bad => Progress {
             held,
             printed: lines_text::put_bad(out, at),

@@ -1,5 +1,5 @@
 -- A field is read as the number n exactly if n is not above the limit and the field is the decimal of n; for every limit that has no
--- more digits than are printed. Then the fields of document 01: B1 and B2, PLAN.
+-- more digits than are printed. Then the fields of a line: B1 and B2, KIND, PLAN.
 -- Assumes nothing.
 use mathlib.Core.Path.{_≡_, refl, sym, _∙_, subst}
 use mathlib.Core.Bool.{Bool, true, false, cond, _&&_}
@@ -12,7 +12,7 @@ use borrow.Author.Tests.{le-leb, ne-eqb, eqb-true, eqb-false, leb-true, ltb-true
 use Rattle.lists.proofs.Tests.{cases}
 use Rattle.lines_text.specs.declared.Number.the-variants.{Of, Wrong}
 use Rattle.lines_text.specs.Decimal.{digitOf, grown, readOn, onlyZero, numberTo, digitsThen, mostDigits, decimal}
-use Rattle.lines_text.specs.Line.{mostBuckets, mostPlan}
+use Rattle.lines_text.specs.Line.{mostBuckets, mostKind, mostPlan}
 use Rattle.lines_text.specs.Parsed.{AtMost}
 use Rattle.lines_text.proofs.Decimal.{digits-more, digits-last, number-most}
 
@@ -133,3 +133,10 @@ buckets-exactly = number-exactly mostBuckets (omega arith)
 -- PLAN
 pub plan-exactly : Exactly mostPlan
 plan-exactly = number-exactly mostPlan (omega arith)
+
+-- KIND, "a digit field": one digit, and nothing else
+pub digit-field : (k : ℕ) (s : List ℕ) → (numberTo mostKind s ≡ Of k → (k ≤ mostKind) × (s ≡ digitOf k ∷ [])) × ((k ≤ mostKind) × (s ≡ digitOf k ∷ []) → numberTo mostKind s ≡ Of k)
+digit-field k s =
+    let (there, back) = number-exactly mostKind (omega arith) k s in
+    let one : k ≤ mostKind → decimal k ≡ digitOf k ∷ [] = λ h. digits-last (mostDigits - 1) k [] (omega arith) in
+    (λ e. let (h, f) = there e in (h, f ∙ one h), λ e. back (e .0, e .1 ∙ sym (one (e .0))))

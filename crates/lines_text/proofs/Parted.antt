@@ -1,6 +1,6 @@
 -- The first place of a byte, looked for from index i on; the parts between such bytes, and the fields of a line.
 -- Assumes nothing.
-use mathlib.Core.Path.{_≡_, refl, ap, _∙_}
+use mathlib.Core.Path.{_≡_, refl, _∙_}
 use mathlib.Core.List.{List, [], _∷_}
 use Prim.Native.Nat.{ℕ, suc, _+_, _-_, _≤_, _<_}
 use native.Mathlib.Nat.{zero-add, le-of-suc-le-suc, not-suc-le-zero}
@@ -11,7 +11,7 @@ use lib.ListN.{length, getD, take, drop, drop-of-length-le, length-drop}
 use lib.Seq.{drop-cons, drop-drop}
 use borrow.Author.Tests.{eq-eqb, ne-eqb, leb-true, leb-false}
 use Rattle.lists.proofs.Tests.{cases}
-use Rattle.lines_text.specs.Line.{space, placeOf, parted, bad, ofTwo, ofThree, ofFields, commandOf}
+use Rattle.lines_text.specs.Line.{space, placeOf, parted, bad, ofThree, ofFour, ofFields, commandOf}
 use Rattle.lines_text.specs.Parsed.{between}
 
 -- ---- the first place
@@ -70,30 +70,36 @@ module _ (b : ℕ) where
 -- ---- the fields of a line
 
 -- too many
-fields-over : (w x y : List ℕ) (fs : List (List ℕ)) → (fs ≡ [] → ⊥) → ofFields (w ∷ x ∷ y ∷ fs) ≡ bad
-fields-over w x y [] h = absurd (h refl)
-fields-over w x y (f ∷ fs) h = refl
+fields-over : (w x y z : List ℕ) (fs : List (List ℕ)) → (fs ≡ [] → ⊥) → ofFields (w ∷ x ∷ y ∷ z ∷ fs) ≡ bad
+fields-over w x y z [] h = absurd (h refl)
+fields-over w x y z (f ∷ fs) h = refl
 
 module _ (s : List ℕ) (a : ℕ) (e : a ≡ 0 + placeOf space (drop 0 s)) where
-  command-first : a < length s → parted space s ≡ take a s ∷ parted space (drop (a + 1) s)
-  command-first h = parted-at space s a (e ∙ zero-add (placeOf space s)) h
-
   pub command-one : length s ≤ a → commandOf s ≡ bad
-  command-one h = ap ofFields (parted-last space s 0 a (omega arith) e h)
+  command-one l = rw (parted-last space s 0 a (omega arith) e l)
 
   module _ (h : a < length s) (b : ℕ) (f : b ≡ (a + 1) + placeOf space (drop (a + 1) s)) where
-    pub command-two : length s ≤ b → commandOf s ≡ ofTwo (take a s) (drop (a + 1) s)
-    command-two l = ap ofFields (command-first h ∙ ap (λ (ps : List (List ℕ)). take a s ∷ ps) (parted-last space s (a + 1) b (omega arith) f l))
+    after-first : parted space s ≡ take a s ∷ parted space (drop (a + 1) s)
+    after-first = parted-at space s a (e ∙ zero-add (placeOf space s)) h
+
+    pub command-two : length s ≤ b → commandOf s ≡ bad
+    command-two l = rw (after-first, parted-last space s (a + 1) b (omega arith) f l)
 
     module _ (k : b < length s) (c : ℕ) (g : c ≡ (b + 1) + placeOf space (drop (b + 1) s)) where
-      command-parts : parted space s ≡ take a s ∷ between (a + 1) b s ∷ parted space (drop (b + 1) s)
-      command-parts = command-first h ∙ ap (λ (ps : List (List ℕ)). take a s ∷ ps) (parted-from space s (a + 1) b f k)
+      after-second : parted space s ≡ take a s ∷ between (a + 1) b s ∷ parted space (drop (b + 1) s)
+      after-second = after-first ∙ rw (parted-from space s (a + 1) b f k)
 
       pub command-three : length s ≤ c → commandOf s ≡ ofThree (take a s) (between (a + 1) b s) (drop (b + 1) s)
-      command-three l =
-          ap ofFields (command-parts ∙ ap (λ (ps : List (List ℕ)). take a s ∷ between (a + 1) b s ∷ ps) (parted-last space s (b + 1) c (omega arith) g l))
+      command-three l = rw (after-second, parted-last space s (b + 1) c (omega arith) g l)
 
-      pub command-over : c < length s → commandOf s ≡ bad
-      command-over l =
-          ap ofFields (command-parts ∙ ap (λ (ps : List (List ℕ)). take a s ∷ between (a + 1) b s ∷ ps) (parted-from space s (b + 1) c g l))
-          ∙ fields-over (take a s) (between (a + 1) b s) (between (b + 1) c s) (parted space (drop (c + 1) s)) (parted-some space (drop (c + 1) s))
+      module _ (m : c < length s) (d : ℕ) (i : d ≡ (c + 1) + placeOf space (drop (c + 1) s)) where
+        after-third : parted space s ≡ take a s ∷ between (a + 1) b s ∷ between (b + 1) c s ∷ parted space (drop (c + 1) s)
+        after-third = after-second ∙ rw (parted-from space s (b + 1) c g m)
+
+        pub command-four : length s ≤ d → commandOf s ≡ ofFour (take a s) (between (a + 1) b s) (between (b + 1) c s) (drop (c + 1) s)
+        command-four l = rw (after-third, parted-last space s (c + 1) d (omega arith) i l)
+
+        pub command-over : d < length s → commandOf s ≡ bad
+        command-over l =
+            rw (after-third, parted-from space s (c + 1) d i l)
+            (fields-over (take a s) (between (a + 1) b s) (between (b + 1) c s) (between (c + 1) d s) (parted space (drop (d + 1) s)) (parted-some space (drop (d + 1) s)))

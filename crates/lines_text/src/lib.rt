@@ -1,9 +1,9 @@
 // The line program's text: decimal numbers, the fields of a line, answers printed.
 // Definitions: specs/Decimal.antt, specs/Line.antt (what a line asks for), specs/Printed.antt (what is printed for one line);
 // specs/Parsed.antt has the forms that the code gives a line.
-// Laws: proofs/Exact.antt (a field is read as a number exactly if it is its decimal, not above the limit), proofs/Parted.antt (the parts
-// between single bytes), proofs/Printed.antt (the longest line that is printed).
-// Cites lists, codec, answer and model (the calls that a line asks for). lines_run and run_probe cite it.
+// Laws: proofs/Exact.antt (a field is read as a number exactly if it is its decimal, not above the limit; KIND exactly if it is one digit),
+// proofs/Parted.antt (the parts between single bytes), proofs/Printed.antt (the longest line that is printed).
+// Cites lists, codec, answer, identifier (an identifier as it is handed in) and model (the calls that a line asks for). lines_run and run_probe cite it.
 use answer::Answer;
 ghost use mathlib.Core.Path.{_≡_};
 ghost use Prim.Native.Nat.{_+_, _^_, _≤_, _<_};
@@ -11,7 +11,7 @@ ghost use mathlib.Core.List.{_∷_, [], _++_};
 ghost use lib.ListN.{length, take, drop};
 ghost use Rattle.codec.specs.Parts.{written};
 ghost use Rattle.lines_text.specs.Decimal.{grown, numberTo, digitOf, decimal};
-ghost use Rattle.lines_text.specs.Line.{lf, mostBuckets, placeOf, ofTwo, ofThree, commandOf};
+ghost use Rattle.lines_text.specs.Line.{lf, mostBuckets, placeOf, ofThree, ofFour, commandOf};
 ghost use Rattle.lines_text.specs.Parsed.{between, meant, Within, openForm, askForm};
 ghost use Rattle.lines_text.specs.Printed.{badLine, printed};
 
@@ -30,11 +30,12 @@ pub enum Verb {
     Get,
 }
 
-// What a line asks for. The identifier of a call is the bytes from start to before end; `del` and `get` have plan 0.
+// What a line asks for. The identifier of a call has this kind and the bytes from start to before end; `del` and `get` have plan 0.
 pub enum Parsed {
     Open(u64, u64),
     Ask {
         verb: Verb,
+        kind: u64,
         start: usize,
         end: usize,
         plan: u64,
@@ -53,6 +54,9 @@ impl Number {
 impl Parsed {
     // The largest B1 and B2.
     pub(crate) const MOST_BUCKETS: u64 = 999;
+
+    // The largest KIND.
+    pub(crate) const MOST_KIND: u64 = 9;
 
     // The largest PLAN.
     pub(crate) const MOST_PLAN: u64 = 255;
@@ -156,46 +160,23 @@ pub(crate) fn open_form(x: Number, y: Number) -> Parsed
     }
 }
 
-// `add` or `set` with what its last field says.
-pub(crate) fn ask_form(verb: Verb, start: usize, end: usize, x: Number) -> Parsed
-    ensures { λ r. ⌜ r ≡ askForm verb start end x ⌝ }
+// A call with what KIND and PLAN say.
+pub(crate) fn ask_form(verb: Verb, kind: Number, start: usize, end: usize, plan: Number) -> Parsed
+    ensures { λ r. ⌜ r ≡ askForm verb kind start end plan ⌝ }
 {
-    match x {
-        Number::Of(plan) => Parsed::Ask {
-            verb,
-            start,
-            end,
-            plan,
+    match kind {
+        Number::Of(k) => match plan {
+            Number::Of(p) => Parsed::Ask {
+                verb,
+                kind: k,
+                start,
+                end,
+                plan: p,
+            },
+            Number::Wrong => Parsed::Bad,
         },
         Number::Wrong => Parsed::Bad,
     }
-}
-
-// A line of two fields, parted at a.
-pub(crate) fn two_fields(s: &[u8], a: usize) -> Parsed
-    requires { ⌜ a < length (now s) ⌝ }
-    ensures { λ r. ⌜ (meant (now (s .entry)) r ≡ ofTwo (take a (now (s .entry))) (drop (a + 1) (now (s .entry)))) × Within (length (now (s .entry))) r ⌝ }
-{
-    let start = a + 1;
-    let end = s.len();
-    let word = &s[..a];
-    if codec::same(word, b"del") {
-        return Parsed::Ask {
-            verb: Verb::Del,
-            start,
-            end,
-            plan: 0,
-        };
-    }
-    if codec::same(word, b"get") {
-        return Parsed::Ask {
-            verb: Verb::Get,
-            start,
-            end,
-            plan: 0,
-        };
-    }
-    Parsed::Bad
 }
 
 // A line of three fields, parted at a and b.
@@ -205,19 +186,41 @@ pub(crate) fn three_fields(s: &[u8], a: usize, b: usize) -> Parsed
 {
     let start = a + 1;
     let next = b + 1;
+    let end = s.len();
     let word = &s[..a];
-    let last = &s[next..];
+    let second = &s[start..b];
     if codec::same(word, b"open") {
         return open_form(
-            read_number(&s[start..b], Parsed::MOST_BUCKETS),
-            read_number(last, Parsed::MOST_BUCKETS),
+            read_number(second, Parsed::MOST_BUCKETS),
+            read_number(&s[next..], Parsed::MOST_BUCKETS),
         );
     }
+    let kind = read_number(second, Parsed::MOST_KIND);
+    if codec::same(word, b"del") {
+        return ask_form(Verb::Del, kind, next, end, Number::Of(0));
+    }
+    if codec::same(word, b"get") {
+        return ask_form(Verb::Get, kind, next, end, Number::Of(0));
+    }
+    Parsed::Bad
+}
+
+// A line of four fields, parted at a, b and c.
+pub(crate) fn four_fields(s: &[u8], a: usize, b: usize, c: usize) -> Parsed
+    requires { ⌜ (a < b) × (b < c) × (c < length (now s)) ⌝ }
+    ensures { λ r. ⌜ (meant (now (s .entry)) r ≡ ofFour (take a (now (s .entry))) (between (a + 1) b (now (s .entry))) (between (b + 1) c (now (s .entry))) (drop (c + 1) (now (s .entry)))) × Within (length (now (s .entry))) r ⌝ }
+{
+    let start = a + 1;
+    let next = b + 1;
+    let last = c + 1;
+    let word = &s[..a];
+    let kind = read_number(&s[start..b], Parsed::MOST_KIND);
+    let plan = read_number(&s[last..], Parsed::MOST_PLAN);
     if codec::same(word, b"add") {
-        return ask_form(Verb::Add, start, b, read_number(last, Parsed::MOST_PLAN));
+        return ask_form(Verb::Add, kind, next, c, plan);
     }
     if codec::same(word, b"set") {
-        return ask_form(Verb::Set, start, b, read_number(last, Parsed::MOST_PLAN));
+        return ask_form(Verb::Set, kind, next, c, plan);
     }
     Parsed::Bad
 }
@@ -232,12 +235,16 @@ pub fn parse(s: &[u8]) -> Parsed
     }
     let b = place(s, b' ', a + 1);
     if s.len() <= b {
-        return two_fields(s, a);
-    }
-    if place(s, b' ', b + 1) < s.len() {
         return Parsed::Bad;
     }
-    three_fields(s, a, b)
+    let c = place(s, b' ', b + 1);
+    if s.len() <= c {
+        return three_fields(s, a, b);
+    }
+    if place(s, b' ', c + 1) < s.len() {
+        return Parsed::Bad;
+    }
+    four_fields(s, a, b, c)
 }
 
 // Prints the bytes of start, n and LF from index at on, as much as fits. The next index.

@@ -8,3 +8,4 @@ pub mod Calls
 pub mod Orders
 pub mod Example
 pub mod Statements
+pub mod Others

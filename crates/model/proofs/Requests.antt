@@ -1,22 +1,22 @@
--- Calls with any bytes as identifier: each is turned down by cause 1, 2 or 14 and changes nothing, or is the step by its word. Causes 4
+-- Calls with anything as identifier: each is turned down by cause 15, 1, 2 or 14 and changes nothing, or is the step by its word. Causes 4
 -- and 5 are never given, and the size stays. Assumes nothing.
 use Prim.Native.Nat.{ℕ, _^_, _<_}
 use native.Mathlib.Omega.{arith}
 use mathlib.Core.Path.{_≡_, refl, sym, ap, _∙_, subst, subst⁻¹}
-use mathlib.Core.Bool.{true, false, not}
+use mathlib.Core.Bool.{true, false}
 use mathlib.Core.Logic.{inl, inr, ⊎-elim}
-use lib.Dec.{ltb}
-use lib.ListN.{length}
-use borrow.Author.Tests.{ne-eqb}
+use lib.Dec.{eqb, leb}
+use borrow.Author.Tests.{leb-false, eqb-false, ne-eqb}
 use Rattle.lists.proofs.Tests.{by-test}
 use Rattle.answer.specs.Numbers.{numberOf}
-use Rattle.identifier.specs.Identifier.{sized, firstRefused, wordOf, readOf}
+use Rattle.identifier.specs.Identifier.{Token, wordOf}
 use Rattle.identifier.specs.declared.Read.{Read}
 use Rattle.identifier.specs.declared.Read.the-variants.{Word, Refused}
+use Rattle.identifier.proofs.Causes.{of-identifier, by-reading}
 use Rattle.identifier.proofs.Words.{word-lt}
 use Rattle.model.specs.Levels.{firstLevel, secondLevel}
 use Rattle.model.specs.Model.{State, Call, Outcome, step}
-use Rattle.model.specs.Request.{Token, subject, planAllowed, withPlan, wordFor, askOf, byWord, serveRead, serve, Request, ask, respond, callsOf}
+use Rattle.model.specs.Request.{subject, planAllowed, withPlan, wordFor, askOf, byWord, serveRead, serve, Request, ask, respond, callsOf}
 use Rattle.model.specs.Machine.{accepted}
 use Rattle.model.specs.History.{model}
 use Rattle.model.proofs.Steps.{refused-keeps, Follows, by-step}
@@ -33,12 +33,13 @@ Reads c (Word w) = (w ≡ wordOf (subject c)) × (planAllowed c ≡ true)
 Reads c (Refused a) = (0 < numberOf a) × Never45 (numberOf a)
 
 pub reads : (c : Call Token) → Reads c (wordFor c)
-unfolding readOf
 reads c =
-    let i : Token = subject c in
-    let P : Read → Type 0 = (λ r. Reads c (withPlan (planAllowed c) r)) in
-    by-test P (not (sized (length i))) (λ t. omega arith)
-    (λ t. by-test P (ltb (firstRefused i) (length i)) (λ u. omega arith) (λ u. by-test (Reads c) (planAllowed c) (λ a. (refl, a)) (λ a. omega arith)))
+    by-reading (subject c) (λ r. Reads c (withPlan (planAllowed c) r))
+    (λ a o. let n : ℕ = numberOf a in (
+      leb-false n 0 (of-identifier (λ k. leb k 0) n refl refl refl o),
+      (eqb-false n 4 (of-identifier (λ k. eqb k 4) n refl refl refl o), eqb-false n 5 (of-identifier (λ k. eqb k 5) n refl refl refl o)),
+    ))
+    (by-test (Reads c) (planAllowed c) (λ a. (refl, a)) (λ a. omega arith))
 
 -- so the word is the identifier's, and has 64 bits
 pub word-for : (c : Call Token) (w : ℕ) → wordFor c ≡ Word w → w ≡ wordOf (subject c)

@@ -85,7 +85,7 @@ pub arrivals : (L : Level) (n : ℕ) → 0 < n → (bounds ws new vs : List ℕ)
     → Arrivals.arrives L n bounds ws new ≡ lower L n bounds vs
 arrivals = Arrivals.arrives-all
 
--- ---- lists of requests, with any bytes as identifiers, at document 01's levels
+-- ---- lists of requests, with anything as identifiers, at document 01's levels
 
 -- "refused calls keep them", also those of bytes that are no identifier
 pub respond-keeps : (s : State) (q : Request) → accepted (respond s q .answer) ≡ false → respond s q .after ≡ s

@@ -14,7 +14,7 @@ use Rattle.model.specs.Machine.{Machine, acceptedOf}
 abbrev pub wordModel : Level → Level → Machine State (Call ℕ)
 wordModel L1 L2 = record { answer = λ s c. step L1 L2 s c .answer; next = λ s c. step L1 L2 s c .after }
 
--- the model, at document 01's levels, with any bytes as identifiers
+-- the model, at document 01's levels, with anything as identifiers
 abbrev pub model : Machine State Request
 model = record { answer = λ s q. respond s q .answer; next = λ s q. respond s q .after }
 

@@ -1,19 +1,15 @@
--- Calls as they are put, with any bytes as identifier, at document 01's two levels.
+-- Calls as they are put, with anything as identifier, at document 01's two levels.
 -- Assumes nothing.
 use Prim.Native.Nat.{ℕ}
 use mathlib.Core.Bool.{Bool, true, cond}
 use mathlib.Core.List.{List, [], _∷_}
 use Rattle.lists.specs.Entries.{assignable}
 use Rattle.answer.specs.declared.Answer.the-variants.{DeskPlanGiven}
-use Rattle.identifier.specs.Identifier.{wordOf, readOf}
+use Rattle.identifier.specs.Identifier.{Token, wordOf, readOf}
 use Rattle.identifier.specs.declared.Read.{Read}
 use Rattle.identifier.specs.declared.Read.the-variants.{Word, Refused}
 use Rattle.model.specs.Levels.{firstLevel, secondLevel}
 use Rattle.model.specs.Model.{State, Call, add, change, withdraw, query, Outcome, step}
-
--- an identifier as it is handed in: any bytes
-abbrev pub Token : Type 0
-Token = List ℕ
 
 -- the identifier of a call
 abbrev pub subject : {I : Type 0} → Call I → I
@@ -49,7 +45,7 @@ wordFor c = withPlan (planAllowed c) (readOf (subject c))
 abbrev pub byWord : Call Token → Call ℕ
 byWord c = askOf (wordOf (subject c)) c
 
--- by what it is for: turned down (causes 1, 2, 14), or the word is taken
+-- by what it is for: turned down (causes 15, 1, 2, 14), or the word is taken
 abbrev pub serveRead : State → Call Token → Read → Outcome
 serveRead s c (Refused a) = record { answer = a; after = s }
 serveRead s c (Word w) = step firstLevel secondLevel s (askOf w c)

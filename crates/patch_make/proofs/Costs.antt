@@ -20,6 +20,7 @@ use Rattle.hash.specs.Fnv.{fnvOf}
 use Rattle.hash.proofs.FnvLaws.{fnv-lt}
 use Rattle.answer.specs.Numbers.{numberOf}
 use Rattle.answer.specs.declared.Answer.the-variants.{Accepted}
+use Rattle.identifier.specs.Identifier.{Token}
 use Rattle.identifier.specs.Place.{thresholds}
 use Rattle.identifier.specs.declared.Read.{Read}
 use Rattle.identifier.specs.declared.Read.the-variants.{Word, Refused}
@@ -145,14 +146,14 @@ level-bounded (b ∷ bs) s w =
     )
 
 -- an accepted change: its word, of the plan q, is live in a sound table
-record Was (t id : List ℕ) (p q : ℕ) : Type 0 where
+record Was (t : List ℕ) (id : Token) (p q : ℕ) : Type 0 where
   pub word : ℕ
   pub for : wordFor (change id p) ≡ Word word
   pub shape : shaped t ≡ true
   pub tested : sound t ≡ true
   pub live : planIn t word ≡ some q
 
-was : (t id : List ℕ) (p q : ℕ) → call t (change id p) .answer ≡ Accepted q → Was t id p q
+was : (t : List ℕ) (id : Token) (p q : ℕ) → call t (change id p) .answer ≡ Accepted q → Was t id p q
 unfolding call served
 was t id p q e = go (wordFor (change id p)) refl (reads (change id p)) e
   where
@@ -169,7 +170,7 @@ was t id p q e = go (wordFor (change id p)) refl (reads (change id p)) e
         (λ _ f. absurd (omega (arith, ap numberOf f))))
         (λ _ f. absurd (omega (arith, ap numberOf f)))
 
-module _ (t : List ℕ) (flat : FlatSound t) (sols : Sols (tableOf t)) (id : List ℕ) (p q : ℕ) (e : call t (change id p) .answer ≡ Accepted q) where
+module _ (t : List ℕ) (flat : FlatSound t) (sols : Sols (tableOf t)) (id : Token) (p q : ℕ) (e : call t (change id p) .answer ≡ Accepted q) where
   -- the table after the change
   abbrev u : List ℕ
   u = call t (change id p) .table
@@ -243,7 +244,7 @@ abbrev pub patchBetween : List ℕ → List ℕ → List ℕ
 patchBetween t u = patchBytes format1 (patchOf format1 (planeBytes format1 (planeOf (tableOf t))) (planeBytes format1 (planeOf (tableOf u))))
 
 -- any table, whose numbers have 64 bits
-module _ (t : List ℕ) (wide : Words t) (id : List ℕ) (p q : ℕ) (e : call t (change id p) .answer ≡ Accepted q) where
+module _ (t : List ℕ) (wide : Words t) (id : Token) (p q : ℕ) (e : call t (change id p) .answer ≡ Accepted q) where
   flat-sound : FlatSound t
   flat-sound = let h = was t id p q e in sound-exactly t (h .shape) wide .0 (h .tested)
 
@@ -256,7 +257,7 @@ module _ (t : List ℕ) (wide : Words t) (id : List ℕ) (p q : ℕ) (e : call t
   same-costs = if-same t flat-sound (narrow rows format1 t wide) id p q e
 
 -- after any list of calls
-module _ (t : List ℕ) (o : Opened t) (ps : List Request) (id : List ℕ) (p q : ℕ) (e : call (after tables t ps) (change id p) .answer ≡ Accepted q) where
+module _ (t : List ℕ) (o : Opened t) (ps : List Request) (id : Token) (p q : ℕ) (e : call (after tables t ps) (change id p) .answer ≡ Accepted q) where
   pub list-change-costs : length (patchBetween (after tables t ps) (call (after tables t ps) (change id p) .table)) ≤ 89
   list-change-costs = at-most (after tables t ps) (always-sound t o ps .2) (after-sols t o ps) id p q e
 

@@ -10,7 +10,7 @@ use lib.Dec.{lit<}
 use lib.ListN.{length, take, length-map}
 use borrow.Author.Tests.{eq-eqb}
 use Rattle.answer.specs.declared.Answer.the-variants.{Accepted}
-use Rattle.identifier.specs.Identifier.{readOf}
+use Rattle.identifier.specs.Identifier.{Token, readOf}
 use Rattle.identifier.specs.declared.Read.the-variants.{Word}
 use Rattle.model.specs.Model.{Size}
 use Rattle.model.specs.Request.{Request}
@@ -84,5 +84,5 @@ module _ (t : List ℕ) (o : Opened t) where
           ∙ in-front m into (planeAfter t qs) (ap (λ (w : Written). w .answer) (sym list-follows) ∙ e) .front
 
   -- the plane gives every live identifier its word's last accepted plan
-  pub plane-tells : (ps : List Request) (id : List ℕ) (v p : ℕ) → readOf id ≡ Word v → told v (acceptedCalls t ps) ≡ some p → lookupCall id (planeAfter t ps) ≡ Accepted p
+  pub plane-tells : (ps : List Request) (id : Token) (v p : ℕ) → readOf id ≡ Word v → told v (acceptedCalls t ps) ≡ some p → lookupCall id (planeAfter t ps) ≡ Accepted p
   plane-tells ps id v p i h = let k = always-sound t o ps in shows (after tables t ps) (after-sols t o ps) (k .0) (k .2) id ∙ told-shown t o ps id v p i h

@@ -11,7 +11,7 @@ use Rattle.lists.specs.Entries.{Entry, deskPlan, assignable, find}
 use Rattle.lists.proofs.Tests.{by-test}
 use Rattle.lists.proofs.Entries.{none≢some}
 use Rattle.answer.specs.declared.Answer.the-variants.{Accepted}
-use Rattle.identifier.specs.Identifier.{readOf}
+use Rattle.identifier.specs.Identifier.{Token, readOf}
 use Rattle.identifier.specs.Place.{secondOf}
 use Rattle.identifier.specs.declared.Read.the-variants.{Word}
 use Rattle.plane.specs.declared.Wrong.the-variants.{Nowhere}
@@ -27,7 +27,7 @@ unfolding planFrom secondPlan levelPlan
 stranger-desk P w a b c = rw (a, b, c)
 
 -- the same of the call, for bytes that are wrong nowhere
-pub stranger-answer : (id p : List ℕ) (w : ℕ) → wrongAt format1 p ≡ Nowhere → readOf id ≡ Word w
+pub stranger-answer : (id : Token) (p : List ℕ) (w : ℕ) → wrongAt format1 p ≡ Nowhere → readOf id ≡ Word w
     → holds (planeFrom format1 p .level1) w ≡ false → holds (planeFrom format1 p .level2) (secondOf w) ≡ false → find (secondOf w) (planeFrom format1 p .base) ≡ none
     → lookupCall id p ≡ Accepted deskPlan
 unfolding lookupCall

@@ -1,4 +1,4 @@
--- The lookup: the plan that a plane gives for a word, and what the call answers for any bytes as identifier and as plane.
+-- The lookup: the plan that a plane gives for a word, and what the call answers for anything as identifier and any bytes as plane.
 -- Assumes nothing.
 use Prim.Native.Nat.{ℕ}
 use mathlib.Core.Bool.{Bool, cond}
@@ -11,7 +11,7 @@ use Rattle.gf2.specs.Vectors.{product}
 use Rattle.hash.specs.Mix.{mixOf}
 use Rattle.answer.specs.declared.Answer.{Answer}
 use Rattle.answer.specs.declared.Answer.the-variants.{Accepted, WrongPlane}
-use Rattle.identifier.specs.Identifier.{readOf}
+use Rattle.identifier.specs.Identifier.{Token, readOf}
 use Rattle.identifier.specs.Place.{secondOf, thresholdAt, bucketAt}
 use Rattle.identifier.specs.declared.Read.{Read}
 use Rattle.identifier.specs.declared.Read.the-variants.{Word, Refused}
@@ -57,11 +57,11 @@ abbrev pub looked : List ℕ → ℕ → Wrong → Answer
 looked p w (At at) = WrongPlane at
 looked p w Nowhere = Accepted (planFrom (planeFrom format1 p) w)
 
--- causes 1 and 2, by what the bytes are read as, else the word is looked up
+-- causes 15, 1 and 2, by what the identifier is read as, else the word is looked up
 abbrev pub lookupRead : List ℕ → Read → Answer
 lookupRead p (Refused a) = a
 lookupRead p (Word w) = looked p w (wrongAt format1 p)
 
--- the lookup: causes 1, 2, 10
-unfoldable pub lookupCall : List ℕ → List ℕ → Answer
+-- the lookup: causes 15, 1, 2, 10
+unfoldable pub lookupCall : Token → List ℕ → Answer
 lookupCall id p = lookupRead p (readOf id)

@@ -17,6 +17,7 @@ ghost use Prim.Native.Nat.{suc, _+_, _*_, _≤_, _<_};
 ghost use lib.ListN.{length, getD, drop};
 ghost use Rattle.lists.specs.Entries.{assignable, find};
 ghost use Rattle.gf2.specs.Vectors.{product};
+ghost use Rattle.identifier.specs.Identifier.{token};
 ghost use Rattle.model.specs.Model.{baseLimit};
 ghost use Rattle.table.specs.Layout.{mostBuckets1, mostBuckets2};
 ghost use Rattle.plane.specs.declared.Wrong.the-variants.{Nowhere};
@@ -383,11 +384,11 @@ pub(crate) fn lookup_word(w: u64, plane: &[u8]) -> Answer
     }
 }
 
-// The plan that the plane gives for the identifier: causes 1, 2, 10.
-pub fn lookup(id: &[u8], plane: &[u8]) -> Answer
-    ensures { λ r. ⌜ r ≡ lookupCall (now (id .entry)) (now (plane .entry)) ⌝ }
+// The plan that the plane gives for the identifier: causes 15, 1, 2, 10.
+pub fn lookup(kind: u8, id: &[u8], plane: &[u8]) -> Answer
+    ensures { λ r. ⌜ r ≡ lookupCall (token kind (now (id .entry))) (now (plane .entry)) ⌝ }
 {
-    let read = Identifier::read(id);
+    let read = Identifier::read(kind, id.len(), id);
     match read {
         Read::Word(w) => lookup_word(w, plane),
         Read::Refused(a) => a,

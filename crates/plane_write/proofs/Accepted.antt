@@ -13,7 +13,7 @@ use lib.Seq.{take-at}
 use Rattle.hash.specs.Mix.{unmixOf}
 use Rattle.answer.specs.declared.Answer.{Answer}
 use Rattle.answer.specs.declared.Answer.the-variants.{Accepted, WrongTable, NotSound, ShortOutput}
-use Rattle.identifier.specs.Identifier.{readOf}
+use Rattle.identifier.specs.Identifier.{Token, readOf}
 use Rattle.identifier.specs.declared.Read.{Read}
 use Rattle.identifier.specs.declared.Read.the-variants.{Word, Refused}
 use Rattle.model.specs.Model.{baseLimit}
@@ -35,7 +35,7 @@ module _ (t : List ℕ) (w : Sols (tableOf t)) (k : shaped t ≡ true) (h : Flat
   fits = plane-fits rows format1 t w unmixOf (lit≤ tt) (shape-range rows solutions t k) (h .table)
 
   -- the plane of a sound table, read again, gives for each identifier, live or not, the answer of the table's own XOR words or base list
-  pub shows : (id : List ℕ) → lookupCall id (planeBytes format1 (planeOf (tableOf t))) ≡ shownTo (tableOf t) (readOf id)
+  pub shows : (id : Token) → lookupCall id (planeBytes format1 (planeOf (tableOf t))) ≡ shownTo (tableOf t) (readOf id)
   unfolding lookupCall
   shows id = go (readOf id)
     where

@@ -25,6 +25,7 @@ use Rattle.gf2.proofs.Inverse.{set-lt, flip-lt, colStep-lt, length-colStep}
 use Rattle.gf2.proofs.Loops.{length-solStep}
 use Rattle.lists.specs.Totals.{oneLess}
 use Rattle.hash.specs.Mix.{mixOf}
+use Rattle.identifier.specs.Identifier.{Token}
 use Rattle.identifier.specs.declared.Read.{Read}
 use Rattle.identifier.specs.declared.Read.the-variants.{Word, Refused}
 use Rattle.bucket.specs.declared.Bucket.{Bucket}
@@ -33,7 +34,7 @@ use Rattle.bucket_words.specs.Words.{Shaped}
 use Rattle.bucket_words.proofs.Words.{empty-shaped}
 use Rattle.bucket_settle.specs.Settle.{Settlement, leaving, withdrawAll, lowered, settle}
 use Rattle.model.specs.Model.{baseLimit, Call, add, change, withdraw, query}
-use Rattle.model.specs.Request.{Token, wordFor, Request, ask}
+use Rattle.model.specs.Request.{askOf, wordFor, Request, ask}
 use Rattle.model.specs.Machine.{after}
 use Rattle.table.specs.Table as C
 use Rattle.table.specs.Table.{Table}
@@ -189,7 +190,7 @@ module _ (t : List ℕ) (h : BoundedNumbers t) where
       (λ v. let l = update-length (record { word = v; plan = p }) (tableOf t .base) in omega arith)) _
       (length-set (oneLess q (tableOf t .totals)) p _ ∙ length-set (tableOf t .totals) q _ ∙ h .totalled)
 
-  served-bounded : (w : ℕ) (c : Call Token) → Kept (served t w c)
+  served-bounded : (w : ℕ) (c : Call Token) → Kept (served t (askOf w c))
   unfolding served
   served-bounded w (add i p) = go (planIn t w)
     where

@@ -14,9 +14,9 @@ use Rattle.hash.specs.Mix.{mixOf}
 use Rattle.answer.specs.declared.Answer.the-variants.{Accepted}
 use Rattle.answer.specs.Numbers.{numberOf, valueOf}
 use Rattle.answer.specs.Causes.{NoneMet, InOrder, Exactly}
-use Rattle.answer.proofs.Causes.{in-order-apart, number-exactly}
-use Rattle.identifier.specs.Identifier.{readOf}
-use Rattle.identifier.specs.Causes.{wrongLength, wrongByte}
+use Rattle.answer.proofs.Causes.{test-apart, number-exactly}
+use Rattle.identifier.specs.Identifier.{Token, readOf}
+use Rattle.identifier.specs.Causes.{wrongLength, wrongByte, idCauses}
 use Rattle.identifier.specs.Place.{secondOf}
 use Rattle.identifier.specs.declared.Read.the-variants.{Word}
 use Rattle.identifier.proofs.Causes.{read-word}
@@ -84,29 +84,29 @@ longest = refl
 -- ---- "When a call is turned down"
 
 -- "each number given if and only if its cause is the first met", with what is returned with it, and 0 with what is returned if none is met:
--- the lookup, 1, 2 and 10
-pub lookup-causes : (id p : List ℕ) → Exactly (lookupCauses id p) (lookupReturns id p) (lookupCall id p)
+-- the lookup, 15, 1, 2 and 10
+pub lookup-causes : (id : Token) (p : List ℕ) → Exactly (lookupCauses id p) (lookupReturns id p) (lookupCall id p)
 lookup-causes = PlaneCauses.lookup-exactly
 
 -- the writer, 4, 5 and 9; the numbers of a table have 64 bits
 pub write-causes : (t out : List ℕ) → ((i : ℕ) → getD t i 0 < 2 ^ 64) → Exactly (writeCauses t out) (writeReturns t) (writeCall t out .answer)
 write-causes = Causes.write-exactly
 
--- "Order is the table's order"
-pub lookup-order : (id p : List ℕ) → InOrder 0 (lookupCauses id p)
+-- "Order is the table's order" (15, of document 02, stands before 1)
+pub lookup-order : (id : Token) (p : List ℕ) → InOrder 0 (wrongLength id ∷ wrongByte id ∷ wrongPlane format1 p ∷ [])
 lookup-order = PlaneCauses.lookup-order
 
 pub write-order : (t out : List ℕ) → InOrder 0 (writeCauses t out)
 write-order = Causes.write-order
 
 -- read for the last cause of each
-pub cause-10 : (id p : List ℕ) (at : ℕ)
-    → ((numberOf (lookupCall id p) ≡ 10) × (valueOf (lookupCall id p) ≡ at)) ↔ (NoneMet (wrongLength id ∷ wrongByte id ∷ []) × WrongOffset format1 p at)
-cause-10 id p = number-exactly (wrongLength id ∷ wrongByte id ∷ []) (wrongPlane format1 p) [] (lookupReturns id p) (lookupCall id p) (in-order-apart 0 (lookupCauses id p) (lookup-order id p)) (lookup-causes id p)
+pub cause-10 : (id : Token) (p : List ℕ) (at : ℕ)
+    → ((numberOf (lookupCall id p) ≡ 10) × (valueOf (lookupCall id p) ≡ at)) ↔ (NoneMet (idCauses id) × WrongOffset format1 p at)
+cause-10 id p = number-exactly (idCauses id) (wrongPlane format1 p) [] (lookupReturns id p) (lookupCall id p) (PlaneCauses.lookup-apart id p) (lookup-causes id p)
 
 pub cause-9 : (t out : List ℕ) → ((i : ℕ) → getD t i 0 < 2 ^ 64) → (v : ℕ)
     → ((numberOf (writeCall t out .answer) ≡ 9) × (valueOf (writeCall t out .answer) ≡ v)) ↔ (NoneMet (wrongTable t ∷ notSound t ∷ []) × ((length out < lengthNeeded t) × (v ≡ lengthNeeded t)))
-cause-9 t out b = number-exactly (wrongTable t ∷ notSound t ∷ []) (shortOutput t out) [] (writeReturns t) (writeCall t out .answer) (in-order-apart 0 (writeCauses t out) (write-order t out)) (write-causes t out b)
+cause-9 t out b = number-exactly (wrongTable t ∷ notSound t ∷ []) (shortOutput t out) [] (writeReturns t) (writeCall t out .answer) (test-apart (writeCauses t out) refl) (write-causes t out b)
 
 -- "Kept as it was": the output
 pub refused-keeps : (t out : List ℕ) → accepted (writeCall t out .answer) ≡ false → writeCall t out .output ≡ out
@@ -115,39 +115,39 @@ refused-keeps = Causes.refused-keeps
 -- ---- statement 2, the plane's half
 
 module _ (t out : List ℕ) (n : ℕ) (e : writeCall t out .answer ≡ Accepted n) where
-  gives : Sols (tableOf t) → FlatSound t → (id : List ℕ) → lookupCall id (take n (writeCall t out .output)) ≡ shownTo (tableOf t) (readOf id)
+  gives : Sols (tableOf t) → FlatSound t → (id : Token) → lookupCall id (take n (writeCall t out .output)) ≡ shownTo (tableOf t) (readOf id)
   gives s h id = ap (lookupCall id) (was-written t out n e) ∙ shows t s (was-shaped t out n e .0) h id
 
   module _ (w : Words t) where
     -- written from a table, whose numbers have 64 bits, and read again, the plane gives for each identifier, live or not, the answer of
     -- the table's own XOR words or base list
-    pub statement-2 : (id : List ℕ) → lookupCall id (take n (writeCall t out .output)) ≡ shownTo (tableOf t) (readOf id)
+    pub statement-2 : (id : Token) → lookupCall id (take n (writeCall t out .output)) ≡ shownTo (tableOf t) (readOf id)
     statement-2 = gives (narrow rows format1 t w) (sound-exactly t (was-shaped t out n e .0) w .0 (was-sound t out n e .0))
 
     -- so a live identifier gets its word's plan
-    pub live-plan : (id : List ℕ) (v p : ℕ) → readOf id ≡ Word v → planIn t v ≡ some p → lookupCall id (take n (writeCall t out .output)) ≡ Accepted p
+    pub live-plan : (id : Token) (v p : ℕ) → readOf id ≡ Word v → planIn t v ≡ some p → lookupCall id (take n (writeCall t out .output)) ≡ Accepted p
     live-plan id v p i h = statement-2 id ∙ ap (shownTo (tableOf t)) i ∙ ap Accepted (live-shown rows solutions (tableOf t) v p h)
 
 -- the word that an identifier is read as has 64 bits
-read-small : (id : List ℕ) (v : ℕ) → readOf id ≡ Word v → v < 2 ^ 64
-read-small id v i = rw (read-word id v .0 i .2) (word-lt id)
+read-small : (id : Token) (v : ℕ) → readOf id ≡ Word v → v < 2 ^ 64
+read-small id v i = rw (read-word id v .0 i .3) (word-lt id)
 
 -- after any list of calls
-pub told-shown : (t : List ℕ) → Opened t → (ps : List Request) (id : List ℕ) (v p : ℕ) → readOf id ≡ Word v → told v (acceptedCalls t ps) ≡ some p
+pub told-shown : (t : List ℕ) → Opened t → (ps : List Request) (id : Token) (v p : ℕ) → readOf id ≡ Word v → told v (acceptedCalls t ps) ≡ some p
     → shownTo (tableOf (after tables t ps)) (readOf id) ≡ Accepted p
 told-shown t o ps id v p i h =
     ap (shownTo (tableOf (after tables t ps))) i ∙ ap Accepted (live-shown rows solutions (tableOf (after tables t ps)) v p (plan t o ps v (read-small id v i) ∙ h))
 
 module _ (t : List ℕ) (o : Opened t) (ps : List Request) (out : List ℕ) (n : ℕ) (e : writeCall (after tables t ps) out .answer ≡ Accepted n) where
-  pub list-gives : (id : List ℕ) → lookupCall id (take n (writeCall (after tables t ps) out .output)) ≡ shownTo (tableOf (after tables t ps)) (readOf id)
+  pub list-gives : (id : Token) → lookupCall id (take n (writeCall (after tables t ps) out .output)) ≡ shownTo (tableOf (after tables t ps)) (readOf id)
   list-gives = gives (after tables t ps) out n e (after-sols t o ps) (always-sound t o ps .2)
 
   -- every live identifier gets its word's last accepted plan from the plane
-  pub last-plan : (id : List ℕ) (v p : ℕ) → readOf id ≡ Word v → told v (acceptedCalls t ps) ≡ some p → lookupCall id (take n (writeCall (after tables t ps) out .output)) ≡ Accepted p
+  pub last-plan : (id : Token) (v p : ℕ) → readOf id ≡ Word v → told v (acceptedCalls t ps) ≡ some p → lookupCall id (take n (writeCall (after tables t ps) out .output)) ≡ Accepted p
   last-plan id v p i h = list-gives id ∙ told-shown t o ps id v p i h
 
   -- document 02, order 3: so no live identifier gets the desk's plan
-  pub plane-live-given : (id : List ℕ) (v p : ℕ) → readOf id ≡ Word v → told v (acceptedCalls t ps) ≡ some p → lookupCall id (take n (writeCall (after tables t ps) out .output)) ≡ Accepted deskPlan → ⊥
+  pub plane-live-given : (id : Token) (v p : ℕ) → readOf id ≡ Word v → told v (acceptedCalls t ps) ≡ some p → lookupCall id (take n (writeCall (after tables t ps) out .output)) ≡ Accepted deskPlan → ⊥
   plane-live-given id v p i h d =
       let l : p < deskPlan = ltb-true p deskPlan (plan-given t o ps v p (read-small id v i) h) in
       let same : Accepted p ≡ Accepted deskPlan = sym (last-plan id v p i h) ∙ d in
@@ -155,7 +155,7 @@ module _ (t : List ℕ) (o : Opened t) (ps : List Request) (out : List ℕ) (n :
       omega arith
 
   -- document 02, order 3: an identifier whose word neither level holds and whose w' is not in the base list gets it
-  pub plane-stranger : (id : List ℕ) (v : ℕ) → readOf id ≡ Word v → holds rows solutions mixOf (tableOf (after tables t ps) .level1) v ≡ false
+  pub plane-stranger : (id : Token) (v : ℕ) → readOf id ≡ Word v → holds rows solutions mixOf (tableOf (after tables t ps) .level1) v ≡ false
       → holds rows solutions mixOf (tableOf (after tables t ps) .level2) (secondOf v) ≡ false → find (secondOf v) (tableOf (after tables t ps) .base) ≡ none
       → lookupCall id (take n (writeCall (after tables t ps) out .output)) ≡ Accepted deskPlan
   plane-stranger id v i a b c = list-gives id ∙ ap (shownTo (tableOf (after tables t ps))) i ∙ rw (a, b, c)

@@ -1,8 +1,9 @@
-// Runs the edges of an identifier: lengths, letters in both cases, every byte value by itself. For each it prints the word
+// Runs the edges of an identifier: lengths, letters in both cases, kinds, every byte value by itself. For each it prints the word
 // and its places among 48 and 32 buckets, or the number of the cause and what is returned with it.
-// The file stdout was made from document 01 by another program, and what is printed is compared with it.
+// The file stdout was made from documents 01 and 02 by another program, and what is printed is compared with it.
 // Cites answer and identifier. Nothing cites it.
 use identifier::Identifier;
+use identifier::Kind;
 use identifier::Read;
 use libc::STDOUT_FILENO;
 
@@ -27,9 +28,9 @@ fn vector(v: u64, n: u64) {
     decimal(identifier::bucket(v, n));
 }
 
-// What the bytes are found to be, and the line's end.
-fn found(s: &[u8]) {
-    let read = Identifier::read(s);
+// What the bytes are found to be as an identifier of this kind, and the line's end.
+fn found(kind: u8, s: &[u8]) {
+    let read = Identifier::read(kind, s.len(), s);
     match read {
         Read::Word(w) => {
             text(b"word ");
@@ -47,18 +48,23 @@ fn found(s: &[u8]) {
     text(b"\n");
 }
 
-fn named(s: &[u8]) {
-    text(b"\"");
+fn named(kind: u8, s: &[u8]) {
+    decimal(kind as u64);
+    text(b" \"");
     text(s);
     text(b"\" ");
-    found(s);
+    found(kind, s);
+}
+
+fn emaid(s: &[u8]) {
+    named(Kind::EMAID, s);
 }
 
 fn one_byte(b: u8) {
     hex(b as u64, 2);
     text(b" ");
     let s = [b];
-    found(&s);
+    found(Kind::EMAID, &s);
 }
 
 fn every_byte() {
@@ -70,40 +76,56 @@ fn every_byte() {
 }
 
 fn lengths() {
-    named(b"");
-    named(b"a");
-    named(b"A");
-    named(b"12345678901234567890");
-    named(b"123456789012345678901");
-    named(b"abcdefghijklmnopqrst");
-    named(b"ABCDEFGHIJKLMNOPQRST");
+    emaid(b"");
+    emaid(b"a");
+    emaid(b"A");
+    emaid(b"123456789012345678901234567890123456");
+    emaid(b"1234567890123456789012345678901234567");
+    emaid(b"abcdefghijklmnopqrstuvwxyzabcdefghij");
+    emaid(b"ABCDEFGHIJKLMNOPQRSTUVWXYZABCDEFGHIJ");
 }
 
 fn letters_and_marks() {
-    named(b"Bus-17");
-    named(b"BUS-17");
-    named(b"bus-17");
-    named(b"bUS-17");
-    named(b"Tram_2");
-    named(b"*");
-    named(b"|");
-    named(b"0");
-    named(b"*-_=:+|@.");
+    emaid(b"Bus-17");
+    emaid(b"BUS-17");
+    emaid(b"bus-17");
+    emaid(b"bUS-17");
+    emaid(b"Tram_2");
+    emaid(b"*");
+    emaid(b"|");
+    emaid(b"0");
+    emaid(b"*-_=:+|@.");
 }
 
 fn refused() {
-    named(b"a/b");
-    named(b"/ab");
-    named(b"ab/");
-    named(b"a/b/c");
-    named(b"a b");
-    named(b"12345678901234567890/");
-    named(b"1234567890123456789/");
+    emaid(b"a/b");
+    emaid(b"/ab");
+    emaid(b"ab/");
+    emaid(b"a/b/c");
+    emaid(b"a b");
+    emaid(b"123456789012345678901234567890123456/");
+    emaid(b"12345678901234567890123456789012345/");
+}
+
+fn kinds() {
+    named(0, b"Bus-17");
+    named(Kind::CENTRAL, b"Bus-17");
+    named(Kind::ISO14443, b"Bus-17");
+    named(Kind::ISO15693, b"Bus-17");
+    named(Kind::KEY_CODE, b"Bus-17");
+    named(Kind::LOCAL, b"Bus-17");
+    named(Kind::MAC_ADDRESS, b"Bus-17");
+    named(8, b"Bus-17");
+    named(255, b"Bus-17");
+    named(0, b"");
+    named(8, b"");
+    named(9, b"a/b");
 }
 
 fn main() {
     lengths();
     letters_and_marks();
     refused();
+    kinds();
     every_byte();
 }

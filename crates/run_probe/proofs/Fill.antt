@@ -52,7 +52,7 @@ module _ (t₀ ws t : List ℕ) (i : ℕ) (h : Filling t₀ ws t i) where
 
     pub filling-next : w < 2 ^ 64 → accepted (addOf t w .answer) ≡ true → Filling t₀ ws u (i + 1)
     filling-next small y =
-        let k = served-sound t (h .ready .shape) (h .ready .sound) w small (add [] (w % 128)) (low-plan w) in
+        let k = served-sound t (h .ready .shape) (h .ready .sound) w small (add w (w % 128)) (low-plan w) in
         subst⁻¹ (λ (v : List ℕ). Filling t₀ ws v (i + 1)) q (record {
           ready = record { shape = k .0; sound = k .1 };
           same = rw add-one (sym (cond-true _ _ y) ∙ here);

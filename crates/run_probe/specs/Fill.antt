@@ -10,7 +10,7 @@ use Rattle.run_probe.specs.Steps.{Probed}
 
 -- an add of the word w, with its low seven bits as plan
 abbrev pub addOf : List ℕ → ℕ → Outcome
-addOf t w = served t w (add [] (w % 128))
+addOf t w = served t (add w (w % 128))
 
 -- words are added one after the other: how many were accepted before the first refusal, k more than these, and the numbers of the table then
 unfoldable pub takenFrom : ℕ → List ℕ → List ℕ → Probed

@@ -1,3 +1,2 @@
-pub mod Probe
 pub mod Steps
 pub mod Fill

@@ -1,5 +1,5 @@
 // Entries for other languages over the parts of the library: a program made without this code is compared with them.
-// Definitions: specs/Probe.antt (identifiers), specs/Steps.antt (one bucket), specs/Fill.antt (a table that is filled).
+// Definitions: specs/Steps.antt (one bucket), specs/Fill.antt (a table that is filled).
 // Cites answer, codec, hash, identifier, bucket, bucket_rows, table_open, table_calls, table_add, lines_text and lines_run. Nothing cites it.
 use answer::Answer;
 use bucket::Bucket;
@@ -11,7 +11,8 @@ ghost use Rattle.codec.specs.Bytes.{fromBytes, toBytes};
 ghost use Rattle.codec.specs.Parts.{partAt, written};
 ghost use Rattle.hash.specs.Mix.{mixOf, unmixOf};
 ghost use Rattle.hash.specs.Fnv.{fnvOf};
-ghost use Rattle.identifier.specs.Identifier.{readOf};
+ghost use Rattle.identifier.specs.Identifier.{token, readOf};
+ghost use Rattle.identifier.specs.Causes.{wordAnswer};
 ghost use Rattle.bucket.specs.Bucket.{add, withdraw};
 ghost use Prim.Native.Nat.{_*_};
 ghost use lib.ListN.{length};
@@ -21,16 +22,15 @@ ghost use Rattle.lines_run.specs.Buffer.{Printed};
 ghost use Rattle.run_probe.specs.Steps.{probed, probedRow, probedMatrix};
 ghost use Rattle.model.specs.Machine.{accepted};
 ghost use Rattle.table_calls.specs.Ready.{Ready};
-ghost use Rattle.run_probe.specs.Probe.{wordAnswer};
 ghost use Rattle.run_probe.specs.Fill.{takenFrom, filled};
 
-// The number of the answer to the bytes of an identifier, 0 if they are accepted. What is returned with it goes into value:
+// The number of the answer to the bytes of an identifier of this kind, 0 if they are accepted. What is returned with it goes into value:
 // the word, if they are accepted.
 #[no_mangle]
-pub extern "C" fn probe_word(id: &[u8], value: &mut u64) -> u64
-    ensures { λ r. ⌜ (r ≡ numberOf (wordAnswer (readOf (now (id .entry))))) × (now (value .exit) ≡ valueOf (wordAnswer (readOf (now (id .entry))))) ⌝ }
+pub extern "C" fn probe_word(kind: u8, id: &[u8], value: &mut u64) -> u64
+    ensures { λ r. ⌜ (r ≡ numberOf (wordAnswer (readOf (token kind (now (id .entry)))))) × (now (value .exit) ≡ valueOf (wordAnswer (readOf (token kind (now (id .entry)))))) ⌝ }
 {
-    let read = Identifier::read(id);
+    let read = Identifier::read(kind, id.len(), id);
     match read {
         Read::Word(w) => {
             *value = w;

@@ -18,13 +18,14 @@ use Rattle.lists.proofs.Totals.{totals-length, totals-at}
 use Rattle.hash.specs.Mix.{mixOf, unmixOf}
 use Rattle.hash.proofs.Inverse.{mix-lt, unmix-lt, unmix-mix, mix-unmix}
 use Rattle.answer.specs.declared.Answer.the-variants.{Accepted, Full}
+use Rattle.identifier.specs.Identifier.{Token}
 use Rattle.identifier.specs.declared.Read.{Read}
 use Rattle.identifier.specs.declared.Read.the-variants.{Word, Refused}
 use Rattle.bucket.specs.declared.Bucket.{Bucket}
 use Rattle.model.specs.Levels.{firstLevel, secondLevel}
 use Rattle.model.specs.Model as M
 use Rattle.model.specs.Model.{baseLimit, Size, State, Call, add, change, withdraw, query, opened, withLive, wouldLeave, base, stepAdd, stepLive, step}
-use Rattle.model.specs.Request.{Token, planAllowed, wordFor, askOf, serveRead, serve, Request, ask, respond}
+use Rattle.model.specs.Request.{planAllowed, wordFor, askOf, serveRead, serve, Request, ask, respond}
 use Rattle.model.proofs.Requests.{word-small, word-plan}
 use Rattle.table.specs.Table.{Table, totalNumbers, openTable, changedIn, withdrawnFrom, addedTo}
 use Rattle.table.specs.Layout.{leading, buckets1At, buckets2At, mostBuckets1, inRange, numbersOf, unusedIn, lengthOf}
@@ -168,8 +169,8 @@ module _ (t : List ℕ) (s : State) (h : FlatStands t s) where
         record { says = ap Accepted (k .counted); stands = numbers-stand u t′ k range })))
         (λ q f. record { says = refl; stands = h })
 
-    -- the causes 1, 2, 14, 4 and 5 are not met
-    pub served-match : (c : Call Token) → planAllowed c ≡ true → Match (served t w c) (step firstLevel secondLevel s (askOf w c))
+    -- the causes 15, 1, 2, 14, 4 and 5 are not met
+    pub served-match : {I : Type 0} (c : Call I) → planAllowed c ≡ true → Match (served t (askOf w c)) (step firstLevel secondLevel s (askOf w c))
     unfolding served
     served-match (add i p) k = add-match p k
     served-match (change i p) k = live-match (changedIn rows solutions mixOf T₀ w p) (update (record { word = w; plan = p }) (s .live)) (λ q f. change-stands rows solutions mixOf keeps one T₀ s (h .stands) w l p q (assignable-byte p k) k f)

@@ -2,32 +2,32 @@
 -- Assumes nothing.
 use Prim.Native.Nat.{ℕ, suc, _+_, _^_, _<_}
 use mathlib.Core.Path.{_≡_, refl, sym, ap, _∙_, subst⁻¹}
-use mathlib.Core.Bool.{Bool, true, false, not, cond, true≢false, _&&_}
+use mathlib.Core.Bool.{Bool, true, false, cond, true≢false, _&&_}
 use mathlib.Core.Logic.{_⊎_, inl, inr, ⊎-elim, _↔_}
 use mathlib.Core.Option.{Option, none, some}
 use mathlib.Core.List.{List, [], _∷_, _++_}
 use lib.Dec.{eqb, ltb, leb, lit<}
 use lib.ListN.{length, getD}
-use borrow.Author.Tests.{eq-eqb, ltb-true, lt-ltb, leb-false, lt-leb, eqb-false, ne-eqb, not-true}
+use borrow.Author.Tests.{ltb-true, lt-ltb, leb-false, lt-leb, eqb-false, ne-eqb}
 use Rattle.lists.specs.Entries.{Entry, assignable, find, update, remove}
 use Rattle.lists.proofs.Entries.{insert-length, none≢some}
-use Rattle.lists.proofs.Tests.{by-test, cases, cond-true, and-one, and-two}
+use Rattle.lists.proofs.Tests.{by-test, cases, cond-true}
 use Rattle.hash.specs.Mix.{mixOf}
 use Rattle.answer.specs.declared.Answer.{Answer}
 use Rattle.answer.specs.declared.Answer.the-variants.{WrongTable, NotSound, DeskPlanGiven}
 use Rattle.answer.specs.Numbers.{numberOf, valueOf}
-use Rattle.answer.specs.Causes.{Cause, InOrder, NotAmong, Apart, Exactly}
-use Rattle.answer.proofs.Causes.{One, OneEach, one-value, one-if, Given, exactly, unless-met, if-met}
-use Rattle.identifier.specs.Identifier.{sized, firstRefused, wordOf, readOf}
-use Rattle.identifier.specs.Causes.{wrongLength, wrongByte}
+use Rattle.answer.specs.Causes.{Cause, InOrder, Apart, Exactly}
+use Rattle.answer.proofs.Causes.{One, OneEach, one-value, one-if, Given, exactly, unless-met, if-met, test-apart}
+use Rattle.identifier.specs.Identifier.{oneOf, Token, wordOf, readOf}
+use Rattle.identifier.specs.Causes.{wrongLength, wrongByte, idCauses, wordAnswer}
 use Rattle.identifier.specs.declared.Read.{Read}
 use Rattle.identifier.specs.declared.Read.the-variants.{Word, Refused}
-use Rattle.identifier.proofs.Causes.{one-byte, identifier-given, refused≢word}
+use Rattle.identifier.proofs.Causes.{OfIdentifier, of-identifier, refused≢word, by-reading, one-identifier, identifier-given}
 use Rattle.identifier.proofs.Words.{word-lt}
 use Rattle.model.specs.Levels.{firstLevel, secondLevel}
 use Rattle.model.specs.Model as M
 use Rattle.model.specs.Model.{baseLimit, Call, add, change, withdraw, query, wouldLeave, base, stepAdd, stepLive, step}
-use Rattle.model.specs.Request.{Token, subject, planAllowed, withPlan, askOf}
+use Rattle.model.specs.Request.{subject, planAllowed, withPlan, askOf}
 use Rattle.table.specs.Table.{Table, addedTo}
 use Rattle.table.specs.Layout.{leading, buckets1At, buckets2At, totalsAt, inRange, lengthOf}
 use Rattle.table.specs.Test.{shapeTest}
@@ -89,7 +89,7 @@ total-exactly t p =
 
 -- ---- the calls
 
-one-plan : (t i : List ℕ) → One (LivePlan t i)
+one-plan : (t : List ℕ) (i : Token) → One (LivePlan t i)
 one-plan t i u v p q = cc
 
 one-each : (t : List ℕ) (c : Call Token) → OneEach (wordCauses t c) (callReturns t c)
@@ -107,28 +107,6 @@ word-order t (query i) = (lit< tt, tt)
 pub call-order : (t : List ℕ) (c : Call Token) → InOrder 0 (wrongLength (subject c) ∷ wrongByte (subject c) ∷ wrongTable t ∷ notSound t ∷ wordCauses t c)
 call-order t c = (lit< tt, (lit< tt, (lit< tt, (lit< tt, word-order t c))))
 
--- numbers differ where this test says so
-abbrev others : ℕ → List Cause → Bool
-others k [] = true
-others k (c ∷ cs) = not (eqb k (c .number)) && others k cs
-
-abbrev apartTest : List Cause → Bool
-apartTest [] = true
-apartTest (c ∷ cs) = not (eqb (c .number) 0) && (others (c .number) cs && apartTest cs)
-
-differ : (j k : ℕ) (b : Bool) → (not (eqb j k) && b) ≡ true → j ≡ k → ⊥
-differ j k b t = eqb-false j k (not-true (eqb j k) (and-one (not (eqb j k)) b t))
-
-others-out : (k : ℕ) (cs : List Cause) → others k cs ≡ true → NotAmong k cs
-others-out k [] t = tt
-others-out k (c ∷ cs) t = (differ k (c .number) _ t, others-out k cs (and-two (not (eqb k (c .number))) _ t))
-
-test-apart : (cs : List Cause) → apartTest cs ≡ true → Apart cs
-test-apart [] t = tt
-test-apart (c ∷ cs) t =
-    let r = and-two (not (eqb (c .number) 0)) _ t in
-    (differ (c .number) 0 _ t, (others-out (c .number) cs (and-one (others (c .number) cs) _ r), test-apart cs (and-two (others (c .number) cs) _ r)))
-
 -- no two causes of a call have one number
 pub call-apart : (t : List ℕ) (c : Call Token) → Apart (callCauses t c)
 call-apart t (add i p) = test-apart (callCauses t (add i p)) refl
@@ -144,13 +122,13 @@ one-plans t (query i) cs o = o
 
 module _ (t : List ℕ) where
   -- the model's answers by the word: change, withdrawal and query, which would leave the live words l
-  live-given : (i : List ℕ) (l : List Entry) (o : Option ℕ) → find (wordOf i) (flatState t .live) ≡ o
+  live-given : (i : Token) (l : List Entry) (o : Option ℕ) → find (wordOf i) (flatState t .live) ≡ o
       → Given (notLive t i ∷ []) (LivePlan t i) (stepLive (flatState t) l o .answer)
   live-given i l (some p) e = inr (λ v m. m .0 p e, (refl, e))
   live-given i l none e = inl (refl, ((λ p f. none≢some (sym e ∙ f)), refl))
 
   -- add
-  add-given : (i : List ℕ) (p : ℕ) (o : Option ℕ) → find (wordOf i) (flatState t .live) ≡ o
+  add-given : (i : Token) (p : ℕ) (o : Option ℕ) → find (wordOf i) (flatState t .live) ≡ o
       → Given (wordCauses t (add i p)) (callReturns t (add i p)) (stepAdd firstLevel secondLevel (flatState t) (record { word = wordOf i; plan = p }) o .answer)
   add-given i p (some q) e = inl (refl, e)
   add-given i p none e =
@@ -181,25 +159,25 @@ module _ (t : List ℕ) where
 
   module _ (c : Call Token) where
     -- a sound table answers as the model does
-    served-given : planAllowed c ≡ true → shaped t ≡ true → FlatSound t → Given (wordCauses t c) (callReturns t c) (served t (wordOf (subject c)) c .answer)
+    served-given : planAllowed c ≡ true → shaped t ≡ true → FlatSound t → Given (wordCauses t c) (callReturns t c) (served t (askOf (wordOf (subject c)) c) .answer)
     served-given f k h =
         subst⁻¹ (Given (wordCauses t c) (callReturns t c))
         (served-match t (flatState t) (sound-stands-flat t k h) (wordOf (subject c)) (word-lt (subject c)) c f .says) (step-given c)
 
-    -- the causes cs after 1, 2 and 14
+    -- the causes cs after those of the identifier and 14
     by-read : (cs : List Cause) → OneEach cs (callReturns t c) → (planAllowed c ≡ true → Given cs (callReturns t c) (callRead t c (Word (wordOf (subject c))) .answer))
-        → Exactly (wrongLength (subject c) ∷ wrongByte (subject c) ∷ (planCauses c ++ cs)) (callReturns t c) (call t c .answer)
+        → Exactly (idCauses (subject c) ++ (planCauses c ++ cs)) (callReturns t c) (call t c .answer)
     unfolding call
     by-read cs o g =
-        exactly (wrongLength (subject c) ∷ wrongByte (subject c) ∷ (planCauses c ++ cs)) (callReturns t c) (call t c .answer)
-        (one-if 1 _ (length (subject c)), (one-byte (subject c), one-plans t c cs o))
+        exactly (idCauses (subject c) ++ (planCauses c ++ cs)) (callReturns t c) (call t c .answer)
+        (one-identifier (subject c) (planCauses c ++ cs) (callReturns t c) (one-plans t c cs o))
         (identifier-given (subject c) answerOf (λ r. callRead t c (withPlan (planAllowed c) r)) (λ a. refl) (planCauses c ++ cs) (callReturns t c)
         (λ e. plan-given c (wordOf (subject c)) cs g))
 
     pub call-exactly : ((i : ℕ) → getD t i 0 < 2 ^ rows) → Exactly (callCauses t c) (callReturns t c) (call t c .answer)
     call-exactly b =
         by-read (wrongTable t ∷ notSound t ∷ wordCauses t c) (one-if 4 _ (length t), (one-if 5 _ 0, one-each t c))
-        (λ f. table-given t b answerOf (served t (wordOf (subject c)) c) (turnedDown NotSound t) (turnedDown (WrongTable (length t)) t) refl refl
+        (λ f. table-given t b answerOf (served t (askOf (wordOf (subject c)) c)) (turnedDown NotSound t) (turnedDown (WrongTable (length t)) t) refl refl
         (wordCauses t c) (callReturns t c) (served-given f))
 
     -- a sound table meets neither 4 nor 5
@@ -208,37 +186,57 @@ module _ (t : List ℕ) where
         by-read (wordCauses t c) (one-each t c)
         (λ f. subst⁻¹ (λ (o : Outcome). Given (wordCauses t c) (callReturns t c) (o .answer)) (cond-true _ _ k ∙ cond-true _ _ (stands-test t (flatState t) (sound-stands-flat t k h))) (served-given f k h))
 
--- ---- cause 14, whatever the table
+-- ---- causes 15, 1, 2 and 14, whatever the table
 
--- the numbers of the other answers
-not-14 : (k : ℕ) → eqb k 14 ≡ false → k ≡ 14 → ⊥
-not-14 k l e = true≢false (sym (eq-eqb k 14 e) ∙ l)
+-- the numbers that a call can give once its word is taken
+abbrev fromTable : List ℕ
+fromTable = 0 ∷ 4 ∷ 5 ∷ 6 ∷ 7 ∷ 8 ∷ []
 
-module _ (t : List ℕ) where
-  -- an answer with another number
+-- n is none of them
+module _ (t : List ℕ) (n : ℕ) (l : oneOf fromTable n ≡ false) where
+  -- an answer with another number than n
   abbrev Other : Outcome → Type 0
-  Other o = numberOf (o .answer) ≡ 14 → ⊥
+  Other o = numberOf (o .answer) ≡ n → ⊥
+
+  other : (k : ℕ) → oneOf fromTable k ≡ true → k ≡ n → ⊥
+  other k o e = true≢false (sym o ∙ ap (oneOf fromTable) e ∙ l)
 
   other-by : (f : Option ℕ → Outcome) → Other (f none) → ((q : ℕ) → Other (f (some q))) → (o : Option ℕ) → Other (f o)
   other-by f a b none = a
   other-by f a b (some q) = b q
 
-  other-served : (w : ℕ) (c : Call Token) → Other (served t w c)
+  other-served : (c : Call ℕ) → Other (served t c)
   unfolding served
-  other-served w (add i p) =
+  other-served (add w p) =
       let u : Table = addedTo rows solutions mixOf (tableOf t) (record { word = w; plan = p }) in
-      other-by (joined t u) (by-test Other (ltb baseLimit (length (u .base))) (λ b. not-14 8 refl) (λ b. not-14 0 refl)) (λ q. not-14 6 refl) (planIn t w)
-  other-served w (change i p) = other-by (replaced t _) (not-14 7 refl) (λ q. not-14 0 refl) (planIn t w)
-  other-served w (withdraw i) = other-by (replaced t _) (not-14 7 refl) (λ q. not-14 0 refl) (planIn t w)
-  other-served w (query i) = other-by (queried t) (not-14 7 refl) (λ q. not-14 0 refl) (planIn t w)
+      other-by (joined t u) (by-test Other (ltb baseLimit (length (u .base))) (λ b. other 8 refl) (λ b. other 0 refl)) (λ q. other 6 refl) (planIn t w)
+  other-served (change w p) = other-by (replaced t _) (other 7 refl) (λ q. other 0 refl) (planIn t w)
+  other-served (withdraw w) = other-by (replaced t _) (other 7 refl) (λ q. other 0 refl) (planIn t w)
+  other-served (query w) = other-by (queried t) (other 7 refl) (λ q. other 0 refl) (planIn t w)
 
-  pub cause-14 : (c : Call Token) → (numberOf (call t c .answer) ≡ 14) ↔ ((readOf (subject c) ≡ Word (wordOf (subject c))) × (planAllowed c ≡ false))
-  unfolding call readOf
-  cause-14 c =
+  other-word : (c : Call Token) (w : ℕ) → Other (callRead t c (Word w))
+  other-word c w = by-test Other (shaped t) (λ k. by-test Other (sound t) (λ h. other-served (askOf w c)) (λ h. other 5 refl)) (λ k. other 4 refl)
+
+module _ (t : List ℕ) (c : Call Token) where
+  -- a call gives a cause of its identifier exactly if reading that gives it
+  pub as-read : (n v : ℕ) → OfIdentifier n
+      → ((numberOf (call t c .answer) ≡ n) × (valueOf (call t c .answer) ≡ v)) ↔ ((numberOf (wordAnswer (readOf (subject c))) ≡ n) × (valueOf (wordAnswer (readOf (subject c))) ≡ v))
+  unfolding call
+  as-read n v o =
+      let l : oneOf fromTable n ≡ false = of-identifier (oneOf fromTable) n refl refl refl o in
+      by-reading (subject c)
+      (λ r. ((numberOf (callRead t c (withPlan (planAllowed c) r) .answer) ≡ n) × (valueOf (callRead t c (withPlan (planAllowed c) r) .answer) ≡ v)) ↔ ((numberOf (wordAnswer r) ≡ n) × (valueOf (wordAnswer r) ≡ v)))
+      (λ a k. (λ e. e, λ e. e)) (
+        λ e. absurd (by-test (λ (r : Read). Other t n l (callRead t c r)) (planAllowed c) (λ a. other-word t n l c (wordOf (subject c))) (λ a. eqb-false 14 n (of-identifier (eqb 14) n refl refl refl o)) (e .0)),
+        λ e. absurd (other t n l 0 refl (e .0)),
+      )
+
+  pub cause-14 : (numberOf (call t c .answer) ≡ 14) ↔ ((readOf (subject c) ≡ Word (wordOf (subject c))) × (planAllowed c ≡ false))
+  unfolding call
+  cause-14 =
       let i : Token = subject c in
-      let P : Read → Type 0 = (λ r. (numberOf (callRead t c (withPlan (planAllowed c) r) .answer) ≡ 14) ↔ ((r ≡ Word (wordOf i)) × (planAllowed c ≡ false))) in
-      by-test P (not (sized (length i))) (λ u. (λ e. absurd (not-14 1 refl e), λ q. absurd (refused≢word _ _ (q .0))))
-      (λ u. by-test P (ltb (firstRefused i) (length i)) (λ l. (λ e. absurd (not-14 2 refl e), λ q. absurd (refused≢word _ _ (q .0))))
-      (λ l. cases (planAllowed c)
-      (λ a. rw a (λ e. absurd (by-test Other (shaped t) (λ k. by-test Other (sound t) (λ h. other-served (wordOf i) c) (λ h. not-14 5 refl)) (λ k. not-14 4 refl) e), λ q. absurd (true≢false (q .1))))
-      (λ a. rw a (λ e. (refl, refl), λ q. refl))))
+      by-reading i (λ r. (numberOf (callRead t c (withPlan (planAllowed c) r) .answer) ≡ 14) ↔ ((r ≡ Word (wordOf i)) × (planAllowed c ≡ false)))
+      (λ a o. (λ e. absurd (eqb-false (numberOf a) 14 (of-identifier (λ k. eqb k 14) (numberOf a) refl refl refl o) e), λ q. absurd (refused≢word _ _ (q .0))))
+      (cases (planAllowed c)
+      (λ a. rw a (λ e. absurd (other-word t 14 refl c (wordOf i) e), λ q. absurd (true≢false (q .1))))
+      (λ a. rw a (λ e. (refl, refl), λ q. refl)))

@@ -12,13 +12,13 @@ use lib.ListN.{length}
 use Rattle.lists.proofs.Tests.{by-test}
 use Rattle.hash.specs.Mix.{mixOf}
 use Rattle.answer.specs.declared.Answer.the-variants.{Accepted}
-use Rattle.identifier.specs.Identifier.{wordOf}
+use Rattle.identifier.specs.Identifier.{Token, wordOf}
 use Rattle.identifier.specs.declared.Read.{Read}
 use Rattle.identifier.specs.declared.Read.the-variants.{Word, Refused}
 use Rattle.model.specs.Levels.{firstLevel, secondLevel}
 use Rattle.model.specs.Model as M
 use Rattle.model.specs.Model.{baseLimit, State, Call, add, change, withdraw, query, opened, base, step}
-use Rattle.model.specs.Request.{Token, wordFor, serve, Request, ask, respond, callsOf}
+use Rattle.model.specs.Request.{askOf, wordFor, serve, Request, ask, respond, callsOf}
 use Rattle.model.specs.Machine.{accepted, after, acceptedOf, Refines, Compares}
 use Rattle.model.specs.History.{model, callsIn}
 use Rattle.model.proofs.Calls.{stands-after, accepted-after}
@@ -75,7 +75,7 @@ module _ (t : List ℕ) where
   kept-replaced : (u : ℕ → Table) (o : Option ℕ) → Kept (replaced t u o)
   kept-replaced u = kept-by (replaced t u) (λ r. refl) (λ q r. absurd (true≢false r))
 
-  kept-served : (w : ℕ) (c : Call Token) → Kept (served t w c)
+  kept-served : (w : ℕ) (c : Call Token) → Kept (served t (askOf w c))
   unfolding served
   kept-served w (add i p) =
       let u : Table = addedTo rows solutions mixOf (tableOf t) (record { word = w; plan = p }) in

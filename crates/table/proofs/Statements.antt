@@ -24,15 +24,16 @@ use Rattle.answer.specs.declared.Answer.the-variants.{Accepted, NotLive, Full}
 use Rattle.answer.specs.Numbers.{numberOf, valueOf}
 use Rattle.answer.specs.Causes.{Cause, NoneMet, InOrder, Apart, Exactly}
 use Rattle.answer.proofs.Causes.{number-exactly, accepted-exactly}
-use Rattle.identifier.specs.Identifier.{wordOf, readOf}
-use Rattle.identifier.specs.Causes.{wrongLength, wrongByte}
+use Rattle.identifier.specs.Identifier.{Token, wordOf, readOf}
+use Rattle.identifier.specs.Causes.{wrongLength, wrongByte, wordAnswer}
 use Rattle.identifier.specs.declared.Read.{Read}
+use Rattle.identifier.proofs.Causes.{OfIdentifier}
 use Rattle.identifier.specs.declared.Read.the-variants.{Word}
 use Rattle.bucket.specs.declared.Bucket.{Bucket}
 use Rattle.bucket_words.specs.Words.{bucketWords, wordsOf, bucketFrom}
 use Rattle.model.specs.Levels.{firstLevel, secondLevel, passed, due}
 use Rattle.model.specs.Model.{State, Call, add, query, opened, wouldLeave, base}
-use Rattle.model.specs.Request.{Token, subject, planAllowed, wordFor, serveRead, Request, callsOf}
+use Rattle.model.specs.Request.{subject, planAllowed, wordFor, askOf, serveRead, Request, callsOf}
 use Rattle.model.specs.Machine.{accepted, after, answers, Alike, Refines}
 use Rattle.model.specs.History.{model, addsIn, withdrawalsIn, told}
 use Rattle.model.proofs.Valid.{valid-opened}
@@ -141,7 +142,12 @@ module _ (t : List ℕ) (b : (i : ℕ) → getD t i 0 < 2 ^ 64) (c : Call Token)
       → ((numberOf (call t c .answer) ≡ 0) × (valueOf (call t c .answer) ≡ v)) ↔ (NoneMet (callCauses t c) × callReturns t c v)
   call-accepted = accepted-exactly (callCauses t c) (callReturns t c) (call t c .answer) (Causes.call-apart t c) call-causes
 
--- document 02, order 3, "plan 255 given, after cause 2": 14 exactly if the bytes are an identifier and the plan may not be given, whatever the
+-- a call gives 15, 1 or 2 exactly if reading its identifier does, whatever the table
+pub as-read : (t : List ℕ) (c : Call Token) (n v : ℕ) → OfIdentifier n
+    → ((numberOf (call t c .answer) ≡ n) × (valueOf (call t c .answer) ≡ v)) ↔ ((numberOf (wordAnswer (readOf (subject c))) ≡ n) × (valueOf (wordAnswer (readOf (subject c))) ≡ v))
+as-read = Causes.as-read
+
+-- document 02, order 3, "plan 255 given, after cause 2": 14 exactly if the identifier is one and the plan may not be given, whatever the
 -- table
 pub cause-14 : (t : List ℕ) (c : Call Token) → (numberOf (call t c .answer) ≡ 14) ↔ ((readOf (subject c) ≡ Word (wordOf (subject c))) × (planAllowed c ≡ false))
 cause-14 = Causes.cause-14
@@ -154,12 +160,12 @@ total-causes = Causes.total-exactly
 pub open-order : (b1 b2 : ℕ) (t : List ℕ) → InOrder 0 (openCauses b1 b2 t)
 open-order = Causes.open-order
 
--- (14, of document 02, stands between 2 and 4: `callCauses`)
+-- (of document 02's causes 15 stands before 1, and 14 between 2 and 4: `callCauses`)
 pub call-order : (t : List ℕ) (c : Call Token) → InOrder 0 (wrongLength (subject c) ∷ wrongByte (subject c) ∷ wrongTable t ∷ notSound t ∷ wordCauses t c)
 call-order = Causes.call-order
 
--- a call that meets none of 1, 2, 14, 4 and 5 does what `served` says
-pub causes-else : (t : List ℕ) (c : Call Token) (w : ℕ) → wordFor c ≡ Word w → shaped t ≡ true → sound t ≡ true → call t c ≡ served t w c
+-- a call that meets none of 15, 1, 2, 14, 4 and 5 does what `served` says
+pub causes-else : (t : List ℕ) (c : Call Token) (w : ℕ) → wordFor c ≡ Word w → shaped t ≡ true → sound t ≡ true → call t c ≡ served t (askOf w c)
 unfolding call
 causes-else t c w e k h = ap (callRead t c) e ∙ cond-true _ _ k ∙ cond-true _ _ h
 
@@ -193,11 +199,11 @@ pub stands-one : (t : List ℕ) (s : State) → FlatStands t s → flatState t �
 stands-one = Calls.stands-shows
 
 -- so a call for a word of 64 bits leaves a sound table sound
-pub served-sound : (t : List ℕ) → shaped t ≡ true → FlatSound t → (w : ℕ) → w < 2 ^ 64 → (c : Call Token) → planAllowed c ≡ true
-    → (shaped (served t w c .table) ≡ true) × FlatSound (served t w c .table)
+pub served-sound : (t : List ℕ) → shaped t ≡ true → FlatSound t → (w : ℕ) → w < 2 ^ 64 → {I : Type 0} (c : Call I) → planAllowed c ≡ true
+    → (shaped (served t (askOf w c) .table) ≡ true) × FlatSound (served t (askOf w c) .table)
 served-sound t k h w l c f =
     let m = Calls.served-match t (flatState t) (sound-stands t k h) w l c f in
-    (m .stands .shape, Calls.stands-flat (served t w c .table) _ (m .stands))
+    (m .stands .shape, Calls.stands-flat (served t (askOf w c) .table) _ (m .stands))
 
 -- ---- sound tables, also those handed in from elsewhere
 
@@ -314,7 +320,7 @@ module _ (t : List ℕ) (o : Opened t) (ps : List Request) where
   never-4-5 q =
       subst⁻¹ (λ (a : Answer). (numberOf a ≡ 4 → ⊥) × (numberOf a ≡ 5 → ⊥)) (refines .says _ _ q (History.after-stands t o ps)) (Model.never-4-5 _ q)
 
-  -- so the answer to each further call is that of the first cause met, of 1, 2, 14 and those of its word
+  -- so the answer to each further call is that of the first cause met, of 15, 1, 2, 14 and those of its word
   pub list-causes : (c : Call Token) → Exactly (soundCauses (after tables t ps) c) (callReturns (after tables t ps) c) (call (after tables t ps) c .answer)
   list-causes c = Causes.sound-call (after tables t ps) c (always-sound .0) (always-sound .2)
 

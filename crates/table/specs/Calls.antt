@@ -1,4 +1,4 @@
--- What each call of the table answers, and every number of the table after it: for any numbers as table and any bytes as identifier.
+-- What each call of the table answers, and every number of the table after it: for any numbers as table and anything as identifier.
 -- The causes stand in the order of document 01's table; a call that is turned down leaves the table as it was.
 -- Assumes nothing.
 use Prim.Native.Nat.{ℕ, _+_}
@@ -10,10 +10,11 @@ use lib.ListN.{length, getD}
 use Rattle.hash.specs.Mix.{mixOf, unmixOf}
 use Rattle.answer.specs.declared.Answer.{Answer}
 use Rattle.answer.specs.declared.Answer.the-variants.{Accepted, WrongBuckets, WrongTable, NotSound, Live, NotLive, Full}
+use Rattle.identifier.specs.Identifier.{Token}
 use Rattle.identifier.specs.declared.Read.{Read}
 use Rattle.identifier.specs.declared.Read.the-variants.{Word, Refused}
 use Rattle.model.specs.Model.{baseLimit, Call, add, change, withdraw, query}
-use Rattle.model.specs.Request.{Token, wordFor}
+use Rattle.model.specs.Request.{askOf, wordFor}
 use Rattle.table.specs.Table as T
 use Rattle.table.specs.Table.{Table}
 use Rattle.table.specs.Layout as L
@@ -86,17 +87,17 @@ joined t u (some p) = turnedDown (Live p) t
 joined t u none =
     cond (ltb baseLimit (length (u .base))) (turnedDown Full t) (record { answer = Accepted (u .count); table = L.numbersOf u })
 
--- a call for the word w on a sound table
-unfoldable pub served : List ℕ → ℕ → Call Token → Outcome
-served t w (add i p) = joined t (T.addedTo rows (solutionsIn t) mixOf (tableOf t) (record { word = w; plan = p })) (planIn t w)
-served t w (change i p) = replaced t (T.changedIn rows (solutionsIn t) mixOf (tableOf t) w p) (planIn t w)
-served t w (withdraw i) = replaced t (T.withdrawnFrom rows (solutionsIn t) mixOf (tableOf t) w) (planIn t w)
-served t w (query i) = queried t (planIn t w)
+-- a call by its word on a sound table
+unfoldable pub served : List ℕ → Call ℕ → Outcome
+served t (add w p) = joined t (T.addedTo rows (solutionsIn t) mixOf (tableOf t) (record { word = w; plan = p })) (planIn t w)
+served t (change w p) = replaced t (T.changedIn rows (solutionsIn t) mixOf (tableOf t) w p) (planIn t w)
+served t (withdraw w) = replaced t (T.withdrawnFrom rows (solutionsIn t) mixOf (tableOf t) w) (planIn t w)
+served t (query w) = queried t (planIn t w)
 
--- the causes that every call meets first: 1, 2 and 14, 4, 5
+-- the causes that every call meets first: 15, 1, 2 and 14, 4, 5
 abbrev pub callRead : List ℕ → Call Token → Read → Outcome
 callRead t c (Refused a) = turnedDown a t
-callRead t c (Word w) = cond (shaped t) (cond (sound t) (served t w c) (turnedDown NotSound t)) (turnedDown (WrongTable (length t)) t)
+callRead t c (Word w) = cond (shaped t) (cond (sound t) (served t (askOf w c)) (turnedDown NotSound t)) (turnedDown (WrongTable (length t)) t)
 
 -- what a call does
 unfoldable pub call : List ℕ → Call Token → Outcome

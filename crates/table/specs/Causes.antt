@@ -1,5 +1,5 @@
 -- The causes of opening, of each call and of the question for a total in document 01's words and order, with what is returned with each and what an accepted call returns.
--- t is the list of the table's numbers, i any bytes as identifier; causes 1 and 2 are those of the identifier crate.
+-- t is the list of the table's numbers, i anything as identifier; causes 15, 1 and 2 are those of the identifier crate.
 -- Assumes nothing.
 use Prim.Native.Nat.{ℕ, suc, _+_, _<_}
 use mathlib.Core.Path.{_≡_}
@@ -10,11 +10,11 @@ use mathlib.Core.Option.{some}
 use lib.ListN.{length, getD}
 use Rattle.lists.specs.Entries.{find, assignable}
 use Rattle.answer.specs.Causes.{Cause, causeIf}
-use Rattle.identifier.specs.Identifier.{wordOf}
-use Rattle.identifier.specs.Causes.{wrongLength, wrongByte}
+use Rattle.identifier.specs.Identifier.{Token, wordOf}
+use Rattle.identifier.specs.Causes.{idCauses}
 use Rattle.model.specs.Levels.{firstLevel, secondLevel}
 use Rattle.model.specs.Model.{baseLimit, Call, add, change, withdraw, query, wouldLeave, base}
-use Rattle.model.specs.Request.{Token, subject}
+use Rattle.model.specs.Request.{subject}
 use Rattle.table.specs.Layout.{leading, buckets1At, buckets2At, totalsAt, inRange, lengthOf}
 use Rattle.table.specs.Calls.{rows, solutions, FlatSound}
 use Rattle.table.specs.History.{flatState}
@@ -42,7 +42,7 @@ abbrev pub notSound : List ℕ → Cause
 notSound t = causeIf 5 (FlatSound t → ⊥) 0
 
 -- the word of i is live in the table, with the plan p: it is one of the table's occupied rows and base entries
-abbrev pub LivePlan : List ℕ → List ℕ → ℕ → Type 0
+abbrev pub LivePlan : List ℕ → Token → ℕ → Type 0
 LivePlan t i p = find (wordOf i) (flatState t .live) ≡ some p
 
 -- document 02, order 3, "plan 255 given, after cause 2"; 0
@@ -50,15 +50,15 @@ abbrev pub wrongPlan : ℕ → Cause
 wrongPlan p = causeIf 14 (assignable p ≡ false) 0
 
 -- "add: word live"; its plan
-abbrev pub wordLive : List ℕ → List ℕ → Cause
+abbrev pub wordLive : List ℕ → Token → Cause
 wordLive t i = record { number = 6; met = LivePlan t i }
 
 -- "change, withdraw, query: not live"; 0
-abbrev pub notLive : List ℕ → List ℕ → Cause
+abbrev pub notLive : List ℕ → Token → Cause
 notLive t i = causeIf 7 ((p : ℕ) → LivePlan t i p → ⊥) 0
 
 -- "base list full": under the bounds that the add would leave, more than 64 words would fall to the base list; 0
-abbrev pub baseFull : List ℕ → List ℕ → ℕ → Cause
+abbrev pub baseFull : List ℕ → Token → ℕ → Cause
 baseFull t i p = causeIf 8 (baseLimit < length (base firstLevel secondLevel (wouldLeave firstLevel secondLevel (flatState t) (record { word = wordOf i; plan = p })))) 0
 
 -- ---- the causes that each can meet, and what it returns if it meets none
@@ -87,11 +87,11 @@ planCauses (query i) = []
 
 -- every call meets those of the identifier first, then that of the plan, then those of the table
 abbrev pub callCauses : List ℕ → Call Token → List Cause
-callCauses t c = wrongLength (subject c) ∷ wrongByte (subject c) ∷ (planCauses c ++ (wrongTable t ∷ notSound t ∷ wordCauses t c))
+callCauses t c = idCauses (subject c) ++ (planCauses c ++ (wrongTable t ∷ notSound t ∷ wordCauses t c))
 
 -- on a sound table: in a list of calls "the table itself never gives cause 4 or 5"
 abbrev pub soundCauses : List ℕ → Call Token → List Cause
-soundCauses t c = wrongLength (subject c) ∷ wrongByte (subject c) ∷ (planCauses c ++ wordCauses t c)
+soundCauses t c = idCauses (subject c) ++ (planCauses c ++ wordCauses t c)
 
 -- "add the live count, change and withdraw the earlier plan, query the plan": after an add the word added counts as live
 abbrev pub callReturns : List ℕ → Call Token → ℕ → Type 0

@@ -1,7 +1,7 @@
 -- A word that is not live arrives at level 1: what that leaves is document 01's add. At every number n of rows and r of solution words, and for
 -- every mix S; then at 64 and 8.
 -- Assumes nothing.
-use Prim.Native.Nat.{ℕ, zero, suc, _+_, _*_, _^_, _≤_, _<_}
+use Prim.Native.Nat.{ℕ, zero, suc, _+_, _^_, _≤_, _<_}
 use native.Mathlib.Omega.{arith}
 use mathlib.Core.Path.{_≡_, refl, sym, ap, ap₂, _∙_, subst, subst⁻¹}
 use mathlib.Core.Bool.{Bool, true, false}
@@ -22,7 +22,7 @@ use Rattle.bucket_settle.specs.declared.Settled.{Settled}
 use Rattle.bucket_settle.specs.Settle.{SoundBucket, settle}
 use Rattle.bucket_settle.specs.Outgoing.{outgoing, settledOf}
 use Rattle.model.specs.Model.{baseLimit, add}
-use Rattle.table.specs.Table.{Table, totalNumbers, withFirst, withCount, withOne, thr, index, onSecond, put, nth, bucketOf, holds, arriveAt, addedTo}
+use Rattle.table.specs.Table.{Table, totalNumbers, withFirst, withCount, withOne, thr, index, onSecond, put, bucketOf, holds, arriveAt, addedTo}
 use Rattle.table.specs.Layout.{buckets1At, liveCountAt, totalsAt, inRange, numbersOf, bucketPlace, tableFrom}
 use Rattle.table.specs.Calls.{rows, solutions, tableOf, planIn, Outcome, turnedDown, joined, served}
 use Rattle.table.proofs.Numbers.{header-read, write-count, long-numbers, read-total, write-more}
@@ -223,10 +223,10 @@ module _ (t : List ℕ) (w p : ℕ) where
       (k .0 ∙ ap Accepted (sym (g .next)) ∙ ap (λ (o : Outcome). o .answer) (sym e), k .1 ∙ sym (g .table l) ∙ ap (λ (o : Outcome). o .table) (sym e))
 
   -- the call, by the plan of w
-  pub added-live : (q : ℕ) → planIn t w ≡ some q → served t w (add [] p) ≡ turnedDown (Live q) t
+  pub added-live : (q : ℕ) → planIn t w ≡ some q → served t (add w p) ≡ turnedDown (Live q) t
   unfolding served
   added-live q e = ap (joined t added) e
 
-  pub added-gone : planIn t w ≡ none → served t w (add [] p) ≡ outcome
+  pub added-gone : planIn t w ≡ none → served t (add w p) ≡ outcome
   unfolding served
   added-gone e = ap (joined t added) e

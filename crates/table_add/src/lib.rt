@@ -12,12 +12,12 @@ use table_base::Found;
 use table_layout::Table;
 ghost use mathlib.Core.Path.{_≡_};
 ghost use mathlib.Core.Bool.{true};
-ghost use mathlib.Core.List.{[]};
 ghost use Prim.Native.Nat.{_+_, _<_, _≤_};
 ghost use lib.ListN.{length, getD};
 ghost use Rattle.lists.specs.Entries.{words, planLimit, assignable};
 ghost use Rattle.hash.specs.Mix.{mixOf};
 ghost use Rattle.answer.specs.declared.Answer.the-variants.{Accepted};
+ghost use Rattle.identifier.specs.Identifier.{token};
 ghost use Rattle.model.specs.Model.{add};
 ghost use Rattle.table.specs.Table.{withBase};
 ghost use Rattle.table.specs.Layout.{liveCountAt, numbersOf};
@@ -152,7 +152,7 @@ pub(crate) fn enter(t: &mut [u64], w: u64, plan: u64) -> Answer
 // An add of the word w.
 pub fn add_word(t: &mut [u64], w: u64, plan: u64) -> Answer
     requires { ⌜ Ready (now t) × (assignable plan ≡ true) ⌝ }
-    ensures { λ r. ⌜ (r ≡ served (now (t .entry)) w (add [] plan) .answer) × (now (t .exit) ≡ served (now (t .entry)) w (add [] plan) .table) ⌝ }
+    ensures { λ r. ⌜ (r ≡ served (now (t .entry)) (add w plan) .answer) × (now (t .exit) ≡ served (now (t .entry)) (add w plan) .table) ⌝ }
 {
     let found = table_calls::plan_in(t, w);
     match found {
@@ -162,10 +162,10 @@ pub fn add_word(t: &mut [u64], w: u64, plan: u64) -> Answer
 }
 
 // Add: accepted, the live count.
-pub fn add(t: &mut [u64], id: &[u8], plan: u8) -> Answer
-    ensures { λ r. ⌜ (r ≡ call (now (t .entry)) (add (now (id .entry)) plan) .answer) × (now (t .exit) ≡ call (now (t .entry)) (add (now (id .entry)) plan) .table) ⌝ }
+pub fn add(t: &mut [u64], kind: u8, id: &[u8], plan: u8) -> Answer
+    ensures { λ r. ⌜ (r ≡ call (now (t .entry)) (add (token kind (now (id .entry))) plan) .answer) × (now (t .exit) ≡ call (now (t .entry)) (add (token kind (now (id .entry))) plan) .table) ⌝ }
 {
-    let admitted = table_calls::admit(t, id, table_layout::assignable(plan as u64));
+    let admitted = table_calls::admit(t, kind, id, table_layout::assignable(plan as u64));
     match admitted {
         Read::Word(w) => add_word(t, w, plan as u64),
         Read::Refused(a) => a,

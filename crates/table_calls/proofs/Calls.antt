@@ -5,7 +5,7 @@ use native.Mathlib.Nat.{sub-zero}
 use native.Mathlib.Omega.{arith}
 use mathlib.Core.Path.{_≡_, refl, sym, ap, _∙_, subst, subst⁻¹}
 use mathlib.Core.Bool.{Bool, true, false}
-use mathlib.Core.List.{List, []}
+use mathlib.Core.List.{List}
 use mathlib.Core.Option.{Option, none, some}
 use lib.ListN.{length, getD, set, length-set}
 use Rattle.lists.proofs.Tests.{cases, cond-true, cond-false}
@@ -16,12 +16,12 @@ use Rattle.lists.proofs.Totals.{count-le, count-found, totals-length, totals-at
 use Rattle.hash.specs.Mix.{mixOf}
 use Rattle.answer.specs.declared.Answer.{Answer}
 use Rattle.answer.specs.declared.Answer.the-variants.{Accepted, WrongTable, NotSound, NotLive}
-use Rattle.identifier.specs.Identifier.{readOf}
+use Rattle.identifier.specs.Identifier.{Token, readOf}
 use Rattle.identifier.proofs.Causes.{refused≢word}
 use Rattle.identifier.specs.declared.Read.{Read}
 use Rattle.identifier.specs.declared.Read.the-variants.{Word, Refused}
-use Rattle.model.specs.Model.{Call, add, change, withdraw, query}
-use Rattle.model.specs.Request.{Token, planAllowed, withPlan, wordFor, askOf}
+use Rattle.model.specs.Model.{Call, change, withdraw, query}
+use Rattle.model.specs.Request.{withPlan, wordFor, askOf}
 use Rattle.table.specs.Table.{Table, totalNumbers, withCount, withTotals}
 use Rattle.table.specs.Layout.{liveCountAt, totalsAt, numbersOf, tableFrom}
 use Rattle.table.specs.Calls.{rows, solutions, tableOf, planIn, shaped, sound, Outcome, turnedDown, queried, replaced, served, callRead, call}
@@ -36,7 +36,7 @@ use Rattle.table_base.specs.Base.{foundOf}
 use Rattle.table_calls.specs.declared.Edit.{Edit}
 use Rattle.table_calls.specs.declared.Edit.the-variants.{Change, Withdraw}
 use Rattle.table_calls.specs.Ready.{Ready, admitted}
-use Rattle.table_calls.specs.Edit.{onBucket, onBase, touched, leaving, recounted, recountedIn, Movable, asked}
+use Rattle.table_calls.specs.Edit.{onBucket, onBase, touched, leaving, recounted, recountedIn, editAllowed, Movable, asked}
 
 -- ---- a word that is live, or not
 
@@ -56,16 +56,16 @@ edited d w T = withCount (touched d w T) (T .count - leaving d)
 abbrev moved : Edit → ℕ → Table → ℕ → Table
 moved d w T q = withTotals (edited d w T) (recounted d q (T .totals))
 
-edit-served : (t : List ℕ) (w : ℕ) (i : Token) (d : Edit) → served t w (asked d i) ≡ replaced t (moved d w (tableOf t)) (planIn t w)
+edit-served : (t : List ℕ) (w : ℕ) (d : Edit) → served t (asked d w) ≡ replaced t (moved d w (tableOf t)) (planIn t w)
 unfolding served
-edit-served t w i (Change p) =
+edit-served t w (Change p) =
     let d : Edit = Change p in
     ap (λ (c : ℕ). replaced t (λ q. withTotals (withCount (touched d w (tableOf t)) c) (recounted d q (tableOf t .totals))) (planIn t w))
     (touch-keeps rows solutions mixOf (tableOf t) w (onBucket d) (onBase d) ∙ sym (sub-zero (tableOf t .count)))
-edit-served t w i Withdraw = refl
+edit-served t w Withdraw = refl
 
 -- the totals of a table, moved where they lie
-moved-numbers : (d : Edit) (q : ℕ) (X : Table) → length (X .totals) ≡ totalNumbers → q < totalNumbers → planAllowed (asked d []) ≡ true
+moved-numbers : (d : Edit) (q : ℕ) (X : Table) → length (X .totals) ≡ totalNumbers → q < totalNumbers → editAllowed d ≡ true
     → numbersOf (withTotals X (recounted d q (X .totals))) ≡ recountedIn d q (numbersOf X)
 moved-numbers (Change p) q X h l f =
     let Y : Table = withTotals X (oneLess q (X .totals)) in
@@ -79,7 +79,7 @@ total-few t h p l =
     omega (arith, ap (λ (ts : List ℕ). getD ts p 0) (st .stands .totalled), totals-at totalNumbers (flatState t .live) p l, count-le p (flatState t .live), st .stands .counted)
 
 -- a live word's total can be taken one off, and no total is too large for one more
-movable : (d : Edit) (q : ℕ) (X : Table) (es : List Entry) → X .totals ≡ totalsOf totalNumbers es → q < totalNumbers → 0 < planCount q es → length es + 1 < 2 ^ 64 → planAllowed (asked d []) ≡ true
+movable : (d : Edit) (q : ℕ) (X : Table) (es : List Entry) → X .totals ≡ totalsOf totalNumbers es → q < totalNumbers → 0 < planCount q es → length es + 1 < 2 ^ 64 → editAllowed d ≡ true
     → Movable d q (numbersOf X)
 movable d q X es e l h few f = record {
   long = numbers-long;
@@ -115,12 +115,12 @@ leaving-le : (d : Edit) → leaving d ≤ 1
 leaving-le (Change q) = omega arith
 leaving-le Withdraw = omega arith
 
-module _ (t : List ℕ) (w : ℕ) (i : Token) (f : Found) (e : f ≡ foundOf (planIn t w)) where
+module _ (t : List ℕ) (w : ℕ) (f : Found) (e : f ≡ foundOf (planIn t w)) where
   module _ (p : ℕ) (l : f ≡ Plan p) where
     pub live : planIn t w ≡ some p
     live = found-some (planIn t w) p (sym e ∙ l)
 
-    pub query-live : served t w (query i) ≡ record { answer = Accepted p; table = t }
+    pub query-live : served t (query w) ≡ record { answer = Accepted p; table = t }
     unfolding served
     query-live = ap (queried t) live
 
@@ -140,7 +140,7 @@ module _ (t : List ℕ) (w : ℕ) (i : Token) (f : Found) (e : f ≡ foundOf (pl
       plan-small = st .stands .small _ (find-mem w p (flatState t .live) found) .1
 
       -- the table once it is touched and the live count is written
-      module _ (d : Edit) (pf : planAllowed (asked d []) ≡ true) (ys : List ℕ) (y : ys ≡ numbersOf (touched d w (tableOf t))) where
+      module _ (d : Edit) (pf : editAllowed d ≡ true) (ys : List ℕ) (y : ys ≡ numbersOf (touched d w (tableOf t))) where
         abbrev T : Table
         T = tableOf t
 
@@ -159,9 +159,9 @@ module _ (t : List ℕ) (w : ℕ) (i : Token) (f : Found) (e : f ≡ foundOf (pl
             subst (Movable d p) numbers-X
             (movable d p X (flatState t .live) (totals-stay ∙ st .stands .totalled) plan-small (count-found w p (flatState t .live) found) (subst (λ (k : ℕ). k + 1 < 2 ^ 64) (st .stands .counted) (live-room h)) pf)
 
-        pub edit-live : served t w (asked d i) ≡ record { answer = Accepted p; table = recountedIn d p (set ys liveCountAt (getD t liveCountAt 0 - leaving d)) }
+        pub edit-live : served t (asked d w) ≡ record { answer = Accepted p; table = recountedIn d p (set ys liveCountAt (getD t liveCountAt 0 - leaving d)) }
         edit-live =
-            edit-served t w i d ∙ ap (replaced t (moved d w T)) live
+            edit-served t w d ∙ ap (replaced t (moved d w T)) live
             ∙ ap {B = Outcome} (λ l. record { answer = Accepted p; table = l })
             (ap (λ (ts : List ℕ). numbersOf (withTotals X (recounted d p ts))) (sym totals-stay)
             ∙ moved-numbers d p X (ap length (totals-stay ∙ st .stands .totalled) ∙ totals-length totalNumbers (flatState t .live)) plan-small pf ∙ ap (recountedIn d p) numbers-X)
@@ -170,46 +170,38 @@ module _ (t : List ℕ) (w : ℕ) (i : Token) (f : Found) (e : f ≡ foundOf (pl
     pub gone : planIn t w ≡ none
     gone = found-none (planIn t w) (sym e ∙ l)
 
-    pub query-gone : served t w (query i) ≡ turnedDown NotLive t
+    pub query-gone : served t (query w) ≡ turnedDown NotLive t
     unfolding served
     query-gone = ap (queried t) gone
 
-    pub edit-gone : (d : Edit) → served t w (asked d i) ≡ turnedDown NotLive t
-    edit-gone d = edit-served t w i d ∙ ap (replaced t (moved d w (tableOf t))) gone
+    pub edit-gone : (d : Edit) → served t (asked d w) ≡ turnedDown NotLive t
+    edit-gone d = edit-served t w d ∙ ap (replaced t (moved d w (tableOf t))) gone
 
 -- ---- the causes before that
 
--- the identifier plays no part once its word is known
-by-word : (t : List ℕ) (w : ℕ) (c : Call Token) → served t w c ≡ served t w (askOf [] c)
-unfolding served
-by-word t w (add i p) = refl
-by-word t w (change i p) = refl
-by-word t w (withdraw i) = refl
-by-word t w (query i) = refl
-
 abbrev after : List ℕ → Call Token → Read → Outcome
 after t c (Refused a) = turnedDown a t
-after t c (Word w) = served t w c
+after t c (Word w) = served t (askOf w c)
 
 after-admitted : (t : List ℕ) (c : Call Token) (x : Read) → callRead t c x ≡ after t c (admitted t x)
 after-admitted t c (Refused a) = refl
 after-admitted t c (Word w) = cases (shaped t) (λ p. rw p (cases (sound t) (λ q. rw q) (λ q. rw q))) (λ p. rw p)
 
 module _ (t : List ℕ) (c : Call Token) (x : Read) (e : x ≡ admitted t (wordFor c)) where
-  pub call-word : (w : ℕ) → x ≡ Word w → call t c ≡ served t w (askOf [] c)
+  pub call-word : (w : ℕ) → x ≡ Word w → call t c ≡ served t (askOf w c)
   unfolding call
-  call-word w q = after-admitted t c (wordFor c) ∙ ap (after t c) (sym e ∙ q) ∙ by-word t w c
+  call-word w q = after-admitted t c (wordFor c) ∙ ap (after t c) (sym e ∙ q)
 
   pub call-refused : (a : Answer) → x ≡ Refused a → call t c ≡ turnedDown a t
   unfolding call
   call-refused a q = after-admitted t c (wordFor c) ∙ ap (after t c) (sym e ∙ q)
 
 -- the same for an edit
-pub edit-word : (t : List ℕ) (i : Token) (d : Edit) (x : Read) → x ≡ admitted t (withPlan (planAllowed (asked d [])) (readOf i)) → (w : ℕ) → x ≡ Word w → call t (asked d i) ≡ served t w (asked d [])
+pub edit-word : (t : List ℕ) (i : Token) (d : Edit) (x : Read) → x ≡ admitted t (withPlan (editAllowed d) (readOf i)) → (w : ℕ) → x ≡ Word w → call t (asked d i) ≡ served t (asked d w)
 edit-word t i (Change q) x = call-word t (change i q) x
 edit-word t i Withdraw x = call-word t (withdraw i) x
 
-pub edit-refused : (t : List ℕ) (i : Token) (d : Edit) (x : Read) → x ≡ admitted t (withPlan (planAllowed (asked d [])) (readOf i)) → (a : Answer) → x ≡ Refused a → call t (asked d i) ≡ turnedDown a t
+pub edit-refused : (t : List ℕ) (i : Token) (d : Edit) (x : Read) → x ≡ admitted t (withPlan (editAllowed d) (readOf i)) → (a : Answer) → x ≡ Refused a → call t (asked d i) ≡ turnedDown a t
 edit-refused t i (Change q) x = call-refused t (change i q) x
 edit-refused t i Withdraw x = call-refused t (withdraw i) x
 

@@ -2,16 +2,15 @@
 -- Assumes nothing.
 use Prim.Native.Nat.{ℕ, _+_, _^_, _≤_, _<_}
 use mathlib.Core.Path.{_≡_}
-use mathlib.Core.Bool.{true}
-use mathlib.Core.List.{List, []}
+use mathlib.Core.Bool.{Bool, true}
+use mathlib.Core.List.{List}
 use lib.ListN.{length, getD}
-use Rattle.lists.specs.Entries.{Entry, update, remove}
+use Rattle.lists.specs.Entries.{Entry, update, remove, assignable}
 use Rattle.lists.specs.Totals.{oneMore, oneLess}
 use Rattle.hash.specs.Mix.{mixOf}
 use Rattle.bucket.specs.declared.Bucket.{Bucket}
 use Rattle.bucket.specs.Bucket as B
 use Rattle.model.specs.Model.{Call, change, withdraw}
-use Rattle.model.specs.Request.{Token, planAllowed}
 use Rattle.table.specs.Table.{Table, totalNumbers, touch}
 use Rattle.table.specs.Layout.{totalsAt}
 use Rattle.table.specs.Calls.{rows, solutions}
@@ -47,15 +46,20 @@ abbrev pub recountedIn : Edit → ℕ → List ℕ → List ℕ
 recountedIn (Change p) q t = oneMore (totalsAt + p) (oneLess (totalsAt + q) t)
 recountedIn Withdraw q t = oneLess (totalsAt + q) t
 
--- the call for it
-abbrev pub asked : Edit → Token → Call Token
+-- the call for it, of the identifier or word i
+abbrev pub asked : {I : Type 0} → Edit → I → Call I
 asked (Change p) i = change i p
 asked Withdraw i = withdraw i
+
+-- the plan that it gives, if it gives one, may be given
+abbrev pub editAllowed : Edit → Bool
+editAllowed (Change p) = assignable p
+editAllowed Withdraw = true
 
 -- the totals of t can be moved so: that of q is not 0, and there is room for one more in each
 pub record Movable (d : Edit) (q : ℕ) (t : List ℕ) : Type 0 where
   pub long : totalsAt + totalNumbers ≤ length t
   pub fits : q < totalNumbers
   pub some : 0 < getD t (totalsAt + q) 0
-  pub plan : planAllowed (asked d []) ≡ true
+  pub plan : editAllowed d ≡ true
   pub room : (p : ℕ) → p < totalNumbers → getD (oneLess (totalsAt + q) t) (totalsAt + p) 0 + 1 < 2 ^ 64

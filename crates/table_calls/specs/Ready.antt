@@ -1,4 +1,4 @@
--- What every call of a table but opening tests first: causes 1 and 2 of document 01, 14 of document 02, 4 and 5 of document 01, in this order.
+-- What every call of a table but opening tests first: causes 15 (document 02), 1, 2, 14 (document 02), 4 and 5, in this order.
 -- Assumes nothing.
 use mathlib.Core.Path.{_≡_}
 use mathlib.Core.Bool.{true, cond}

@@ -1,4 +1,4 @@
-// The calls of document 01's table on a lent slice of any length and contents, with an identifier of any bytes: query, change and
+// The calls of document 01's table on a lent slice of any length and contents, with anything as identifier: query, change and
 // withdrawal; and the total of a plan, document 02's order 2. Each is an equation with a definition of the crate table (specs/Calls.antt): the answer, causes in document 01's order, and
 // every number of the table afterwards. specs/Ready.antt has what every call tests first; the functions by word, which ask for a table
 // that passes, are for callers that know it does. proofs/Touched.antt has what one touched bucket or base list does to the numbers.
@@ -10,7 +10,6 @@ use identifier::Read;
 use table_base::Found;
 use table_layout::Table;
 ghost use mathlib.Core.Path.{_≡_};
-ghost use mathlib.Core.List.{[]};
 ghost use mathlib.Core.Bool.{true};
 ghost use Prim.Native.Nat.{_+_, _<_, _≤_};
 ghost use lib.ListN.{length, getD};
@@ -18,16 +17,16 @@ ghost use Rattle.lists.specs.Entries.{assignable};
 ghost use Rattle.bucket_words.specs.Words.{bucketFrom, wordsOf};
 ghost use Rattle.bucket_settle.specs.Settle.{planOf};
 ghost use Rattle.table_base.specs.Base.{Pairs, foundOf};
-ghost use Rattle.identifier.specs.Identifier.{readOf};
+ghost use Rattle.identifier.specs.Identifier.{token, readOf};
 ghost use Rattle.identifier.specs.declared.Read.the-variants.{Word};
 ghost use Rattle.model.specs.Model.{baseLimit, change, withdraw, query};
-ghost use Rattle.model.specs.Request.{planAllowed, withPlan};
+ghost use Rattle.model.specs.Request.{withPlan};
 ghost use Rattle.answer.specs.declared.Answer.the-variants.{Accepted};
 ghost use Rattle.table.specs.Table.{totalNumbers};
 ghost use Rattle.table.specs.Layout.{totalsAt, pairsFrom, basePairs, numbersOf};
 ghost use Rattle.table.specs.Calls.{rows, solutions, tableOf, planIn, shaped, served, call, totalCall};
 ghost use Rattle.table_calls.specs.Ready.{Ready, admitted};
-ghost use Rattle.table_calls.specs.Edit.{onBucket, onBase, touched, leaving, recountedIn, Movable, asked};
+ghost use Rattle.table_calls.specs.Edit.{onBucket, onBase, touched, leaving, recountedIn, editAllowed, Movable, asked};
 
 // The plan of v in a bucket, if it is live there.
 pub(crate) fn plan_of(b: Bucket, v: u64) -> Found
@@ -137,7 +136,7 @@ pub(crate) fn touch(t: &mut [u64], w: u64, edit: Edit)
 // A query for the word w.
 pub fn query_word(t: &[u64], w: u64) -> Answer
     requires { ⌜ Ready (now t) ⌝ }
-    ensures { λ r. ⌜ (r ≡ served (now (t .entry)) w (query []) .answer) × (now (t .exit) ≡ served (now (t .entry)) w (query []) .table) ⌝ }
+    ensures { λ r. ⌜ (r ≡ served (now (t .entry)) (query w) .answer) × (now (t .exit) ≡ served (now (t .entry)) (query w) .table) ⌝ }
 {
     let found = plan_in(t, w);
     match found {
@@ -160,8 +159,8 @@ pub(crate) fn recount(t: &mut [u64], q: u64, edit: Edit)
 
 // The edit of the word w: accepted, the earlier plan.
 pub(crate) fn edit_word(t: &mut [u64], w: u64, edit: Edit) -> Answer
-    requires { ⌜ Ready (now t) × (planAllowed (asked edit []) ≡ true) ⌝ }
-    ensures { λ r. ⌜ (r ≡ served (now (t .entry)) w (asked edit []) .answer) × (now (t .exit) ≡ served (now (t .entry)) w (asked edit []) .table) ⌝ }
+    requires { ⌜ Ready (now t) × (editAllowed edit ≡ true) ⌝ }
+    ensures { λ r. ⌜ (r ≡ served (now (t .entry)) (asked edit w) .answer) × (now (t .exit) ≡ served (now (t .entry)) (asked edit w) .table) ⌝ }
 {
     let found = plan_in(t, w);
     match found {
@@ -179,7 +178,7 @@ pub(crate) fn edit_word(t: &mut [u64], w: u64, edit: Edit) -> Answer
 // A change of the word w.
 pub fn change_word(t: &mut [u64], w: u64, plan: u64) -> Answer
     requires { ⌜ Ready (now t) × (assignable plan ≡ true) ⌝ }
-    ensures { λ r. ⌜ (r ≡ served (now (t .entry)) w (change [] plan) .answer) × (now (t .exit) ≡ served (now (t .entry)) w (change [] plan) .table) ⌝ }
+    ensures { λ r. ⌜ (r ≡ served (now (t .entry)) (change w plan) .answer) × (now (t .exit) ≡ served (now (t .entry)) (change w plan) .table) ⌝ }
 {
     edit_word(t, w, Edit::Change(plan))
 }
@@ -187,17 +186,17 @@ pub fn change_word(t: &mut [u64], w: u64, plan: u64) -> Answer
 // A withdrawal of the word w.
 pub fn withdraw_word(t: &mut [u64], w: u64) -> Answer
     requires { ⌜ Ready (now t) ⌝ }
-    ensures { λ r. ⌜ (r ≡ served (now (t .entry)) w (withdraw []) .answer) × (now (t .exit) ≡ served (now (t .entry)) w (withdraw []) .table) ⌝ }
+    ensures { λ r. ⌜ (r ≡ served (now (t .entry)) (withdraw w) .answer) × (now (t .exit) ≡ served (now (t .entry)) (withdraw w) .table) ⌝ }
 {
     edit_word(t, w, Edit::Withdraw)
 }
 
-// The word that a call is for, or the cause that turns it down before the table is looked at: 1, 2, 14. Whether the plan that it gives, if it
-// gives one, may be given: `allowed`.
-pub fn word_for(id: &[u8], allowed: bool) -> Read
-    ensures { λ r. ⌜ r ≡ withPlan allowed (readOf (now (id .entry))) ⌝ }
+// The word that a call is for, or the cause that turns it down before the table is looked at: 15, 1, 2, 14. Whether the plan that it gives,
+// if it gives one, may be given: `allowed`.
+pub fn word_for(kind: u8, id: &[u8], allowed: bool) -> Read
+    ensures { λ r. ⌜ r ≡ withPlan allowed (readOf (token kind (now (id .entry)))) ⌝ }
 {
-    let read = Identifier::read(id);
+    let read = Identifier::read(kind, id.len(), id);
     match read {
         Read::Word(w) => {
             if allowed {
@@ -222,11 +221,11 @@ pub(crate) fn admit_word(t: &[u64], word: u64) -> Read
     Read::Refused(Answer::WrongTable(t.len() as u64))
 }
 
-// The word that a call is for, or the answer that turns it down: causes 1, 2, 14, 4, 5.
-pub fn admit(t: &[u64], id: &[u8], allowed: bool) -> Read
-    ensures { λ r. ⌜ r ≡ admitted (now (t .entry)) (withPlan allowed (readOf (now (id .entry)))) ⌝ }
+// The word that a call is for, or the answer that turns it down: causes 15, 1, 2, 14, 4, 5.
+pub fn admit(t: &[u64], kind: u8, id: &[u8], allowed: bool) -> Read
+    ensures { λ r. ⌜ r ≡ admitted (now (t .entry)) (withPlan allowed (readOf (token kind (now (id .entry))))) ⌝ }
 {
-    let word = word_for(id, allowed);
+    let word = word_for(kind, id, allowed);
     match word {
         Read::Word(w) => admit_word(t, w),
         Read::Refused(a) => Read::Refused(a),
@@ -234,10 +233,10 @@ pub fn admit(t: &[u64], id: &[u8], allowed: bool) -> Read
 }
 
 // Query: accepted, the plan.
-pub fn query(t: &[u64], id: &[u8]) -> Answer
-    ensures { λ r. ⌜ (r ≡ call (now (t .entry)) (query (now (id .entry))) .answer) × (now (t .exit) ≡ call (now (t .entry)) (query (now (id .entry))) .table) ⌝ }
+pub fn query(t: &[u64], kind: u8, id: &[u8]) -> Answer
+    ensures { λ r. ⌜ (r ≡ call (now (t .entry)) (query (token kind (now (id .entry)))) .answer) × (now (t .exit) ≡ call (now (t .entry)) (query (token kind (now (id .entry)))) .table) ⌝ }
 {
-    let admitted = admit(t, id, true);
+    let admitted = admit(t, kind, id, true);
     match admitted {
         Read::Word(w) => query_word(t, w),
         Read::Refused(a) => a,
@@ -246,7 +245,7 @@ pub fn query(t: &[u64], id: &[u8]) -> Answer
 
 // The plan that an edit gives, if it gives one, may be given.
 pub(crate) fn plan_allowed(edit: Edit) -> bool
-    ensures { λ r. ⌜ r ≡ planAllowed (asked edit []) ⌝ }
+    ensures { λ r. ⌜ r ≡ editAllowed edit ⌝ }
 {
     match edit {
         Edit::Change(plan) => table_layout::assignable(plan),
@@ -255,10 +254,10 @@ pub(crate) fn plan_allowed(edit: Edit) -> bool
 }
 
 // The edit of an identifier's word.
-pub(crate) fn edit_identifier(t: &mut [u64], id: &[u8], edit: Edit) -> Answer
-    ensures { λ r. ⌜ (r ≡ call (now (t .entry)) (asked edit (now (id .entry))) .answer) × (now (t .exit) ≡ call (now (t .entry)) (asked edit (now (id .entry))) .table) ⌝ }
+pub(crate) fn edit_identifier(t: &mut [u64], kind: u8, id: &[u8], edit: Edit) -> Answer
+    ensures { λ r. ⌜ (r ≡ call (now (t .entry)) (asked edit (token kind (now (id .entry)))) .answer) × (now (t .exit) ≡ call (now (t .entry)) (asked edit (token kind (now (id .entry)))) .table) ⌝ }
 {
-    let admitted = admit(t, id, plan_allowed(edit));
+    let admitted = admit(t, kind, id, plan_allowed(edit));
     match admitted {
         Read::Word(w) => edit_word(t, w, edit),
         Read::Refused(a) => a,
@@ -266,17 +265,17 @@ pub(crate) fn edit_identifier(t: &mut [u64], id: &[u8], edit: Edit) -> Answer
 }
 
 // Change: accepted, the earlier plan.
-pub fn change(t: &mut [u64], id: &[u8], plan: u8) -> Answer
-    ensures { λ r. ⌜ (r ≡ call (now (t .entry)) (change (now (id .entry)) plan) .answer) × (now (t .exit) ≡ call (now (t .entry)) (change (now (id .entry)) plan) .table) ⌝ }
+pub fn change(t: &mut [u64], kind: u8, id: &[u8], plan: u8) -> Answer
+    ensures { λ r. ⌜ (r ≡ call (now (t .entry)) (change (token kind (now (id .entry))) plan) .answer) × (now (t .exit) ≡ call (now (t .entry)) (change (token kind (now (id .entry))) plan) .table) ⌝ }
 {
-    edit_identifier(t, id, Edit::Change(plan as u64))
+    edit_identifier(t, kind, id, Edit::Change(plan as u64))
 }
 
 // Withdrawal: accepted, the earlier plan.
-pub fn withdraw(t: &mut [u64], id: &[u8]) -> Answer
-    ensures { λ r. ⌜ (r ≡ call (now (t .entry)) (withdraw (now (id .entry))) .answer) × (now (t .exit) ≡ call (now (t .entry)) (withdraw (now (id .entry))) .table) ⌝ }
+pub fn withdraw(t: &mut [u64], kind: u8, id: &[u8]) -> Answer
+    ensures { λ r. ⌜ (r ≡ call (now (t .entry)) (withdraw (token kind (now (id .entry)))) .answer) × (now (t .exit) ≡ call (now (t .entry)) (withdraw (token kind (now (id .entry)))) .table) ⌝ }
 {
-    edit_identifier(t, id, Edit::Withdraw)
+    edit_identifier(t, kind, id, Edit::Withdraw)
 }
 
 // The total of a plan in a table of the right shape, whatever else it holds.

@@ -37,26 +37,46 @@ fn compare_in(
     println!("{name:<48} {a:>10.1} {b:>10.1} {:>8.2}", a / b);
 }
 
+/// A kind and the bytes of an identifier.
+struct Card {
+    kind: u8,
+    id: Vec<u8>,
+}
+
+impl Card {
+    fn word(&self) -> u64 {
+        identifier::word(self.kind, &self.id).expect("an identifier")
+    }
+}
+
+/// One of the seven kinds.
+fn some_kind(rng: &mut Rng) -> u8 {
+    1 + rng.below(7) as u8
+}
+
 /// Identifiers of these lengths in turn, small letters, to their words.
 fn words(rng: &mut Rng, name: &str, lengths: RangeInclusive<usize>) {
     const N: u32 = 1000;
-    let ids: Vec<Vec<u8>> = lengths
+    let cards: Vec<Card> = lengths
         .cycle()
         .take(N as usize)
-        .map(|length| (0..length).map(|_| b'a' + rng.below(26) as u8).collect())
+        .map(|length| Card {
+            kind: some_kind(rng),
+            id: (0..length).map(|_| b'a' + rng.below(26) as u8).collect(),
+        })
         .collect();
     compare_in(
         20 * TURNS,
         name,
         N,
         || {
-            for id in &ids {
-                black_box(ours::word(black_box(id)));
+            for card in &cards {
+                black_box(ours::word(card.kind, black_box(&card.id)));
             }
         },
         || {
-            for id in &ids {
-                let _ = black_box(identifier::word(black_box(id)));
+            for card in &cards {
+                let _ = black_box(identifier::word(card.kind, black_box(&card.id)));
             }
         },
     );
@@ -64,8 +84,8 @@ fn words(rng: &mut Rng, name: &str, lengths: RangeInclusive<usize>) {
 
 /// All lengths together; then some by themselves, since the table of bytes is made anew at each of our calls.
 fn identifiers(rng: &mut Rng) {
-    words(rng, "identifier of 1 to 20 bytes to its word", 1..=20);
-    for length in [1, 8, 20] {
+    words(rng, "identifier of 1 to 36 bytes to its word", 1..=36);
+    for length in [1, 8, 20, 36] {
         words(rng, &format!("  of {length} alone"), length..=length);
     }
 }
@@ -188,10 +208,13 @@ fn buckets(rng: &mut Rng) {
     }
 }
 
-/// Identifiers, all different.
-fn cards(rng: &mut Rng, count: usize) -> Vec<Vec<u8>> {
+/// Identifiers of every kind, all different.
+fn cards(rng: &mut Rng, count: usize) -> Vec<Card> {
     (0..count)
-        .map(|i| format!("{i:X}-{:010X}", rng.next() >> 24).into_bytes())
+        .map(|i| Card {
+            kind: some_kind(rng),
+            id: format!("{i:X}-{:010X}", rng.next() >> 24).into_bytes(),
+        })
         .collect()
 }
 
@@ -201,17 +224,17 @@ fn some_plan(rng: &mut Rng) -> u8 {
 }
 
 /// A table filled until its base list has `base` entries and the next word would raise them, and the identifiers in it.
-fn filled_table(rng: &mut Rng, b1: u64, b2: u64, base: u64) -> (Vec<u64>, Vec<Vec<u8>>) {
+fn filled_table(rng: &mut Rng, b1: u64, b2: u64, base: u64) -> (Vec<u64>, Vec<Card>) {
     let shape = Shape::new(b1, b2).expect("in range");
     let mut t = vec![0; shape.table_len()];
     table::open(&mut t, b1, b2);
     let mut inside = Vec::new();
-    for id in cards(rng, 8000) {
-        let word = identifier::word(&id).expect("an identifier");
+    for card in cards(rng, 8000) {
         let mut next = t.clone();
-        if shape.add(&mut next, word, some_plan(rng)).is_ok() && next[table::BASE_COUNT] <= base {
+        let added = shape.add(&mut next, card.word(), some_plan(rng));
+        if added.is_ok() && next[table::BASE_COUNT] <= base {
             t = next;
-            inside.push(id);
+            inside.push(card);
         } else if t[table::BASE_COUNT] == base {
             break;
         }
@@ -222,22 +245,32 @@ fn filled_table(rng: &mut Rng, b1: u64, b2: u64, base: u64) -> (Vec<u64>, Vec<Ve
 
 /// Adds until the first refusal, through the call that checks the table; what it made of the table.
 fn fill(
-    ids: &[Vec<u8>],
+    cards: &[Card],
     b1: u64,
     b2: u64,
-    add: impl Fn(&mut [u64], &[u8]) -> bool,
+    add: impl Fn(&mut [u64], u8, &[u8]) -> bool,
 ) -> (u32, Vec<u64>) {
     let mut t = vec![0; Shape::new(b1, b2).expect("in range").table_len()];
     table::open(&mut t, b1, b2);
-    let taken = ids.iter().take_while(|id| add(&mut t, id)).count();
-    (taken as u32, t)
+    let taken = cards
+        .iter()
+        .take_while(|card| add(&mut t, card.kind, &card.id));
+    (taken.count() as u32, t)
 }
 
 /// Adds to an empty table until the first refusal.
 fn filling(rng: &mut Rng, b1: u64, b2: u64) {
-    let ids = cards(rng, 8000);
-    let ours = || fill(&ids, b1, b2, |t, id| ours::add(t, id, 7).cause == 0);
-    let theirs = || fill(&ids, b1, b2, |t, id| table::add(t, id, 7).cause == 0);
+    let cards = cards(rng, 8000);
+    let ours = || {
+        fill(&cards, b1, b2, |t, kind, id| {
+            ours::add(t, kind, id, 7).is_accepted()
+        })
+    };
+    let theirs = || {
+        fill(&cards, b1, b2, |t, kind, id| {
+            table::add(t, kind, id, 7).is_accepted()
+        })
+    };
     let (taken, t) = ours();
     assert_eq!((taken, t), theirs());
     compare_in(
@@ -255,10 +288,7 @@ fn filling(rng: &mut Rng, b1: u64, b2: u64) {
 
 /// The same by words, through the inner call, which tests no table.
 fn filling_words(rng: &mut Rng, b1: u64, b2: u64) {
-    let words: Vec<u64> = cards(rng, 8000)
-        .iter()
-        .map(|id| identifier::word(id).expect("an identifier"))
-        .collect();
+    let words: Vec<u64> = cards(rng, 8000).iter().map(Card::word).collect();
     let shape = Shape::new(b1, b2).expect("in range");
     let theirs = |t: &mut [u64]| {
         table::open(t, b1, b2);
@@ -287,7 +317,7 @@ fn tables(rng: &mut Rng) {
     const N: u32 = 50;
     for (b1, b2) in [(1, 1), (12, 8), (48, 32)] {
         let (t, inside) = filled_table(rng, b1, b2, 64);
-        let asked: Vec<&Vec<u8>> = (0..N).map(|_| rng.pick::<Vec<u8>>(&inside)).collect();
+        let asked: Vec<&Card> = (0..N).map(|_| rng.pick(&inside)).collect();
         let (mut a, mut b) = (t.clone(), t.clone());
         println!(
             "-- {b1} and {b2} buckets, {} live words, 64 of them in the base list",
@@ -297,13 +327,13 @@ fn tables(rng: &mut Rng) {
             "query",
             N,
             || {
-                asked.iter().for_each(|id| {
-                    black_box(ours::query(&t, id));
+                asked.iter().for_each(|card| {
+                    black_box(ours::query(&t, card.kind, &card.id));
                 })
             },
             || {
-                asked.iter().for_each(|id| {
-                    black_box(table::query(&t, id));
+                asked.iter().for_each(|card| {
+                    black_box(table::query(&t, card.kind, &card.id));
                 })
             },
         );
@@ -311,13 +341,13 @@ fn tables(rng: &mut Rng) {
             "change",
             N,
             || {
-                asked.iter().for_each(|id| {
-                    black_box(ours::change(&mut a, id, 7));
+                asked.iter().for_each(|card| {
+                    black_box(ours::change(&mut a, card.kind, &card.id, 7));
                 })
             },
             || {
-                asked.iter().for_each(|id| {
-                    black_box(table::change(&mut b, id, 7));
+                asked.iter().for_each(|card| {
+                    black_box(table::change(&mut b, card.kind, &card.id, 7));
                 })
             },
         );
@@ -325,15 +355,15 @@ fn tables(rng: &mut Rng) {
             "withdraw and add",
             N,
             || {
-                for id in &asked {
-                    black_box(ours::withdraw(&mut a, id));
-                    black_box(ours::add(&mut a, id, 9));
+                for card in &asked {
+                    black_box(ours::withdraw(&mut a, card.kind, &card.id));
+                    black_box(ours::add(&mut a, card.kind, &card.id, 9));
                 }
             },
             || {
-                for id in &asked {
-                    black_box(table::withdraw(&mut b, id));
-                    black_box(table::add(&mut b, id, 9));
+                for card in &asked {
+                    black_box(table::withdraw(&mut b, card.kind, &card.id));
+                    black_box(table::add(&mut b, card.kind, &card.id, 9));
                 }
             },
         );
@@ -359,22 +389,22 @@ fn tables(rng: &mut Rng) {
 }
 
 /// Lookups of live identifiers in the plane of `t`, which has `base` base records.
-fn lookups(rng: &mut Rng, t: &[u64], inside: &[Vec<u8>], base: u64) {
+fn lookups(rng: &mut Rng, t: &[u64], inside: &[Card], base: u64) {
     const N: u32 = 1000;
     let mut bytes = vec![0; 6000];
     let length = plane::write(t, &mut bytes).value as usize;
-    let asked: Vec<&Vec<u8>> = (0..N).map(|_| rng.pick::<Vec<u8>>(inside)).collect();
+    let asked: Vec<&Card> = (0..N).map(|_| rng.pick(inside)).collect();
     compare(
         &format!("plane lookup, {base} base records"),
         N,
         || {
-            asked.iter().for_each(|id| {
-                black_box(ours::lookup(id, &bytes[..length]));
+            asked.iter().for_each(|card| {
+                black_box(ours::lookup(card.kind, &card.id, &bytes[..length]));
             })
         },
         || {
-            asked.iter().for_each(|id| {
-                black_box(plane::lookup(id, &bytes[..length]));
+            asked.iter().for_each(|card| {
+                black_box(plane::lookup(card.kind, &card.id, &bytes[..length]));
             })
         },
     );
@@ -410,14 +440,14 @@ fn opening_and_withdrawing(rng: &mut Rng) {
             N,
             || {
                 a.copy_from_slice(&t);
-                inside.iter().for_each(|id| {
-                    black_box(ours::withdraw(&mut a, id));
+                inside.iter().for_each(|card| {
+                    black_box(ours::withdraw(&mut a, card.kind, &card.id));
                 })
             },
             || {
                 b.copy_from_slice(&t);
-                inside.iter().for_each(|id| {
-                    black_box(table::withdraw(&mut b, id));
+                inside.iter().for_each(|card| {
+                    black_box(table::withdraw(&mut b, card.kind, &card.id));
                 })
             },
         );
@@ -459,8 +489,9 @@ fn patches(rng: &mut Rng) {
     let mut old = vec![0; 5930];
     assert!(plane::write(&t, &mut old).is_accepted());
     let mut one = old.clone();
-    let plan = table::query(&t, &inside[0]).value as u8;
-    assert!(table::change(&mut t, &inside[0], (plan + 1) % 255).is_accepted());
+    let Card { kind, id } = &inside[0];
+    let plan = table::query(&t, *kind, id).value as u8;
+    assert!(table::change(&mut t, *kind, id, (plan + 1) % 255).is_accepted());
     assert!(plane::write(&t, &mut one).is_accepted());
     // One bit of each bucket's solutions, and of each base word.
     let (mut buckets, mut base) = (old.clone(), old.clone());
@@ -527,17 +558,19 @@ fn full_input(mut line: impl FnMut() -> String) -> Vec<u8> {
 fn line_program(rng: &mut Rng) {
     println!("-- 64 KiB through the line program, 48 and 32 buckets: milliseconds");
     let mut next = 0;
+    // Each seven with the same letters.
+    let fields = |n: u64| format!("{} {:X}", 1 + n % 7, n / 7);
     let adds = full_input(|| {
         next += 1;
-        format!("add {next:X} {}", next % 255)
+        format!("add {} {}", fields(next), next % 255)
     });
     let mixed = full_input(|| {
-        let (id, plan) = (rng.below(3000), some_plan(rng));
+        let (id, plan) = (fields(rng.below(3000)), some_plan(rng));
         match rng.below(10) {
-            0..=4 => format!("add {id:X} {plan}"),
-            5 => format!("del {id:X}"),
-            6..=7 => format!("set {id:X} {plan}"),
-            _ => format!("get {id:X}"),
+            0..=4 => format!("add {id} {plan}"),
+            5 => format!("del {id}"),
+            6..=7 => format!("set {id} {plan}"),
+            _ => format!("get {id}"),
         }
     });
     let openings = full_input(|| "open 48 32".to_string());

@@ -34,17 +34,23 @@ pub fn fold(byte: u8) -> Option<u8> {
     FROM.iter().position(|&b| b == byte).map(|i| TO[i])
 }
 
-pub fn word(bytes: &[u8]) -> Result<u64, Answer> {
-    if bytes.is_empty() || bytes.len() > 20 {
+pub fn word(kind: u8, bytes: &[u8]) -> Result<u64, Answer> {
+    if kind == 0 || kind > 7 {
+        return Err(Answer {
+            cause: 15,
+            value: 0,
+        });
+    }
+    if bytes.is_empty() || bytes.len() > 36 {
         return Err(Answer {
             cause: 1,
             value: bytes.len() as u64,
         });
     }
-    let mut folded = Vec::new();
+    let mut hashed = vec![kind];
     for (i, &byte) in bytes.iter().enumerate() {
         match fold(byte) {
-            Some(byte) => folded.push(byte),
+            Some(byte) => hashed.push(byte),
             None => {
                 return Err(Answer {
                     cause: 2,
@@ -53,7 +59,22 @@ pub fn word(bytes: &[u8]) -> Result<u64, Answer> {
             }
         }
     }
-    Ok(mix(fnv(&folded)))
+    Ok(mix(fnv(&hashed)))
+}
+
+/// One of the seven kinds.
+pub fn random_kind(rng: &mut Rng) -> u8 {
+    1 + rng.below(7) as u8
+}
+
+/// Any kind, now and then one that there is not.
+pub fn any_kind(rng: &mut Rng) -> u8 {
+    match rng.below(32) {
+        0 => 0,
+        1 => 8,
+        2 => rng.byte(),
+        _ => random_kind(rng),
+    }
 }
 
 /// Allowed bytes only.

@@ -2,7 +2,7 @@
 -- Assumes nothing.
 use mathlib.Core.Path.{refl, ap, _∙_}
 use mathlib.Core.Bool.{Bool}
-use Rattle.identifier.specs.Identifier.{readOf}
+use Rattle.identifier.specs.Identifier.{token, readOf}
 use Rattle.model.specs.Request.{withPlan}
 use Rattle.lines_run.proofs.Asked.{asked-word, asked-refused, asked-allowed}
 use borrow.Author.Needs.{needs}
@@ -25,7 +25,7 @@ serve-requires c κs =
     let p = d .before in
     let start = p .before .before .before in
     let a = start .args in
-    (start .pre, asked-allowed (a .t .now) (start .pre) (a .verb) (a .id .now) (a .plan) (d .word-for .result) (d .word-for .ensures ∙ ap (λ (b : Bool). withPlan b (readOf (a .id .now))) (p .plan-allowed .ensures)) (m .word .given .0 .0) (m .word .given .1))
+    (start .pre, asked-allowed (a .t .now) (start .pre) (a .verb) (token (a .kind) (a .id .now)) (a .plan) (d .word-for .result) (d .word-for .ensures ∙ ap (λ (b : Bool). withPlan b (readOf (token (a .kind) (a .id .now)))) (p .plan-allowed .ensures)) (m .word .given .0 .0) (m .word .given .1))
 
 enum-known-word-2 : tie.Need-enum-known-word-2
 enum-known-word-2 c = search needs
@@ -41,7 +41,7 @@ returns c =
     let p = d .before in
     let start = p .before .before .before in
     let a = start .args in
-    rw (asked-word (a .t .now) (start .pre) (a .verb) (a .id .now) (a .plan) (d .word-for .result) (d .word-for .ensures ∙ ap (λ (b : Bool). withPlan b (readOf (a .id .now))) (p .plan-allowed .ensures)) (m .word .given .0 .0) (m .word .given .1)) (done .serve .ensures)
+    rw (asked-word (a .t .now) (start .pre) (a .verb) (token (a .kind) (a .id .now)) (a .plan) (d .word-for .result) (d .word-for .ensures ∙ ap (λ (b : Bool). withPlan b (readOf (token (a .kind) (a .id .now)))) (p .plan-allowed .ensures)) (m .word .given .0 .0) (m .word .given .1)) (done .serve .ensures)
 
 returns-2 : tie.Need-returns-2
 returns-2 c =
@@ -50,7 +50,7 @@ returns-2 c =
     let p = d .before in
     let start = p .before .before .before in
     let a = start .args in
-    rw (asked-refused (a .t .now) (start .pre) (a .verb) (a .id .now) (a .plan) (d .word-for .result) (d .word-for .ensures ∙ ap (λ (b : Bool). withPlan b (readOf (a .id .now))) (p .plan-allowed .ensures)) (m .word2 .given .0 .0) (m .word2 .given .1)) (refl, refl)
+    rw (asked-refused (a .t .now) (start .pre) (a .verb) (token (a .kind) (a .id .now)) (a .plan) (d .word-for .result) (d .word-for .ensures ∙ ap (λ (b : Bool). withPlan b (readOf (token (a .kind) (a .id .now)))) (p .plan-allowed .ensures)) (m .word2 .given .0 .0) (m .word2 .given .1)) (refl, refl)
 
 pub ask-spec : {M : Type 1} → statement M
 ask-spec =

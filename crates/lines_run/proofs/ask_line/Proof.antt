@@ -2,6 +2,7 @@
 -- Assumes nothing.
 use mathlib.Core.Path.{sym}
 use lib.Seq.{length-take-le}
+use Rattle.identifier.specs.Identifier.{token}
 use Rattle.lines_text.specs.Parsed.{callOf}
 use Rattle.lines_run.proofs.Opening.{held-ready}
 use Rattle.lines_run.proofs.Turns.{ask-bad, ask-did}
@@ -19,7 +20,7 @@ returns : tie.Need-returns
 returns c =
     let done = c .before .before in
     let a = done .before .before .before .before .before .before .args in
-    ask-bad (a .at) (done .put-bad .result) (a .out .now) (done .put-bad .last .0) (a .held) (a .t .now) (callOf (a .verb) (a .id .now) (a .plan)) (search needs) (done .put-bad .ensures)
+    ask-bad (a .at) (done .put-bad .result) (a .out .now) (done .put-bad .last .0) (a .held) (a .t .now) (callOf (a .verb) (token (a .kind) (a .id .now)) (a .plan)) (search needs) (done .put-bad .ensures)
 
 slice-relend-prefix-ask : tie.Need-slice-relend-prefix-ask
 slice-relend-prefix-ask c = search needs
@@ -49,7 +50,7 @@ returns-2 c =
     let asked = printed .before .before .before .before in
     let start = asked .before .before .before .before .before .before in
     let a = start .args in
-    ask-did (a .at) (printed .put-answer .result) (a .out .now) (printed .put-answer .last .0) (a .held) (a .t .now) (callOf (a .verb) (a .id .now) (a .plan))
+    ask-did (a .at) (printed .put-answer .result) (a .out .now) (printed .put-answer .last .0) (a .held) (a .t .now) (callOf (a .verb) (token (a .kind) (a .id .now)) (a .plan))
     (search needs) (start .pre .0 .fits) (asked .ask .result) (asked .ask .last .0) (asked .ask .ensures) (search needs) (printed .put-answer .ensures)
 
 pub ask-line-spec : {M : Type 1} → statement M

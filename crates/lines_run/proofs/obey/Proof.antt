@@ -1,6 +1,7 @@
 -- `lines_run::obey` meets its contract.
 -- Assumes nothing.
 use mathlib.Core.Path.{subst}
+use native.Mathlib.Omega.{arith}
 use lib.ListN.{length}
 use Rattle.lines_text.specs.declared.Parsed.the-variants.{Ask}
 use Rattle.lines_text.specs.Parsed.{Within}
@@ -9,8 +10,8 @@ use borrow.Author.Needs.{needs}
 use Rattle.lines_run.proofs.obey.Statement.{statement}
 use Rattle.lines_run.proofs.obey.Tie as tie
 
--- the identifier lies in the line
-within : (c : tie.After-p2) → let s = c .before .before .before .before .before in Within (length (s .args .s .now)) (Ask (c .p2 .given .0 .0) (c .p2 .given .0 .1 .0) (c .p2 .given .0 .1 .1 .0) (c .p2 .given .0 .1 .1 .1 .0))
+-- the kind is a digit, and the identifier lies in the line
+within : (c : tie.After-p2) → let s = c .before .before .before .before .before in let g = c .p2 .given .0 in Within (length (s .args .s .now)) (Ask (g .0) (g .1 .0) (g .1 .1 .0) (g .1 .1 .1 .0) (g .1 .1 .1 .1 .0))
 within c = let s = c .before .before .before .before .before in subst (Within (length (s .args .s .now))) (c .p2 .given .1) (s .pre .3)
 
 enum-known-p : tie.Need-enum-known-p
@@ -22,20 +23,20 @@ open-line-requires c κs = search needs
 enum-known-p-2 : tie.Need-enum-known-p-2
 enum-known-p-2 c = search needs
 
+cast-ask-line : tie.Need-cast-ask-line
+cast-ask-line c = let h = within (c .before .before) .0 in omega arith
+
 sub-ask-line : tie.Need-sub-ask-line
-sub-ask-line c = within (c .before .before) .0
+sub-ask-line c = within (c .before .before) .1
 
 part-ask-line-start : tie.Need-part-ask-line-start
-part-ask-line-start c = within (c .before .before) .0
+part-ask-line-start c = within (c .before .before) .1
 
 part-ask-line-end : tie.Need-part-ask-line-end
-part-ask-line-end c = within (c .before .before) .1
+part-ask-line-end c = within (c .before .before) .2
 
 ask-line-requires : tie.Need-ask-line-requires
-ask-line-requires c κs =
-    let m = c .before .before .before .before in
-    let s = m .before .before .before .before .before in
-    (s .pre .1, s .pre .2)
+ask-line-requires c κs = search needs
 
 enum-told : tie.Need-enum-told
 enum-told c = search needs
@@ -83,6 +84,7 @@ obey-spec =
     enum-known-p
     open-line-requires
     enum-known-p-2
+    cast-ask-line
     sub-ask-line
     part-ask-line-start
     part-ask-line-end

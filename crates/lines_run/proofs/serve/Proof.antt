@@ -2,11 +2,9 @@
 -- Assumes nothing.
 use mathlib.Core.Path.{_≡_, subst}
 use mathlib.Core.Bool.{true}
-use mathlib.Core.List.{[]}
 use borrow.Author.Needs.{needs}
-use Rattle.model.specs.Request.{planAllowed}
 use Rattle.lines_text.specs.declared.Verb.{Verb}
-use Rattle.lines_text.specs.Parsed.{callOf}
+use Rattle.lines_run.specs.Buffer.{verbAllowed}
 use Rattle.lines_run.proofs.serve.Statement.{statement}
 use Rattle.lines_run.proofs.serve.Tie as tie
 
@@ -16,7 +14,7 @@ enum-told c = search needs
 add-word-requires : tie.Need-add-word-requires
 add-word-requires c κs =
     let s = c .before .before .before .before in
-    (s .pre .0, subst (λ (v : Verb). planAllowed (callOf v [] (s .args .plan)) ≡ true) (c .before .enum-told .given .1) (s .pre .1))
+    (s .pre .0, subst (λ (v : Verb). verbAllowed v (s .args .plan) ≡ true) (c .before .enum-told .given .1) (s .pre .1))
 
 enum-told-2 : tie.Need-enum-told-2
 enum-told-2 c = search needs
@@ -24,7 +22,7 @@ enum-told-2 c = search needs
 change-word-requires : tie.Need-change-word-requires
 change-word-requires c κs =
     let s = c .before .before .before .before in
-    (s .pre .0, subst (λ (v : Verb). planAllowed (callOf v [] (s .args .plan)) ≡ true) (c .before .enum-told2 .given .1) (s .pre .1))
+    (s .pre .0, subst (λ (v : Verb). verbAllowed v (s .args .plan) ≡ true) (c .before .enum-told2 .given .1) (s .pre .1))
 
 enum-told-3 : tie.Need-enum-told-3
 enum-told-3 c = search needs

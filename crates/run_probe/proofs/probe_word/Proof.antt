@@ -1,7 +1,7 @@
 -- `run_probe::probe_word` meets its contract: what the bytes are found to be, by its two cases.
 -- Assumes nothing.
 use mathlib.Core.Path.{_≡_, refl, sym, _∙_}
-use Rattle.identifier.specs.Identifier.{readOf}
+use Rattle.identifier.specs.Identifier.{token, readOf}
 use Rattle.identifier.specs.declared.Read.the-variants.{Word, Refused}
 use borrow.Author.Needs.{needs}
 use Rattle.run_probe.proofs.probe_word.Statement.{statement}
@@ -25,14 +25,14 @@ number-requires c κs = search needs
 returns : tie.Need-returns
 returns c =
     let g = c .before .read2 .given in
-    let e : readOf (c .before .before .before .before .before .args .id .now) ≡ Word (g .0 .0) = sym (c .before .before .before .read .ensures) ∙ g .1 in
+    let e : readOf (token (c .before .before .before .before .before .args .kind) (c .before .before .before .before .before .args .id .now)) ≡ Word (g .0 .0) = sym (c .before .before .before .read .ensures) ∙ g .1 in
     rw e (refl, refl)
 
 returns-2 : tie.Need-returns-2
 returns-2 c =
     let told = c .before .before .before in
     let g = told .read3 .given in
-    let e : readOf (told .before .before .before .before .args .id .now) ≡ Refused (g .0 .0) = sym (told .before .before .read .ensures) ∙ g .1 in
+    let e : readOf (token (told .before .before .before .before .args .kind) (told .before .before .before .before .args .id .now)) ≡ Refused (g .0 .0) = sym (told .before .before .read .ensures) ∙ g .1 in
     rw e (c .number .ensures, c .before .value .ensures)
 
 pub probe-word-spec : {M : Type 1} → statement M

@@ -2,7 +2,7 @@
 -- Assumes nothing.
 use mathlib.Core.Path.{refl, sym, ap, _∙_}
 use mathlib.Core.Bool.{Bool}
-use Rattle.identifier.specs.Identifier.{readOf}
+use Rattle.identifier.specs.Identifier.{token, readOf}
 use Rattle.model.specs.Model.{add}
 use Rattle.model.specs.Request.{withPlan}
 use Rattle.table_calls.specs.Ready.{admitted}
@@ -26,7 +26,7 @@ add-word-requires c κs =
     let d = m .before .before in
     let p = d .before in
     let s = p .before .before .before .before in
-    let y = readOf (s .args .id .now) in (
+    let y = readOf (token (s .args .kind) (s .args .id .now)) in (
       ready _ _ (withPlan (p .assignable .result) y) _ (d .admit .ensures) (m .admitted .given .1) (λ i. p .before .before .before .slice-known .given i .fits),
       sym (p .assignable .ensures) ∙ allowed _ _ (p .assignable .result) y _ (d .admit .ensures) (m .admitted .given .1),
     )
@@ -44,7 +44,7 @@ returns c =
     let d = m .before .before in
     let p = d .before in
     let a = p .before .before .before .before .args in
-    rw (call-word (a .t .now) (add (a .id .now) (a .plan)) (d .admit .result) (d .admit .ensures ∙ ap (λ (b : Bool). admitted (a .t .now) (withPlan b (readOf (a .id .now)))) (p .assignable .ensures)) (m .admitted .given .0 .0) (m .admitted .given .1)) (done .add-word .ensures)
+    rw (call-word (a .t .now) (add (token (a .kind) (a .id .now)) (a .plan)) (d .admit .result) (d .admit .ensures ∙ ap (λ (b : Bool). admitted (a .t .now) (withPlan b (readOf (token (a .kind) (a .id .now))))) (p .assignable .ensures)) (m .admitted .given .0 .0) (m .admitted .given .1)) (done .add-word .ensures)
 
 same-length-2 : tie.Need-same-length-2
 same-length-2 c = search needs
@@ -55,7 +55,7 @@ returns-2 c =
     let d = m .before .before in
     let p = d .before in
     let a = p .before .before .before .before .args in
-    rw (call-refused (a .t .now) (add (a .id .now) (a .plan)) (d .admit .result) (d .admit .ensures ∙ ap (λ (b : Bool). admitted (a .t .now) (withPlan b (readOf (a .id .now)))) (p .assignable .ensures)) (m .admitted2 .given .0 .0) (m .admitted2 .given .1)) (refl, refl)
+    rw (call-refused (a .t .now) (add (token (a .kind) (a .id .now)) (a .plan)) (d .admit .result) (d .admit .ensures ∙ ap (λ (b : Bool). admitted (a .t .now) (withPlan b (readOf (token (a .kind) (a .id .now))))) (p .assignable .ensures)) (m .admitted2 .given .0 .0) (m .admitted2 .given .1)) (refl, refl)
 
 pub add-spec : {M : Type 1} → statement M
 add-spec =

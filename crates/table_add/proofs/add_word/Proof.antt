@@ -1,7 +1,6 @@
 -- `table_add::add_word` meets its contract.
 -- Assumes nothing.
 use mathlib.Core.Path.{refl}
-use mathlib.Core.List.{[]}
 use Prim.Native.Nat.{_<_}
 use Rattle.lists.specs.Entries.{planLimit}
 use Rattle.lists.proofs.Entries.{assignable-byte}
@@ -34,7 +33,7 @@ returns c =
     let m = c .before in
     let r = m .before .before in
     let a = r .before .before .before .args in
-    let l = live (a .t .now) (a .w) [] (r .plan-in .result) (r .plan-in .ensures) (m .found .given .0 .0) (m .found .given .1) in
+    let l = live (a .t .now) (a .w) (r .plan-in .result) (r .plan-in .ensures) (m .found .given .0 .0) (m .found .given .1) in
     rw (added-live (a .t .now) (a .w) (a .plan) (m .found .given .0 .0) l) (refl, refl)
 
 same-length-2 : tie.Need-same-length-2
@@ -44,7 +43,7 @@ returns-2 : tie.Need-returns-2
 returns-2 c =
     let d = c .before .before .before .before .before .before in
     let a = d .before .before .before .args in
-    let l = gone (a .t .now) (a .w) [] (d .plan-in .result) (d .plan-in .ensures) (c .before .before .before .before .enum-told .given .1) in
+    let l = gone (a .t .now) (a .w) (d .plan-in .result) (d .plan-in .ensures) (c .before .before .before .before .enum-told .given .1) in
     rw (added-gone (a .t .now) (a .w) (a .plan) l) (c .before .before .enter .ensures)
 
 pub add-word-spec : {M : Type 1} → statement M

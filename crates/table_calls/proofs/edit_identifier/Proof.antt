@@ -3,7 +3,7 @@
 use mathlib.Core.Path.{refl, sym, ap, _∙_}
 use mathlib.Core.Bool.{Bool}
 use borrow.Author.Needs.{needs}
-use Rattle.identifier.specs.Identifier.{readOf}
+use Rattle.identifier.specs.Identifier.{token, readOf}
 use Rattle.model.specs.Request.{withPlan}
 use Rattle.table_calls.specs.Ready.{admitted}
 use Rattle.table_calls.proofs.Calls.{ready, allowed, edit-word, edit-refused}
@@ -25,7 +25,7 @@ edit-word-requires c κs =
     let d = m .before .before in
     let p = d .before in
     let s = p .before .before .before .before in
-    let y = readOf (s .args .id .now) in (
+    let y = readOf (token (s .args .kind) (s .args .id .now)) in (
       ready _ _ (withPlan (p .plan-allowed .result) y) _ (d .admit .ensures) (m .admitted .given .1) (λ i. p .before .before .before .slice-known .given i .fits),
       sym (p .plan-allowed .ensures) ∙ allowed _ _ (p .plan-allowed .result) y _ (d .admit .ensures) (m .admitted .given .1),
     )
@@ -43,7 +43,7 @@ returns c =
     let d = m .before .before in
     let p = d .before in
     let a = p .before .before .before .before .args in
-    rw (edit-word _ _ (a .edit) _ (d .admit .ensures ∙ ap (λ (b : Bool). admitted (a .t .now) (withPlan b (readOf (a .id .now)))) (p .plan-allowed .ensures)) _ (m .admitted .given .1)) (done .edit-word .ensures)
+    rw (edit-word _ _ (a .edit) _ (d .admit .ensures ∙ ap (λ (b : Bool). admitted (a .t .now) (withPlan b (readOf (token (a .kind) (a .id .now))))) (p .plan-allowed .ensures)) _ (m .admitted .given .1)) (done .edit-word .ensures)
 
 same-length-2 : tie.Need-same-length-2
 same-length-2 c = search needs
@@ -54,7 +54,7 @@ returns-2 c =
     let d = m .before .before in
     let p = d .before in
     let a = p .before .before .before .before .args in
-    rw (edit-refused _ _ (a .edit) _ (d .admit .ensures ∙ ap (λ (b : Bool). admitted (a .t .now) (withPlan b (readOf (a .id .now)))) (p .plan-allowed .ensures)) _ (m .admitted2 .given .1)) (refl, refl)
+    rw (edit-refused _ _ (a .edit) _ (d .admit .ensures ∙ ap (λ (b : Bool). admitted (a .t .now) (withPlan b (readOf (token (a .kind) (a .id .now))))) (p .plan-allowed .ensures)) _ (m .admitted2 .given .1)) (refl, refl)
 
 pub edit-identifier-spec : {M : Type 1} → statement M
 edit-identifier-spec =

@@ -3,7 +3,6 @@
 use native.Mathlib.Omega.{arith}
 use Prim.Native.Nat.{ℕ, _-_}
 use mathlib.Core.Path.{refl, ap, _∙_}
-use mathlib.Core.List.{[]}
 use lib.ListN.{getD, set, length-set}
 use Rattle.table.specs.Layout.{liveCountAt}
 use Rattle.table_calls.specs.Edit.{recountedIn}
@@ -31,7 +30,7 @@ sub-live c =
     let r = m .before .before in
     let s = r .before .before .before in
     rw (c .leaving .ensures)
-    (counted (s .args .t .now) (s .args .w) [] (r .plan-in .result) (r .plan-in .ensures) (m .found .given .0 .0) (m .found .given .1) (s .pre .0) (s .fits .w .fits) (s .args .edit))
+    (counted (s .args .t .now) (s .args .w) (r .plan-in .result) (r .plan-in .ensures) (m .found .given .0 .0) (m .found .given .1) (s .pre .0) (s .fits .w .fits) (s .args .edit))
 
 touch-requires : tie.Need-touch-requires
 touch-requires c κs = search needs
@@ -50,7 +49,7 @@ recount-requires c κs =
     let s = r .before .before .before in
     let a = s .args in
     rw (l .leaving .ensures)
-    (edit-movable (a .t .now) (a .w) [] (r .plan-in .result) (r .plan-in .ensures) (m .found .given .0 .0) (m .found .given .1) (s .pre .0) (s .fits .w .fits) (a .edit) (s .pre .1) (done .touch .last .0) (done .touch .ensures))
+    (edit-movable (a .t .now) (a .w) (r .plan-in .result) (r .plan-in .ensures) (m .found .given .0 .0) (m .found .given .1) (s .pre .0) (s .fits .w .fits) (a .edit) (s .pre .1) (done .touch .last .0) (done .touch .ensures))
 
 enum-told : tie.Need-enum-told
 enum-told c = search needs
@@ -66,7 +65,7 @@ returns c =
     let r = m .before .before in
     let s = r .before .before .before in
     let a = s .args in
-    rw (edit-live (a .t .now) (a .w) [] (r .plan-in .result) (r .plan-in .ensures) (m .found .given .0 .0) (m .found .given .1) (s .pre .0) (s .fits .w .fits) (a .edit) (s .pre .1) (done .touch .last .0) (done .touch .ensures))
+    rw (edit-live (a .t .now) (a .w) (r .plan-in .result) (r .plan-in .ensures) (m .found .given .0 .0) (m .found .given .1) (s .pre .0) (s .fits .w .fits) (a .edit) (s .pre .1) (done .touch .last .0) (done .touch .ensures))
     (refl, c .before .before .recount .ensures ∙ ap (λ (k : ℕ). recountedIn (a .edit) (m .found .given .0 .0) (set (done .touch .last .0) liveCountAt (getD (a .t .now) liveCountAt 0 - k))) (l .leaving .ensures))
 
 same-length-2 : tie.Need-same-length-2
@@ -76,7 +75,7 @@ returns-2 : tie.Need-returns-2
 returns-2 c =
     let r = c .before .before in
     let a = r .before .before .before .args in
-    rw (edit-gone (a .t .now) (a .w) [] (r .plan-in .result) (r .plan-in .ensures) (c .enum-told .given .1) (a .edit)) (refl, refl)
+    rw (edit-gone (a .t .now) (a .w) (r .plan-in .result) (r .plan-in .ensures) (c .enum-told .given .1) (a .edit)) (refl, refl)
 
 pub edit-word-spec : {M : Type 1} → statement M
 edit-word-spec =

@@ -3,7 +3,7 @@
 use mathlib.Core.Path.{refl}
 use mathlib.Core.Bool.{true}
 use borrow.Author.Needs.{needs}
-use Rattle.identifier.specs.Identifier.{readOf}
+use Rattle.identifier.specs.Identifier.{token, readOf}
 use Rattle.model.specs.Model.{query}
 use Rattle.model.specs.Request.{withPlan}
 use Rattle.table_calls.proofs.Calls.{ready, call-word, call-refused}
@@ -20,7 +20,7 @@ query-word-requires : tie.Need-query-word-requires
 query-word-requires c κs =
     let m = c .before in
     let d = m .before .before in
-    ready _ _ (withPlan true (readOf (d .before .before .before .args .id .now))) _ (d .admit .ensures) (m .admitted .given .1) (λ i. d .before .before .shared-slice-known .given i .fits)
+    ready _ _ (withPlan true (readOf (token (d .before .before .before .args .kind) (d .before .before .before .args .id .now)))) _ (d .admit .ensures) (m .admitted .given .1) (λ i. d .before .before .shared-slice-known .given i .fits)
 
 enum-known-admitted-2 : tie.Need-enum-known-admitted-2
 enum-known-admitted-2 c = search needs
@@ -30,14 +30,14 @@ returns c =
     let m = c .before .before in
     let d = m .before .before in
     let a = d .before .before .before .args in
-    rw (call-word (a .t .now) (query (a .id .now)) (d .admit .result) (d .admit .ensures) (m .admitted .given .0 .0) (m .admitted .given .1)) (c .query-word .ensures)
+    rw (call-word (a .t .now) (query (token (a .kind) (a .id .now))) (d .admit .result) (d .admit .ensures) (m .admitted .given .0 .0) (m .admitted .given .1)) (c .query-word .ensures)
 
 returns-2 : tie.Need-returns-2
 returns-2 c =
     let m = c .before in
     let d = m .before .before in
     let a = d .before .before .before .args in
-    rw (call-refused (a .t .now) (query (a .id .now)) (d .admit .result) (d .admit .ensures) (m .admitted2 .given .0 .0) (m .admitted2 .given .1)) (refl, refl)
+    rw (call-refused (a .t .now) (query (token (a .kind) (a .id .now))) (d .admit .result) (d .admit .ensures) (m .admitted2 .given .0 .0) (m .admitted2 .given .1)) (refl, refl)
 
 pub query-spec : {M : Type 1} → statement M
 query-spec =

@@ -1,7 +1,6 @@
 -- `table_calls::query_word` meets its contract.
 -- Assumes nothing.
 use mathlib.Core.Path.{refl}
-use mathlib.Core.List.{[]}
 use borrow.Author.Needs.{needs}
 use Rattle.table_calls.proofs.Calls.{query-live, query-gone}
 use Rattle.table_calls.proofs.query_word.Statement.{statement}
@@ -19,10 +18,10 @@ enum-told c = search needs
 returns : tie.Need-returns
 returns c =
     let m = c .before in
-    rw (query-live _ _ [] _ (m .before .before .plan-in .ensures) _ (m .found .given .1)) (refl, refl)
+    rw (query-live _ _ _ (m .before .before .plan-in .ensures) _ (m .found .given .1)) (refl, refl)
 
 returns-2 : tie.Need-returns-2
-returns-2 c = rw (query-gone _ _ [] _ (c .before .before .plan-in .ensures) (c .enum-told .given .1)) (refl, refl)
+returns-2 c = rw (query-gone _ _ _ (c .before .before .plan-in .ensures) (c .enum-told .given .1)) (refl, refl)
 
 pub query-word-spec : {M : Type 1} → statement M
 query-word-spec =

@@ -4,15 +4,14 @@ use Prim.Native.Nat.{ℕ, _+_, _^_, _<_}
 use native.Mathlib.Omega.{arith}
 use mathlib.Core.Path.{_≡_, sym, ap, _∙_, subst, subst⁻¹}
 use mathlib.Core.Bool.{true}
-use mathlib.Core.List.{List, []}
+use mathlib.Core.List.{List}
 use lib.ListN.{getD}
 use Rattle.lists.specs.Totals.{oneMore, oneLess}
 use Rattle.table.specs.Table.{totalNumbers}
 use Rattle.lists.proofs.Entries.{assignable-byte}
-use Rattle.model.specs.Request.{planAllowed}
 use Rattle.table.specs.Layout.{totalsAt}
 use Rattle.table_calls.specs.declared.Edit.{Edit}
-use Rattle.table_calls.specs.Edit.{recountedIn, asked, Movable}
+use Rattle.table_calls.specs.Edit.{recountedIn, editAllowed, Movable}
 use borrow.Author.Needs.{needs}
 use Rattle.table_calls.proofs.recount.Statement.{statement}
 use Rattle.table_calls.proofs.recount.Tie as tie
@@ -32,7 +31,7 @@ raise-total-requires c κs =
     let m = c .before .before in
     let d = c .before .before .before .before .before .before in
     let s = d .before .before .before in
-    let byte : m .edit .given .0 .0 < totalNumbers = assignable-byte (m .edit .given .0 .0) (subst (λ (e : Edit). planAllowed (asked e []) ≡ true) (m .edit .given .1) (s .pre .plan)) in
+    let byte : m .edit .given .0 .0 < totalNumbers = assignable-byte (m .edit .given .0 .0) (subst (λ (e : Edit). editAllowed e ≡ true) (m .edit .given .1) (s .pre .plan)) in
     (omega (arith, d .lower-total .kept .0, s .pre .long), raisable (s .pre) (d .lower-total .ensures) _ (search needs))
 
 enum-told : tie.Need-enum-told

@@ -2,10 +2,10 @@
 //! plain map of the live words' plans, which settles every answer but whether the base list is full.
 
 use crate::compare::{differ, same, same_all, Seen};
-use crate::random::{any_identifier, any_plan, cards, known_card};
+use crate::random::{any_card, any_plan, cards, known_card, Card};
 use reference::rng::Rng;
 use reference::table::{self, Shape, Spot, BASE_COUNT, LIVE_COUNT};
-use reference::{identifier, ours, plane, Answer};
+use reference::{ours, plane, Answer};
 use std::collections::BTreeMap;
 
 const CALLS: u64 = 100_000;
@@ -38,7 +38,7 @@ struct History {
     ours_t: Vec<u64>,
     t: Vec<u64>,
     live: BTreeMap<u64, u8>,
-    cards: Vec<Vec<u8>>,
+    cards: Vec<Card>,
     seen: Seen,
     /// The answers to questions for a total.
     asked: Seen,
@@ -67,58 +67,59 @@ impl History {
         history
     }
 
-    fn plan(&self, id: &[u8]) -> Option<u8> {
-        let word = identifier::word(id).ok()?;
+    fn plan(&self, card: &Card) -> Option<u8> {
+        let word = card.word().ok()?;
         self.live.get(&word).copied()
     }
 
-    /// An identifier for a call: mostly a card with which it can be accepted, of the first `pool` cards; at times one not allowed.
-    fn identifier(&self, rng: &mut Rng, pool: usize, live: bool) -> Vec<u8> {
-        let id = any_identifier(rng);
-        if identifier::word(&id).is_err() && rng.one_in(8) {
-            return id;
+    /// A card for a call: mostly one with which it can be accepted, of the first `pool` cards; at times one not allowed.
+    fn card(&self, rng: &mut Rng, pool: usize, live: bool) -> Card {
+        let any = any_card(rng);
+        if any.word().is_err() && rng.one_in(8) {
+            return any;
         }
         let wanted = live != rng.one_in(8);
-        let mut id = known_card(rng, &self.cards[..pool]);
+        let mut card = known_card(rng, &self.cards[..pool]);
         for _ in 0..8 {
-            if self.plan(&id).is_some() != wanted {
-                id = known_card(rng, &self.cards[..pool]);
+            if self.plan(&card).is_some() != wanted {
+                card = known_card(rng, &self.cards[..pool]);
             }
         }
-        id
+        card
     }
 
     /// One call put to both and to the map. The reference does not test its table, which is sound.
     fn call(&mut self, rng: &mut Rng, call: Call, pool: usize) {
-        let id = self.identifier(rng, pool, call != Call::Add);
+        let card = self.card(rng, pool, call != Call::Add);
+        let (kind, id) = (card.kind, &card.id);
         let plan = any_plan(rng);
-        let word = identifier::word(&id);
+        let word = card.word();
         let (shape, t, ours_t) = (self.shape, &mut self.t, &mut self.ours_t);
         let (ours, reference) = match call {
             Call::Add => (
-                ours::add(ours_t, &id, plan),
+                ours::add(ours_t, kind, id, plan),
                 word.and_then(|word| shape.add(t, word, plan)),
             ),
             Call::Change => (
-                ours::change(ours_t, &id, plan),
+                ours::change(ours_t, kind, id, plan),
                 word.and_then(|word| shape.change(t, word, plan)),
             ),
             Call::Withdraw => (
-                ours::withdraw(ours_t, &id),
+                ours::withdraw(ours_t, kind, id),
                 word.and_then(|word| shape.withdraw(t, word)),
             ),
             Call::Query => (
-                ours::query(ours_t, &id),
+                ours::query(ours_t, kind, id),
                 word.and_then(|word| shape.query(t, word)),
             ),
         };
-        self.seen.same("call", &id, ours, reference.into());
-        same_all("table", &id, &self.ours_t, &self.t);
+        self.seen.same("call", &card, ours, reference.into());
+        same_all("table", &card, &self.ours_t, &self.t);
 
         let Ok(word) = word else {
             return;
         };
-        let expected = match (call, self.plan(&id)) {
+        let expected = match (call, self.plan(&card)) {
             (Call::Add | Call::Change, _) if plan == 255 => Answer::refused(14, 0),
             (Call::Add, Some(held)) => Answer::refused(6, held.into()),
             (Call::Add, None) if ours.cause == 8 => Answer::refused(8, 0),
@@ -126,7 +127,7 @@ impl History {
             (_, Some(held)) => Answer::accepted(held.into()),
             (_, None) => Answer::refused(7, 0),
         };
-        same("answer by the map", &id, ours, expected);
+        same("answer by the map", &card, ours, expected);
         if ours.is_accepted() {
             match call {
                 Call::Add | Call::Change => {
@@ -139,7 +140,7 @@ impl History {
             }
         }
         let count = self.live.len() as u64;
-        same("live count", &id, self.ours_t[LIVE_COUNT], count);
+        same("live count", &card, self.ours_t[LIVE_COUNT], count);
         if rng.one_in(4) {
             self.ask(plan);
         }
@@ -189,14 +190,15 @@ impl History {
         self.seen.same("write", self.t.len(), ours, answer);
         same_all("plane", self.t.len(), &ours_out, &out);
         let plane = &out[..answer.value as usize];
-        for id in &self.cards {
-            let word = identifier::word(id).expect("a card");
-            let read = ours::lookup(id, plane);
-            same("lookup", id, read, plane::lookup(id, plane));
+        for card in &self.cards {
+            let (kind, id) = (card.kind, &card.id);
+            let word = card.word().expect("a card");
+            let read = ours::lookup(kind, id, plane);
+            same("lookup", card, read, plane::lookup(kind, id, plane));
             if let Some(&plan) = self.live.get(&word) {
-                same("plan", id, read, Answer::accepted(plan.into()));
+                same("plan", card, read, Answer::accepted(plan.into()));
             } else if self.shape.spot(&self.t, word) == Spot::Base {
-                same("stranger", id, read, Answer::accepted(255));
+                same("stranger", card, read, Answer::accepted(255));
             }
         }
     }
@@ -232,7 +234,7 @@ fn history(rng: &mut Rng, b1: u64, b2: u64) {
     // No call finds the table unsound; 4 comes from openings of another length.
     history.seen.print(
         &format!("{CALLS} calls from one opening of {b1} and {b2} buckets, {most} live at most, {live} at the end, {base} of them in the base list"),
-        &[0, 1, 2, 3, 4, 6, 7, 8, 14],
+        &[0, 1, 2, 3, 4, 6, 7, 8, 14, 15],
     );
     let asked = history.asked.total();
     let what = format!("{asked} questions for a total along it");

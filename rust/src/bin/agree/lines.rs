@@ -2,7 +2,7 @@
 //! standard input.
 
 use crate::compare::{same, same_all, Seen};
-use crate::random::any_identifier;
+use crate::random::any_card;
 use reference::rng::Rng;
 use reference::{lines, ours};
 use std::io::Write;
@@ -16,13 +16,20 @@ const EDGES: &[u64] = &[
     0, 1, 31, 32, 33, 47, 48, 49, 99, 100, 254, 255, 256, 257, 998, 999, 1000, 1001,
 ];
 
+/// Fields in the place of a kind that are none.
+const NO_KINDS: &[&[u8]] = &[
+    b"", b"0", b"8", b"9", b"00", b"02", b"10", b"22", b"258", b"A", b"x", b"/", b":", b"+2", b"-",
+    b"2.", b"\x02", b"\xb2", b"2\t", b"2 ", b" 2", b"2 2",
+];
+
 /// What the lines of one input are drawn from.
 struct Style {
     b1: u64,
     b2: u64,
-    /// Identifiers by number, `cards` of them from `first` on.
+    /// Identifiers by number, `cards` of them: each seven have the same bytes, numbers from `first` on with at least `digits` digits.
     first: u64,
     cards: u64,
+    digits: usize,
     /// Of 32 lines, how many add and how many withdraw.
     adds: u64,
     withdrawals: u64,
@@ -47,6 +54,7 @@ impl Style {
             b2,
             first: rng.below(1 << 20),
             cards: 1 + rng.below(most),
+            digits: *rng.pick(&[1, 1, 1, 8, 20, 21, 35, 36]),
             adds,
             withdrawals,
             opens: *rng.pick(&[40, 2_000, 100_000]),
@@ -60,6 +68,10 @@ impl Style {
         let mut style = Style::any(rng);
         (style.b1, style.b2) = *rng.pick(&[(1, 1), (4, 2), (12, 8), (48, 32)]);
         (style.adds, style.withdrawals, style.opens) = (32, 0, 100_000);
+        // Short ones, so that the largest tables get full.
+        if style.b1 == 48 {
+            (style.first, style.digits) = (rng.below(1 << 10), 1);
+        }
         style.in_order = true;
         style
     }
@@ -74,10 +86,13 @@ impl Style {
         }
     }
 
+    /// The fields of a kind and of an identifier, with the space between them.
     fn identifier(&mut self, rng: &mut Rng, in_order: bool) -> Vec<u8> {
         if rng.one_in(100) {
-            let mut id = any_identifier(rng);
+            let any = any_card(rng);
+            let mut id = any.id;
             id.retain(|byte| !b" \n".contains(byte));
+            id.splice(..0, [b'0' + any.kind % 10, b' ']);
             return id;
         }
         let number = if in_order {
@@ -86,7 +101,12 @@ impl Style {
         } else {
             rng.below(self.cards)
         };
-        let id = format!("{:X}", self.first + number);
+        let kind = 1 + number % 7;
+        let id = format!(
+            "{kind} {:0digits$X}",
+            self.first + number / 7,
+            digits = self.digits
+        );
         if rng.one_in(4) {
             id.to_lowercase().into_bytes()
         } else {
@@ -99,11 +119,11 @@ impl Style {
         if rng.one_in(self.opens) {
             return (self.open(rng) + "\n").into_bytes();
         }
-        let kind = rng.below(32);
-        let adds = kind < self.adds;
-        let word = match kind {
+        let verb = rng.below(32);
+        let adds = verb < self.adds;
+        let word = match verb {
             _ if adds => "add ",
-            _ if kind < self.adds + self.withdrawals => "del ",
+            _ if verb < self.adds + self.withdrawals => "del ",
             _ if rng.one_in(2) => "set ",
             _ => "get ",
         };
@@ -124,7 +144,8 @@ const NEAR: &[u8] = b"\n\n\r\0\t  /09:AZaz~\x7f\x80\xff";
 fn damage_line(rng: &mut Rng, line: &mut Vec<u8>) {
     let at = rng.below(line.len() as u64) as usize;
     let after = |line: &[u8], byte| line.iter().position(|&b| b == byte).map(|at| at + 1);
-    match rng.below(15) {
+    let spaces: Vec<usize> = (0..line.len()).filter(|&i| line[i] == b' ').collect();
+    match rng.below(19) {
         0 => line[at] = rng.byte(),
         1 => line[at] = *rng.pick(NEAR),
         2 => line.insert(at, *rng.pick(NEAR)),
@@ -167,11 +188,25 @@ fn damage_line(rng: &mut Rng, line: &mut Vec<u8>) {
                 line.extend(format!("{}\n", rng.pick(EDGES)).bytes());
             }
         }
-        // Of 60 to 70 bytes, or of many.
+        // Of 60 to 70 bytes, by the last field or by the identifier; or of many.
         11 => {
             let length = 60 + rng.below(11) as usize;
             while line.len() < length {
                 line.insert(line.len() - 1, b'x');
+            }
+        }
+        14 | 15 => {
+            if let [_, second, ..] = spaces[..] {
+                let length = 60 + rng.below(11) as usize;
+                while line.len() < length {
+                    line.insert(second + 1, b'x');
+                }
+            }
+        }
+        // Another field in the place of the kind.
+        16 | 17 => {
+            if let [first, second, ..] = spaces[..] {
+                line.splice(first + 1..second, rng.pick(NO_KINDS).iter().copied());
             }
         }
         12 => {
@@ -207,6 +242,9 @@ fn noise(rng: &mut Rng, size: usize) -> Vec<u8> {
         b"set ",
         b"del ",
         b"get ",
+        b"get 2 ",
+        b"add 7 ",
+        b"2 ",
         b" ",
         b"\n",
         b"A",
@@ -338,5 +376,5 @@ pub fn lines(rng: &mut Rng, cases: u64) {
         "agree: {cases} inputs of the line program, as a function and as a program, {bytes} bytes, {longer} of them over 64 KiB, \
          {refusing} that fill a table"
     );
-    seen.print("their answers", &[0, 1, 2, 3, 6, 7, 8, 14, Seen::BAD]);
+    seen.print("their answers", &[0, 1, 2, 3, 6, 7, 8, 14, 15, Seen::BAD]);
 }

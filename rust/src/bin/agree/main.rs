@@ -3,6 +3,7 @@
 
 mod compare;
 mod histories;
+mod kinds;
 mod lines;
 mod parts;
 mod patches;
@@ -28,11 +29,14 @@ fn main() {
     let times = if long { 10 } else { 1 };
     let mut rng = Rng::new(20261115);
     parts::identifiers(&mut rng, 300_000 * times);
+    parts::every_identifier(&mut rng);
     parts::buckets(&mut rng, 2_000 * times);
     tables::tables(&mut rng, if long { 20_000 } else { 1_800 });
     totals::questions(&mut rng, 20_000 * times);
     totals::wrong(&mut rng, 40 * times);
     totals::one_plan(&mut rng);
+    kinds::wrong(&mut rng, 400 * times);
+    kinds::seven(&mut rng, 400 * times);
     strangers::given(&mut rng, 400 * times);
     strangers::tables(&mut rng, long);
     strangers::free_rows(&mut rng, 100 * times);

@@ -1,38 +1,62 @@
 //! Identifiers, hashes and single buckets.
 
 use crate::compare::{same, same_all, Seen};
-use crate::random::any_identifier;
+use crate::random::{any_card, some_id, Card};
 use reference::bucket::Bucket;
 use reference::rng::Rng;
 use reference::{identifier, ours, Answer};
 
+/// The word of a kind and bytes, by both.
+fn word(seen: &mut Seen, kind: u8, id: &[u8]) {
+    let reference = Answer::from(identifier::word(kind, id));
+    seen.same("word", (kind, id), ours::word(kind, id), reference);
+}
+
 pub fn identifiers(rng: &mut Rng, cases: u64) {
     let mut seen = Seen::none();
     for _ in 0..cases {
-        let id = any_identifier(rng);
-        seen.same(
-            "word",
-            &id,
-            ours::word(&id),
-            Answer::from(identifier::word(&id)),
-        );
+        let Card { kind, id } = any_card(rng);
+        word(&mut seen, kind, &id);
         same("fnv", &id, ours::fnv(&id), identifier::fnv1a64(&id));
         let n = rng.next();
         same("mix", n, ours::mix(n), identifier::s(n));
         same("unmix", n, ours::unmix(n), identifier::s_inverse(n));
     }
-    for byte in 0..=255 {
-        let id = [b'a', byte];
-        seen.same(
-            "byte",
-            byte,
-            ours::word(&id),
-            Answer::from(identifier::word(&id)),
-        );
-    }
     seen.print(
         &format!("{cases} identifiers, hashes and mixes"),
-        &[0, 1, 2],
+        &[0, 1, 2, 15],
+    );
+}
+
+/// Every kind with every length to 40, of bytes that are allowed, and with two that are not; then every byte at every index.
+pub fn every_identifier(rng: &mut Rng) {
+    let mut seen = Seen::none();
+    for kind in 0..=255 {
+        for length in 0..=40 {
+            let mut id = some_id(rng, length);
+            word(&mut seen, kind, &id);
+            for _ in 0..id.len().min(2) {
+                let at = rng.below(id.len() as u64) as usize;
+                id[at] = *rng.pick(b"/\0\x80");
+                word(&mut seen, kind, &id);
+            }
+        }
+    }
+    for kind in [0, 1, 2, 7, 8, 255] {
+        for length in [1, 2, 20, 21, 35, 36, 37] {
+            let id = some_id(rng, length);
+            for at in 0..id.len() {
+                let mut id = id.clone();
+                for byte in 0..=255 {
+                    id[at] = byte;
+                    word(&mut seen, kind, &id);
+                }
+            }
+        }
+    }
+    seen.print(
+        "every kind with every length to 40, every byte at every index",
+        &[0, 1, 2, 15],
     );
 }
 

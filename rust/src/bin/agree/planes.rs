@@ -1,7 +1,7 @@
 //! Planes and lookups in them.
 
 use crate::compare::{same, same_all, Seen};
-use crate::random::{card, cards, damage, different_cards, some_table};
+use crate::random::{card, cards, damage, different_cards, some_table, Card};
 use reference::rng::Rng;
 use reference::table::{self, Shape};
 use reference::{ours, plane, Answer};
@@ -31,12 +31,13 @@ pub fn planes(rng: &mut Rng, cases: u64) {
         }
         out.truncate(answer.value as usize);
         for _ in 0..200 {
-            let id = card(rng, &cards);
+            let card = card(rng, &cards);
+            let (kind, id) = (card.kind, &card.id);
             read.same(
                 "lookup",
-                &id,
-                ours::lookup(&id, &out),
-                plane::lookup(&id, &out),
+                &card,
+                ours::lookup(kind, id, &out),
+                plane::lookup(kind, id, &out),
             );
             let mut damaged = out.clone();
             match rng.below(4) {
@@ -49,24 +50,25 @@ pub fn planes(rng: &mut Rng, cases: u64) {
             }
             read.same(
                 "lookup",
-                &id,
-                ours::lookup(&id, &damaged),
-                plane::lookup(&id, &damaged),
+                &card,
+                ours::lookup(kind, id, &damaged),
+                plane::lookup(kind, id, &damaged),
             );
         }
     }
     written.print(&format!("{cases} planes to write"), &[0, 4, 5, 9]);
-    read.print("lookups in them, whole and damaged", &[0, 1, 2, 10]);
+    read.print("lookups in them, whole and damaged", &[0, 1, 2, 10, 15]);
 }
 
 /// Every cut of a plane, and every change of one byte from an offset on.
-fn each_damage(seen: &mut Seen, id: &[u8], whole: &[u8], from: usize) {
+fn each_damage(seen: &mut Seen, card: &Card, whole: &[u8], from: usize) {
+    let (kind, id) = (card.kind, &card.id);
     for at in 0..=whole.len() {
         seen.same(
             "cut",
             at,
-            ours::lookup(id, &whole[..at]),
-            plane::lookup(id, &whole[..at]),
+            ours::lookup(kind, id, &whole[..at]),
+            plane::lookup(kind, id, &whole[..at]),
         );
     }
     let mut damaged = whole.to_vec();
@@ -76,8 +78,8 @@ fn each_damage(seen: &mut Seen, id: &[u8], whole: &[u8], from: usize) {
             seen.same(
                 "byte",
                 (at, byte),
-                ours::lookup(id, &damaged),
-                plane::lookup(id, &damaged),
+                ours::lookup(kind, id, &damaged),
+                plane::lookup(kind, id, &damaged),
             );
         }
         damaged[at] = whole[at];
@@ -107,9 +109,8 @@ pub fn edges(rng: &mut Rng) {
         Answer::refused(9, 142),
     );
     same_all("output of 141 kept", (), &short, &[7; 141]);
-    let id = &cards[0];
     let mut seen = Seen::none();
-    each_damage(&mut seen, id, &out, 0);
+    each_damage(&mut seen, &cards[0], &out, 0);
     // 48 and 32 buckets of bound 0: every word goes to the base list, which takes 64.
     let shape = Shape::new(48, 32).expect("in range");
     let mut t = vec![0; shape.table_len()];
@@ -119,10 +120,12 @@ pub fn edges(rng: &mut Rng) {
     }
     let mut ours_t = t.clone();
     let mut count = 0;
-    for id in different_cards(65) {
-        let answer = table::add(&mut t, &id, 9);
-        same("base add", &id, ours::add(&mut ours_t, &id, 9), answer);
-        same_all("table", &id, &ours_t, &t);
+    for card in different_cards(65) {
+        let (kind, id) = (card.kind, &card.id);
+        let answer = table::add(&mut t, kind, id, 9);
+        let ours = ours::add(&mut ours_t, kind, id, 9);
+        same("base add", &card, ours, answer);
+        same_all("table", &card, &ours_t, &t);
         count += u64::from(answer.is_accepted());
     }
     same("64th and 65th base entry", (), count, 64);
@@ -136,21 +139,22 @@ pub fn edges(rng: &mut Rng) {
         Answer::accepted(5930),
     );
     same_all("plane of 5,930 bytes", (), &long, &expected);
-    each_damage(&mut seen, id, &long, 5930 - 5 - 64 * 10);
+    each_damage(&mut seen, &cards[0], &long, 5930 - 5 - 64 * 10);
     for _ in 0..20_000 {
-        let id = card(rng, &cards);
+        let card = card(rng, &cards);
+        let (kind, id) = (card.kind, &card.id);
         let mut damaged = long.clone();
         let at = rng.below(5930) as usize;
         damaged[at] = rng.byte();
         seen.same(
             "lookup",
-            &id,
-            ours::lookup(&id, &damaged),
-            plane::lookup(&id, &damaged),
+            &card,
+            ours::lookup(kind, id, &damaged),
+            plane::lookup(kind, id, &damaged),
         );
     }
     seen.print(
         "planes of 142 and 5,930 bytes, every cut, every byte of the small one and of the other's base list, lookups",
-        &[0, 1, 2, 10],
+        &[0, 1, 2, 10, 15],
     );
 }

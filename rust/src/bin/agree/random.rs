@@ -1,60 +1,118 @@
-//! Random identifiers and plans, and tables, sound and damaged.
+//! Random kinds, identifiers and plans, and tables, sound and damaged.
 
 use crate::totals::Wrong;
-use reference::identifier;
 use reference::rng::Rng;
 use reference::table::{self, Shape, BASE_COUNT, BASE_MAX, HEADER, LEADING, TOTALS};
+use reference::{identifier, Answer};
 
 const ALLOWED: &[u8] = b"abcxyzABCXYZ0189*-_=:+|@.";
 
-/// Bytes handed in as an identifier: mostly allowed ones, of any length up to 40.
-pub fn any_identifier(rng: &mut Rng) -> Vec<u8> {
-    let length = if rng.one_in(4) {
-        rng.below(41)
+/// What is handed in as an identifier: a kind and bytes.
+#[derive(Clone, Debug)]
+pub struct Card {
+    pub kind: u8,
+    pub id: Vec<u8>,
+}
+
+impl Card {
+    pub fn word(&self) -> Result<u64, Answer> {
+        identifier::word(self.kind, &self.id)
+    }
+}
+
+/// One of the seven kinds.
+pub fn some_kind(rng: &mut Rng) -> u8 {
+    1 + rng.below(7) as u8
+}
+
+/// A kind that there is not, often one next to the seven.
+pub fn wrong_kind(rng: &mut Rng) -> u8 {
+    let any = 8 + rng.below(248) as u8;
+    *rng.pick(&[0, 8, 9, b'2', 128, 255, any, any])
+}
+
+/// Mostly one of the seven kinds.
+pub fn any_kind(rng: &mut Rng) -> u8 {
+    if rng.one_in(16) {
+        wrong_kind(rng)
     } else {
-        1 + rng.below(20)
+        some_kind(rng)
+    }
+}
+
+/// So many bytes that are allowed.
+pub fn some_id(rng: &mut Rng, length: u64) -> Vec<u8> {
+    (0..length).map(|_| *rng.pick(ALLOWED)).collect()
+}
+
+/// Any kind and bytes: mostly allowed ones, of any length up to 40, often too short or too long.
+pub fn any_card(rng: &mut Rng) -> Card {
+    let length = match rng.below(16) {
+        0 => 0,
+        1 | 2 => 37 + rng.below(4),
+        3 => 36,
+        _ => 1 + rng.below(36),
     };
     let odd = rng.one_in(3);
-    (0..length)
-        .map(|_| {
-            if odd && rng.one_in(8) {
-                rng.byte()
-            } else {
-                *rng.pick(ALLOWED)
+    let id = (0..length).map(|_| {
+        if odd && rng.one_in(8) {
+            rng.byte()
+        } else {
+            *rng.pick(ALLOWED)
+        }
+    });
+    Card {
+        id: id.collect(),
+        kind: any_kind(rng),
+    }
+}
+
+/// Cards of which many are put again; often the same bytes under several kinds.
+pub fn cards(rng: &mut Rng, count: usize) -> Vec<Card> {
+    let mut cards: Vec<Card> = Vec::new();
+    while cards.len() < count {
+        let card = match cards.last() {
+            Some(last) if rng.one_in(2) => Card {
+                kind: last.kind % 7 + 1,
+                id: last.id.clone(),
+            },
+            _ => {
+                let length = 1 + rng.below(36);
+                Card {
+                    kind: some_kind(rng),
+                    id: some_id(rng, length),
+                }
             }
-        })
-        .collect()
+        };
+        cards.push(card);
+    }
+    cards
 }
 
-/// Identifiers of which many are put again.
-pub fn cards(rng: &mut Rng, count: usize) -> Vec<Vec<u8>> {
-    (0..count)
-        .map(|_| (0..1 + rng.below(20)).map(|_| *rng.pick(ALLOWED)).collect())
-        .collect()
+/// Cards that are all different: each seven have the same bytes.
+pub fn different_cards(count: usize) -> Vec<Card> {
+    let card = |i: usize| Card {
+        kind: 1 + (i % 7) as u8,
+        id: format!("BUS-{}", i / 7).into_bytes(),
+    };
+    (0..count).map(card).collect()
 }
 
-/// Identifiers that are all different.
-pub fn different_cards(count: usize) -> Vec<Vec<u8>> {
-    (0..count)
-        .map(|i| format!("BUS-{i}").into_bytes())
-        .collect()
-}
-
-/// One of the cards, or sometimes any bytes.
-pub fn card(rng: &mut Rng, cards: &[Vec<u8>]) -> Vec<u8> {
+/// One of the cards, or sometimes any kind and bytes.
+pub fn card(rng: &mut Rng, cards: &[Card]) -> Card {
     if rng.one_in(10) {
-        return any_identifier(rng);
+        return any_card(rng);
     }
     known_card(rng, cards)
 }
 
 /// One of the cards.
-pub fn known_card(rng: &mut Rng, cards: &[Vec<u8>]) -> Vec<u8> {
-    let mut id = rng.pick(cards).clone();
+pub fn known_card(rng: &mut Rng, cards: &[Card]) -> Card {
+    let mut card = rng.pick(cards).clone();
     if rng.one_in(4) {
-        id.make_ascii_uppercase();
+        card.id.make_ascii_uppercase();
     }
-    id
+    card
 }
 
 /// A plan that a word may be given.
@@ -81,20 +139,17 @@ pub fn some_shape(rng: &mut Rng) -> (u64, u64) {
 }
 
 /// A table of the reference's making with about this many words.
-pub fn some_table(rng: &mut Rng, cards: &[Vec<u8>]) -> Vec<u64> {
+pub fn some_table(rng: &mut Rng, cards: &[Card]) -> Vec<u64> {
     let (b1, b2) = some_shape(rng);
     let shape = Shape::new(b1, b2).expect("in range");
     let mut t = vec![0; shape.table_len()];
     table::open(&mut t, b1, b2);
     for _ in 0..rng.below(cards.len() as u64 + 1) {
-        let id = rng.pick(cards);
-        let word = identifier::word(id).expect("a card");
+        let word = rng.pick(cards).word().expect("a card");
         let _ = shape.add(&mut t, word, given_plan(rng));
         if rng.one_in(5) {
-            let _ = shape.withdraw(
-                &mut t,
-                identifier::word(rng.pick::<Vec<u8>>(cards)).expect("a card"),
-            );
+            let word = rng.pick(cards).word().expect("a card");
+            let _ = shape.withdraw(&mut t, word);
         }
     }
     t

@@ -3,8 +3,8 @@
 
 use crate::compare::{differ, same, same_all, Seen};
 use crate::random::{
-    any_identifier, card, cards, damage, different_cards, given_plan, known_card, places, recount,
-    rows, set_plan, some_shape, some_table, Place,
+    any_card, card, cards, damage, different_cards, given_plan, known_card, places, recount, rows,
+    set_plan, some_shape, some_table, Card, Place,
 };
 use crate::records::{some_words, Content};
 use crate::totals::{ask, refuse, some_numbers};
@@ -27,55 +27,61 @@ impl Given {
     }
 
     /// An add and a change to plan 255: 14 unless the identifier is turned down, whatever the table is, which stays.
-    fn give(&mut self, id: &[u8], t: &[u64]) {
-        let expected = match identifier::word(id) {
+    fn give(&mut self, card: &Card, t: &[u64]) {
+        let (kind, id) = (card.kind, &card.id);
+        let expected = match card.word() {
             Ok(_) => Answer::refused(14, 0),
             Err(refusal) => refusal,
         };
         let (mut ours_t, mut their_t) = (t.to_vec(), t.to_vec());
         let (a, b) = (&mut ours_t, &mut their_t);
         let answers = [
-            ("add", ours::add(a, id, 255), table::add(b, id, 255)),
+            (
+                "add",
+                ours::add(a, kind, id, 255),
+                table::add(b, kind, id, 255),
+            ),
             (
                 "change",
-                ours::change(a, id, 255),
-                table::change(b, id, 255),
+                ours::change(a, kind, id, 255),
+                table::change(b, kind, id, 255),
             ),
         ];
         for (call, ours, answer) in answers {
-            self.desk.same(call, (id, t.len()), ours, answer);
-            same(call, (id, t.len()), ours, expected);
+            self.desk.same(call, (card, t.len()), ours, answer);
+            same(call, (card, t.len()), ours, expected);
         }
-        same_all("table", id, &ours_t, t);
-        same_all("table of the reference", id, &their_t, t);
+        same_all("table", card, &ours_t, t);
+        same_all("table of the reference", card, &their_t, t);
 
         let (a, b) = (&mut ours_t, &mut their_t);
-        let ours = ours::change(a, id, 254);
-        self.instead
-            .same("change", id, ours, table::change(b, id, 254));
-        let ours = ours::add(a, id, 254);
-        self.instead.same("add", id, ours, table::add(b, id, 254));
-        same_all("table", id, a, b);
+        let ours = ours::change(a, kind, id, 254);
+        let answer = table::change(b, kind, id, 254);
+        self.instead.same("change", card, ours, answer);
+        let ours = ours::add(a, kind, id, 254);
+        let answer = table::add(b, kind, id, 254);
+        self.instead.same("add", card, ours, answer);
+        same_all("table", card, a, b);
     }
 
-    /// These must have occurred with plan 254. With 255, only causes 1 and 2 of them and 14.
+    /// These must have occurred with plan 254. With 255, only causes 15, 1 and 2 of them and 14.
     fn print(&self, what: &str, expected: &[u64]) {
         let what = format!("{} adds and changes to plan 255 {what}", self.desk.total());
-        let identifiers = expected.iter().copied().filter(|n| (1..=2).contains(n));
-        let desk: Vec<u64> = identifiers.chain([14]).collect();
+        let cards = expected.iter().copied().filter(|n| [15, 1, 2].contains(n));
+        let desk: Vec<u64> = cards.chain([14]).collect();
         self.desk.print(&what, &desk);
         self.instead.print("the same to plan 254", expected);
     }
 }
 
-/// A table filled to the first refusal and the identifiers tried: some words of each level and of the base list, which is full or
+/// A table filled to the first refusal and the cards tried: some words of each level and of the base list, which is full or
 /// nearly.
-fn full_table(shape: Shape) -> (Vec<u64>, Vec<Vec<u8>>) {
+fn full_table(shape: Shape) -> (Vec<u64>, Vec<Card>) {
     let mut t = vec![0; shape.table_len()];
     table::open(&mut t, shape.buckets1, shape.buckets2);
     let mut tried = different_cards(80 * (shape.buckets() + 1));
-    let taken = tried.iter().enumerate().take_while(|(i, id)| {
-        let word = identifier::word(id).expect("a card");
+    let taken = tried.iter().enumerate().take_while(|(i, card)| {
+        let word = card.word().expect("a card");
         shape.add(&mut t, word, (i % 255) as u8).is_ok()
     });
     let count = taken.count();
@@ -97,21 +103,21 @@ pub fn given(rng: &mut Rng, cases: u64) {
         }
         let numbers = some_numbers(rng);
         given.give(&known_card(rng, &cards), &numbers);
-        given.give(&any_identifier(rng), &numbers);
+        given.give(&any_card(rng), &numbers);
     }
     for (b1, b2) in [(1, 1), (2, 1), (4, 2)] {
         let shape = Shape::new(b1, b2).expect("in range");
         let (full, tried) = full_table(shape);
-        for id in &tried {
-            given.give(id, &full);
+        for card in &tried {
+            given.give(card, &full);
         }
-        let id = &tried[0];
+        let card = &tried[0];
         // Every length to the totals' end, and those about the right one.
         let right = full.len();
         for length in (0..=260).chain(right - 2..=right) {
-            given.give(id, &full[..length]);
+            given.give(card, &full[..length]);
         }
-        given.give(id, &[&full[..], &[0]].concat());
+        given.give(card, &[&full[..], &[0]].concat());
         for wrong in [
             [0, b2],
             [b1, 0],
@@ -122,10 +128,10 @@ pub fn given(rng: &mut Rng, cases: u64) {
         ] {
             let mut other = full.clone();
             other[..2].copy_from_slice(&wrong);
-            given.give(id, &other);
+            given.give(card, &other);
         }
     }
-    given.print("on tables of every kind", &[0, 1, 2, 4, 5, 6, 7, 8]);
+    given.print("on tables of every sort", &[0, 1, 2, 4, 5, 6, 7, 8, 15]);
 }
 
 /// Each live word of full tables with plan 255, and all of them, with the totals as they were and made right: cause 5 from every call
@@ -134,13 +140,13 @@ pub fn tables(rng: &mut Rng, long: bool) {
     let (mut refused, mut asked, mut right) = (Seen::none(), Seen::none(), Seen::none());
     let mut given = Given::none();
     let mut counts = [0; 3];
-    let mut wrong = |rng: &mut Rng, id: &[u8], t: &mut [u64], words: u64| {
+    let mut wrong = |rng: &mut Rng, card: &Card, t: &mut [u64], words: u64| {
         for total in [0, words] {
-            refuse(rng, &mut refused, id, t);
-            given.give(id, t);
+            refuse(rng, &mut refused, card, t);
+            given.give(card, t);
             ask(&mut asked, t, 255);
             let ours = ours::plan_total(t, 255);
-            same("total of 255", id, ours, Answer::accepted(total));
+            same("total of 255", card, ours, Answer::accepted(total));
             recount(t);
         }
     };
@@ -157,13 +163,15 @@ pub fn tables(rng: &mut Rng, long: bool) {
                 Place::Row(bucket, _) => usize::from(bucket >= b1 as usize),
                 Place::Entry(_) => 2,
             }] += 1;
-            let id = rng.pick::<Vec<u8>>(&tried);
+            let card = rng.pick(&tried);
+            let (kind, id) = (card.kind, &card.id);
             let mut t = sound.clone();
             set_plan(&mut t, place, 255);
-            wrong(rng, id, &mut t, 1);
+            wrong(rng, card, &mut t, 1);
             set_plan(&mut t, place, 254);
             recount(&mut t);
-            right.same("query", id, ours::query(&t, id), table::query(&t, id));
+            let ours = ours::query(&t, kind, id);
+            right.same("query", card, ours, table::query(&t, kind, id));
         }
         let mut all = sound.clone();
         for place in places(&sound) {
@@ -197,15 +205,15 @@ pub fn free_rows(rng: &mut Rng, cases: u64) {
         }
         let mut ours_t = t.clone();
         for _ in 0..10 {
-            let id = known_card(rng, &cards);
+            let Card { kind, id } = &known_card(rng, &cards);
             let plan = given_plan(rng);
-            let ours = ours::add(&mut ours_t, &id, plan);
-            called.same("add", &id, ours, table::add(&mut t, &id, plan));
-            same_all("table", &id, &ours_t, &t);
-            let id = known_card(rng, &cards);
-            let ours = ours::withdraw(&mut ours_t, &id);
-            called.same("withdraw", &id, ours, table::withdraw(&mut t, &id));
-            same_all("table", &id, &ours_t, &t);
+            let ours = ours::add(&mut ours_t, *kind, id, plan);
+            called.same("add", id, ours, table::add(&mut t, *kind, id, plan));
+            same_all("table", id, &ours_t, &t);
+            let Card { kind, id } = &known_card(rng, &cards);
+            let ours = ours::withdraw(&mut ours_t, *kind, id);
+            called.same("withdraw", id, ours, table::withdraw(&mut t, *kind, id));
+            same_all("table", id, &ours_t, &t);
         }
         let (mut ours_out, mut out) = ([0xa5; 6000], [0xa5; 6000]);
         let answer = plane::write(&t, &mut out);
@@ -217,9 +225,10 @@ pub fn free_rows(rng: &mut Rng, cases: u64) {
         );
         same_all("plane", t.len(), &ours_out, &out);
         let bytes = &out[..answer.value as usize];
-        for id in &cards {
-            let answer = plane::lookup(id, bytes);
-            read.same("lookup", id, ours::lookup(id, bytes), answer);
+        for card in &cards {
+            let answer = plane::lookup(card.kind, &card.id, bytes);
+            let ours = ours::lookup(card.kind, &card.id, bytes);
+            read.same("lookup", card, ours, answer);
             desk += u64::from(answer.value == 255);
         }
     }
@@ -276,18 +285,19 @@ pub fn lookups(rng: &mut Rng, cases: u64) {
                 bucket[0] = 0;
             }
         }
-        for id in cards.iter().take(64 - content.base.len()) {
-            let word = identifier::word(id).expect("a card");
+        for card in cards.iter().take(64 - content.base.len()) {
+            let word = card.word().expect("a card");
             let second = identifier::level2_vector(word);
             content.base.insert(second, given_plan(rng));
         }
         let bytes = content.bytes();
-        for id in &cards {
-            let ours = ours::lookup(id, &bytes);
-            seen.same("lookup", id, ours, plane::lookup(id, &bytes));
-            let word = identifier::word(id).expect("a card");
+        for card in &cards {
+            let ours = ours::lookup(card.kind, &card.id, &bytes);
+            let answer = plane::lookup(card.kind, &card.id, &bytes);
+            seen.same("lookup", card, ours, answer);
+            let word = card.word().expect("a card");
             let (plan, by_bucket) = plan_by(&content, word);
-            same("plan", id, ours, Answer::accepted(plan.into()));
+            same("plan", card, ours, Answer::accepted(plan.into()));
             counts[match (plan, by_bucket) {
                 (255, true) => 0,
                 (255, false) => 1,
@@ -307,7 +317,7 @@ pub fn lookups(rng: &mut Rng, cases: u64) {
 /// the offset of the first record that is wrong.
 pub fn planes(rng: &mut Rng, cases: u64) {
     let mut seen = Seen::none();
-    let ids = different_cards(100);
+    let cards = different_cards(100);
     for _ in 0..cases {
         let (b1, b2) = some_shape(rng);
         let words = some_words(rng, 100);
@@ -316,11 +326,12 @@ pub fn planes(rng: &mut Rng, cases: u64) {
         let right = content.bytes();
         let first = 5 + 66 * content.buckets.len();
         let end = first + 10 * content.base.len();
-        let id = card(rng, &ids);
+        let card = card(rng, &cards);
         let mut expect = |bytes: &[u8], offset: Option<usize>| {
-            let ours = ours::lookup(&id, bytes);
-            seen.same("lookup", &id, ours, plane::lookup(&id, bytes));
-            if let (Some(offset), Ok(_)) = (offset, identifier::word(&id)) {
+            let ours = ours::lookup(card.kind, &card.id, bytes);
+            let answer = plane::lookup(card.kind, &card.id, bytes);
+            seen.same("lookup", &card, ours, answer);
+            if let (Some(offset), Ok(_)) = (offset, card.word()) {
                 let expected = Answer::refused(10, offset as u64);
                 same("255 in a base entry", offset, ours, expected);
             }
@@ -349,6 +360,6 @@ pub fn planes(rng: &mut Rng, cases: u64) {
     }
     seen.print(
         &format!("{cases} planes with 255 in each base entry"),
-        &[0, 1, 2, 10],
+        &[0, 1, 2, 10, 15],
     );
 }

@@ -1,14 +1,14 @@
 //! Calls and questions for a total on tables, sound ones and damaged ones, and short histories.
 
 use crate::compare::{same_all, Seen};
-use crate::random::{any_plan, card, cards, damage, some_shape, some_table};
+use crate::random::{any_plan, card, cards, damage, some_shape, some_table, Card};
 use crate::totals;
 use reference::ours;
 use reference::rng::Rng;
 use reference::table::{self, Shape};
 
 /// A call put to both, on tables that are equal: the same answer, and equal tables after it.
-fn call(rng: &mut Rng, seen: &mut Seen, cards: &[Vec<u8>], ours_t: &mut [u64], t: &mut [u64]) {
+fn call(rng: &mut Rng, seen: &mut Seen, cards: &[Card], ours_t: &mut [u64], t: &mut [u64]) {
     if !rng.one_in(24) {
         return call_but_open(rng, seen, cards, ours_t, t);
     }
@@ -29,34 +29,40 @@ fn call(rng: &mut Rng, seen: &mut Seen, cards: &[Vec<u8>], ours_t: &mut [u64], t
 fn call_but_open(
     rng: &mut Rng,
     seen: &mut Seen,
-    cards: &[Vec<u8>],
+    cards: &[Card],
     ours_t: &mut [u64],
     t: &mut [u64],
 ) {
-    let id = card(rng, cards);
+    let card = card(rng, cards);
+    let (kind, id) = (card.kind, &card.id);
     let plan = any_plan(rng);
     match rng.below(24) {
-        0..=6 => seen.same("query", &id, ours::query(ours_t, &id), table::query(t, &id)),
+        0..=6 => seen.same(
+            "query",
+            &card,
+            ours::query(ours_t, kind, id),
+            table::query(t, kind, id),
+        ),
         7..=12 => seen.same(
             "change",
-            &id,
-            ours::change(ours_t, &id, plan),
-            table::change(t, &id, plan),
+            &card,
+            ours::change(ours_t, kind, id, plan),
+            table::change(t, kind, id, plan),
         ),
         13..=15 => seen.same(
             "withdraw",
-            &id,
-            ours::withdraw(ours_t, &id),
-            table::withdraw(t, &id),
+            &card,
+            ours::withdraw(ours_t, kind, id),
+            table::withdraw(t, kind, id),
         ),
         _ => seen.same(
             "add",
-            &id,
-            ours::add(ours_t, &id, plan),
-            table::add(t, &id, plan),
+            &card,
+            ours::add(ours_t, kind, id, plan),
+            table::add(t, kind, id, plan),
         ),
     }
-    same_all("table", &id, ours_t, t);
+    same_all("table", &card, ours_t, t);
 }
 
 /// Calls on tables, sound ones and damaged ones, whole tables compared after each, and questions for a total.
@@ -82,7 +88,7 @@ pub fn tables(rng: &mut Rng, cases: u64) {
             "{} calls on {cases} tables, sound and damaged",
             seen.total()
         ),
-        &[0, 1, 2, 3, 4, 5, 6, 7, 8, 14],
+        &[0, 1, 2, 3, 4, 5, 6, 7, 8, 14, 15],
     );
     asked.print(
         &format!("{} questions for a total on them", asked.total()),
@@ -114,11 +120,13 @@ pub fn histories(rng: &mut Rng, cases: u64) {
         let mut filling = true;
         for _ in 0..2000 {
             if filling {
-                let id = rng.pick::<Vec<u8>>(&cards);
+                let card = rng.pick(&cards);
+                let (kind, id) = (card.kind, &card.id);
                 let plan = any_plan(rng);
-                let answer = table::add(&mut t, id, plan);
-                seen.same("add", id, ours::add(&mut ours_t, id, plan), answer);
-                same_all("table", id, &ours_t, &t);
+                let answer = table::add(&mut t, kind, id, plan);
+                let ours = ours::add(&mut ours_t, kind, id, plan);
+                seen.same("add", card, ours, answer);
+                same_all("table", card, &ours_t, &t);
                 if answer.cause == 8 {
                     refused += 1;
                     filling = false;
@@ -134,7 +142,7 @@ pub fn histories(rng: &mut Rng, cases: u64) {
         &format!(
             "{cases} histories of 2,000 calls, {refused} of them filled until the first refusal"
         ),
-        &[0, 1, 2, 6, 7, 8, 14],
+        &[0, 1, 2, 6, 7, 8, 14, 15],
     );
     asked.print(
         &format!("{} questions for a total along them", asked.total()),

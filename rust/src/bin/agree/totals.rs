@@ -3,11 +3,11 @@
 use crate::compare::{differ, same, same_all, Seen};
 use crate::random::{
     cards, different_cards, given_plan, known_card, places, recount, set_plan, some_shape,
-    some_table, Place,
+    some_table, Card, Place,
 };
 use reference::rng::Rng;
 use reference::table::{self, Shape, HEADER, LEADING, LIVE_COUNT, TOTALS};
-use reference::{identifier, ours, plane};
+use reference::{ours, plane};
 
 /// A plan, often the first or the last.
 fn some_plan(rng: &mut Rng) -> u8 {
@@ -191,35 +191,46 @@ fn other_plan(rng: &mut Rng, t: &mut [u64], wanted: impl Fn(Place) -> bool) -> O
 }
 
 /// Each call that tests the table put to both: the same answers; the table and the output stay.
-pub fn refuse(rng: &mut Rng, seen: &mut Seen, id: &[u8], t: &[u64]) {
+pub fn refuse(rng: &mut Rng, seen: &mut Seen, card: &Card, t: &[u64]) {
+    let (kind, id) = (card.kind, &card.id);
     let plan = given_plan(rng);
     let (mut ours_t, mut their_t) = (t.to_vec(), t.to_vec());
     let (a, b) = (&mut ours_t, &mut their_t);
-    seen.same("add", id, ours::add(a, id, plan), table::add(b, id, plan));
+    seen.same(
+        "add",
+        card,
+        ours::add(a, kind, id, plan),
+        table::add(b, kind, id, plan),
+    );
     seen.same(
         "change",
-        id,
-        ours::change(a, id, plan),
-        table::change(b, id, plan),
+        card,
+        ours::change(a, kind, id, plan),
+        table::change(b, kind, id, plan),
     );
     seen.same(
         "withdraw",
-        id,
-        ours::withdraw(a, id),
-        table::withdraw(b, id),
+        card,
+        ours::withdraw(a, kind, id),
+        table::withdraw(b, kind, id),
     );
-    seen.same("query", id, ours::query(a, id), table::query(b, id));
+    seen.same(
+        "query",
+        card,
+        ours::query(a, kind, id),
+        table::query(b, kind, id),
+    );
     let (mut ours_out, mut out) = ([0xa5; 6000], [0xa5; 6000]);
     seen.same(
         "write",
-        id,
+        card,
         ours::write_plane(a, &mut ours_out),
         plane::write(b, &mut out),
     );
-    same_all("table", id, &ours_t, t);
-    same_all("table of the reference", id, &their_t, t);
-    same_all("output", id, &ours_out, &[0xa5; 6000]);
-    same_all("output of the reference", id, &out, &[0xa5; 6000]);
+    same_all("table", card, &ours_t, t);
+    same_all("table of the reference", card, &their_t, t);
+    same_all("output", card, &ours_out, &[0xa5; 6000]);
+    same_all("output of the reference", card, &out, &[0xa5; 6000]);
 }
 
 /// Sound tables made wrong in each of the ways: cause 5 from every call that tests the table, and from none once the totals are right
@@ -236,11 +247,16 @@ pub fn wrong(rng: &mut Rng, cases: u64) {
                 continue;
             }
             *count += 1;
-            let id = known_card(rng, &cards);
-            refuse(rng, &mut refused, &id, &t);
+            let card = known_card(rng, &cards);
+            refuse(rng, &mut refused, &card, &t);
             ask_some(rng, &mut asked, &t);
             recount(&mut t);
-            right.same("query", &id, ours::query(&t, &id), table::query(&t, &id));
+            right.same(
+                "query",
+                &card,
+                ours::query(&t, card.kind, &card.id),
+                table::query(&t, card.kind, &card.id),
+            );
         }
     }
     for (wrong, count) in Wrong::ALL.iter().zip(counts) {
@@ -274,14 +290,14 @@ pub fn one_plan(rng: &mut Rng) {
     asked.print("questions for a total on them", &[0]);
 }
 
-/// Tables of both whose words all have one plan, and the words' identifiers.
+/// Tables of both whose words all have one plan, and the words' cards.
 struct Filled {
     ours_t: Vec<u64>,
     t: Vec<u64>,
     plan: u8,
-    inside: Vec<Vec<u8>>,
+    inside: Vec<Card>,
     /// Those that are added by calls; the last one is refused.
-    last: Vec<Vec<u8>>,
+    last: Vec<Card>,
 }
 
 impl Filled {
@@ -290,16 +306,17 @@ impl Filled {
         let mut t = vec![0; shape.table_len()];
         table::open(&mut t, shape.buckets1, shape.buckets2);
         let mut all = t.clone();
-        let add = |t: &mut [u64], id: &[u8]| {
-            let word = identifier::word(id).expect("a card");
+        let add = |t: &mut [u64], card: &Card| {
+            let word = card.word().expect("a card");
             shape.add(t, word, plan).is_ok()
         };
         let mut inside = different_cards(80 * (shape.buckets() + 1));
-        let count = inside.iter().take_while(|id| add(&mut all, id)).count();
+        let taken = inside.iter().take_while(|card| add(&mut all, card));
+        let count = taken.count();
         inside.truncate(count + 1);
         let last = inside.split_off((count + 1).saturating_sub(2_000 / shape.buckets()));
-        for id in &inside {
-            add(&mut t, id);
+        for card in &inside {
+            add(&mut t, card);
         }
         Filled {
             ours_t: t.clone(),
@@ -312,13 +329,14 @@ impl Filled {
 
     /// The last words added through the calls, to the first refusal.
     fn fill(&mut self, seen: &mut Seen, asked: &mut Seen) {
-        for id in std::mem::take(&mut self.last) {
-            let ours = ours::add(&mut self.ours_t, &id, self.plan);
-            let answer = table::add(&mut self.t, &id, self.plan);
-            seen.same("add", &id, ours, answer);
-            self.compare(asked, &id);
+        for card in std::mem::take(&mut self.last) {
+            let (kind, id) = (card.kind, &card.id);
+            let ours = ours::add(&mut self.ours_t, kind, id, self.plan);
+            let answer = table::add(&mut self.t, kind, id, self.plan);
+            seen.same("add", &card, ours, answer);
+            self.compare(asked, &card);
             if answer.is_accepted() {
-                self.inside.push(id);
+                self.inside.push(card);
             }
         }
         let live = self.inside.len() as u64;
@@ -331,23 +349,26 @@ impl Filled {
     /// Some words changed, to this plan and to others, 255 among them, and withdrawn.
     fn empty(&mut self, rng: &mut Rng, seen: &mut Seen, asked: &mut Seen) {
         for _ in 0..5 {
-            let id = self
+            let card = self
                 .inside
                 .swap_remove(rng.below(self.inside.len() as u64) as usize);
+            let (kind, id) = (card.kind, &card.id);
             for plan in [self.plan, some_plan(rng), 255, self.plan, 254 - self.plan] {
-                let ours = ours::change(&mut self.ours_t, &id, plan);
-                seen.same("change", &id, ours, table::change(&mut self.t, &id, plan));
-                self.compare(asked, &id);
+                let ours = ours::change(&mut self.ours_t, kind, id, plan);
+                let answer = table::change(&mut self.t, kind, id, plan);
+                seen.same("change", &card, ours, answer);
+                self.compare(asked, &card);
             }
-            let ours = ours::withdraw(&mut self.ours_t, &id);
-            seen.same("withdraw", &id, ours, table::withdraw(&mut self.t, &id));
-            self.compare(asked, &id);
+            let ours = ours::withdraw(&mut self.ours_t, kind, id);
+            let answer = table::withdraw(&mut self.t, kind, id);
+            seen.same("withdraw", &card, ours, answer);
+            self.compare(asked, &card);
         }
         ask_all(asked, &self.t);
     }
 
-    fn compare(&self, asked: &mut Seen, id: &[u8]) {
-        same_all("table", id, &self.ours_t, &self.t);
+    fn compare(&self, asked: &mut Seen, card: &Card) {
+        same_all("table", card, &self.ours_t, &self.t);
         ask(asked, &self.ours_t, self.plan);
     }
 }

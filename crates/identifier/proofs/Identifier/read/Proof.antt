@@ -1,109 +1,82 @@
--- `identifier::Identifier::read` meets its contract. The loop's invariant: scanning the bytes that are left, from i and h on, finds what the bytes are.
+-- `identifier::Identifier::read` meets its contract.
 -- Assumes nothing.
 use borrow.Author.Needs.{needs}
-use mathlib.Core.Path.{_≡_, sym, ap, _∙_}
-use Prim.Native.Nat.{_≤_, _<_, _-_}
-use native.Mathlib.Numerals.{add-one}
+use borrow.Author.Tests.{not-true, not-false, le-leb}
+use Prim.Native.Nat.{ℕ, _≤_, _<_}
+use native.Mathlib.Nat.{le-trans}
 use native.Mathlib.Omega.{arith}
-use lib.ListN.{length, drop, getD, drop-of-length-le}
-use borrow.Author.Tests.{le-leb, lt-leb}
-use Rattle.identifier.specs.Identifier.{foldOf, mostBytes, readOf}
-use Rattle.identifier.specs.declared.Read.the-variants.{Word}
-use Rattle.identifier.proofs.Scan.{scan, scan-read, scan-refused, scan-more, scan-end}
+use mathlib.Core.Path.{_≡_, sym, ap, _∙_}
+use mathlib.Core.Logic.{_⊎_, inl, inr}
+use mathlib.Core.Bool.{true}
+use lib.Dec.{lit≤}
+use lib.ListN.{take}
+use lib.Seq.{length-take-le}
+use Rattle.identifier.specs.Identifier.{mostBytes, isKind, readOf}
+use Rattle.identifier.specs.Scan.{scan}
+use Rattle.identifier.proofs.Folding.{between-parts}
+use Rattle.identifier.proofs.Causes.{range-exactly}
+use Rattle.identifier.proofs.Scan.{scan-read}
 use Rattle.identifier.proofs.Identifier.read.Statement.{statement}
 use Rattle.identifier.proofs.Identifier.read.Tie as tie
 
-abbrev Inv-loop : tie.InvT-loop
-Inv-loop s n table h₀ i₀ h i = (i ≤ length s) × (scan i h (drop i s) ≡ readOf s)
+cast-out-of-range : tie.Need-cast-out-of-range
+cast-out-of-range c = search needs
 
-abbrev μ-loop : tie.MeasureT-loop
-μ-loop s n table h₀ i₀ h i = length s - i
+out-of-range-requires : tie.Need-out-of-range-requires
+out-of-range-requires c κs = search needs
 
-returns : tie.Need-returns Inv-loop μ-loop
+returns : tie.Need-returns
 unfolding readOf
-returns c = simp (lt-leb _ _ (c .if1 .taken))
+returns c = rw (sym (c .before .out-of-range .ensures) ∙ c .if1 .taken)
 
-returns-2 : tie.Need-returns-2 Inv-loop μ-loop
+out-of-range-requires-2 : tie.Need-out-of-range-requires-2
+out-of-range-requires-2 c κs = search needs
+
+-- what is over a limit is over a lower one
+over : (limit last n : ℕ) → limit ≤ last → (n ≡ 0) ⊎ (last < n) → (n ≡ 0) ⊎ (limit < n)
+over limit last n l (inl z) = inl z
+over limit last n l (inr h) = inr (omega arith)
+
+returns-2 : tie.Need-returns-2
 unfolding readOf
 returns-2 c =
-    let long : mostBytes < length (c .before .before .before .args .s .now) = omega arith in
-    simp (le-leb _ _ (c .before .if1 .left), lt-leb _ _ long)
+    let n = c .before .before .before .before .before .args .n in
+    let wrong = over mostBytes _ n (lit≤ tt) (range-exactly _ n .0 (not-true _ (sym (c .before .out-of-range2 .ensures) ∙ c .if2 .taken))) in
+    rw (sym (c .before .before .before .out-of-range .ensures) ∙ c .before .before .if1 .left, range-exactly mostBytes n .1 wrong)
 
-table-requires : tie.Need-table-requires Inv-loop μ-loop
-table-requires c κs = search needs
-
-loop-holds : tie.Need-loop-holds Inv-loop μ-loop
-loop-holds c =
-    let s = c .before .before .before .before .args .s .now in
-    let one : 1 ≤ length s = omega arith in
-    let few : length s ≤ mostBytes = omega arith in
-    (search needs, scan-read s (rw (le-leb _ _ one, le-leb _ _ few)))
-
-shared-slice-read-b : tie.Need-shared-slice-read-b Inv-loop μ-loop
-shared-slice-read-b c = search needs
-
-cast-b : tie.Need-cast-b Inv-loop μ-loop
-cast-b c = omega (arith, c .shared-slice-known2 .given (c .before .before .loop .i))
-
-array-read-b : tie.Need-array-read-b Inv-loop μ-loop
-array-read-b c = omega (arith, c .shared-slice-known2 .given (c .before .before .loop .i))
-
--- the entry of the byte at i
-entry : (c : tie.After-shared-slice-known2 Inv-loop μ-loop) →
-    let at-loop = c .before .before in
-    let b = getD (at-loop .before .before .before .before .before .args .s .now) (at-loop .loop .i) 0 in
-    getD (at-loop .before .table .result) b 0 ≡ foldOf b
-entry c = c .before .before .before .table .ensures _ (c .shared-slice-known2 .given (c .before .before .loop .i) .fits)
-
-returns-3 : tie.Need-returns-3 Inv-loop μ-loop
-returns-3 c =
-    let at-loop = c .before .before .before in
-    let s = at-loop .before .before .before .before .before .args .s .now in
-    sym (scan-refused s (at-loop .loop .i) (at-loop .loop .h) (search needs) (rw (← entry (c .before)) (c .if3 .taken))) ∙ at-loop .loop .inv .1
-
-fnv-step-requires : tie.Need-fnv-step-requires Inv-loop μ-loop
+fnv-step-requires : tie.Need-fnv-step-requires
 fnv-step-requires c κs = search needs
 
-add-i : tie.Need-add-i Inv-loop μ-loop
-add-i c = search needs
+returns-3 : tie.Need-returns-3
+returns-3 c =
+    let p = c .before .before .before in
+    let a = p .before .before .before .before .before in
+    let r : isKind (a .args .kind) ≡ true = not-false _ (sym (p .before .before .before .out-of-range .ensures) ∙ p .before .before .if1 .left) in
+    let l = between-parts 1 _ (a .args .n) (not-false _ (sym (p .before .out-of-range2 .ensures) ∙ p .if2 .left)) in
+    let few : a .args .n ≤ mostBytes = le-trans (l .1) (lit≤ tt) in
+    c .read-bytes .ensures ∙ ap (λ (h : ℕ). scan 0 h (take (a .args .n) (a .args .s .now))) (c .before .before .fnv-step .ensures)
+    ∙ scan-read (record { kind = a .args .kind; stated = a .args .n; bytes = a .args .s .now }) r (rw (le-leb 1 _ (l .0), le-leb _ mostBytes few))
 
-loop-less : tie.Need-loop-less Inv-loop μ-loop
-loop-less c = search needs
+slice-aggregate-read-bytes : tie.Need-slice-aggregate-read-bytes
+slice-aggregate-read-bytes c =
+    let p = c .before .before in
+    let a = p .before .before .before .before .before in
+    let l = between-parts 1 _ (a .args .n) (not-false _ (sym (p .before .out-of-range2 .ensures) ∙ p .if2 .left)) in
+    sym (length-take-le (a .args .n) (a .args .s .now) (a .pre (l .1)))
 
-loop-again : tie.Need-loop-again Inv-loop μ-loop
-loop-again c =
-    let here = c .before .before in
-    let at-loop = here .before .before in
-    let i = at-loop .loop .i in
-    let next = scan-more (at-loop .before .before .before .before .before .args .s .now) i (at-loop .loop .h) (search needs) (rw (← entry here) (c .before .if3 .left)) in
-    (search needs, rw (add-one i, c .fnv-step .ensures, entry here) (sym next ∙ at-loop .loop .inv .1))
-
-mix-requires : tie.Need-mix-requires Inv-loop μ-loop
-mix-requires c κs = search needs
-
-returns-4 : tie.Need-returns-4 Inv-loop μ-loop
-returns-4 c =
-    let at-loop = c .before .before in
-    let end : length (at-loop .before .before .before .before .before .args .s .now) ≤ at-loop .loop .i = omega arith in
-    ap Word (c .mix .ensures) ∙ sym (scan-end (at-loop .loop .i) (at-loop .loop .h)) ∙ rw drop-of-length-le at (at-loop .loop .inv .1)
+read-bytes-requires : tie.Need-read-bytes-requires
+read-bytes-requires c κs = search needs
 
 pub read-spec : {M : Type 1} → statement M
 read-spec =
     tie.close
     (tie.spec
-    Inv-loop
-    μ-loop
+    cast-out-of-range
+    out-of-range-requires
     returns
+    out-of-range-requires-2
     returns-2
-    table-requires
-    loop-holds
-    shared-slice-read-b
-    cast-b
-    array-read-b
-    returns-3
     fnv-step-requires
-    add-i
-    loop-less
-    loop-again
-    mix-requires
-    returns-4)
+    slice-aggregate-read-bytes
+    read-bytes-requires
+    returns-3)
