@@ -16,7 +16,7 @@ use Rattle.answer.proofs.Causes.{One, OneEach, one-value, one-if, Given, exactl
 use Rattle.answer.specs.declared.Answer.{Answer}
 use Rattle.answer.specs.declared.Answer.the-variants.{WrongLength, WrongByte, WrongKind}
 use Rattle.identifier.specs.Identifier.{between, Token, idBytes, lastKind, isKind, mostBytes, sized, allowed, wordOf, firstRefused, readOf}
-use Rattle.identifier.specs.Causes.{wrongKind, wrongLength, AllowedTo, firstNotAllowed, wrongByte, idCauses, wordAnswer}
+use Rattle.identifier.specs.Causes.{wrongKind, wrongLength, AllowedTo, FirstNotAllowed, wrongByte, idCauses, wordAnswer}
 use Rattle.identifier.specs.declared.Read.{Read}
 use Rattle.identifier.specs.declared.Read.the-variants.{Word, Refused}
 use Rattle.identifier.proofs.Folding.{by-test}
@@ -127,10 +127,10 @@ range-exactly last n = (λ e. by-test (leb 1 n) (λ l. inr (leb-false n last (rw
     back (inr l) = let h : 1 ≤ n = omega arith in rw (le-leb 1 n h, lt-leb n last l)
 
 -- two first bytes not allowed are one
-pub one-byte : (s : List ℕ) → One (firstNotAllowed s)
+pub one-byte : (s : List ℕ) → One (FirstNotAllowed s)
 one-byte s i j p q = first-one s i j (made p) (made q)
   where
-    made : {i : ℕ} → firstNotAllowed s i → First s i
+    made : {i : ℕ} → FirstNotAllowed s i → First s i
     made p = record { within = le-of-lt (p .0); before = p .2; here = λ l. p .1 }
 
 -- each of an identifier's causes has one value

@@ -26,12 +26,12 @@ abbrev pub AllowedTo : List ℕ → ℕ → Type 0
 AllowedTo s i = (j : ℕ) → j < i → allowed (getD s j 0) ≡ true
 
 -- "byte not allowed"; index of the first
-abbrev pub firstNotAllowed : List ℕ → ℕ → Type 0
-firstNotAllowed s i = (i < length s) × (allowed (getD s i 0) ≡ false) × AllowedTo s i
+abbrev pub FirstNotAllowed : List ℕ → ℕ → Type 0
+FirstNotAllowed s i = (i < length s) × (allowed (getD s i 0) ≡ false) × AllowedTo s i
 
 -- with that index
 abbrev pub wrongByte : Token → Cause
-wrongByte i = record { number = 2; met = firstNotAllowed (idBytes i) }
+wrongByte i = record { number = 2; met = FirstNotAllowed (idBytes i) }
 
 -- an identifier's causes, in their order
 abbrev pub idCauses : Token → List Cause

@@ -1,4 +1,4 @@
--- The definitions run: document 01's session, from the bytes to the answers, and a bound that falls.
+-- The definitions run: document 01's session, from the bytes to the answers, one letter under seven kinds, and a bound that falls.
 -- Assumes nothing.
 use Prim.Native.Nat.{ℕ}
 use mathlib.Core.Path.{_≡_, refl}
