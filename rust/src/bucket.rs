@@ -1,5 +1,5 @@
-//! One bucket (document 01, "One bucket") and the fall of its bound ("The
-//! whole table").
+//! One bucket (document 01, "One bucket"; document 02, order 5) and the fall
+//! of its bound ("The whole table").
 //!
 //! Decisions:
 //! - "smallest vector first" compares vectors as unsigned 64-bit numbers, of
@@ -13,8 +13,22 @@
 //!   (withdrawals keep the solutions, so any moment before the new word's own
 //!   add gives the same).
 //! - Adding a live vector depends: its product has no free row's bit.
+//! - No step on columns gets a vector. Where v is k XOR 2^i, the parity of (v
+//!   AND column a) is bit a of k's product XOR bit i of column a, whatever the
+//!   columns are.
+//! - An add forms the product of its vector once: whether the vector is live,
+//!   the straight attempt and the fall of the bound go on from it. It is formed
+//!   anew after words have left, if the bucket still holds the vector. At a fall
+//!   at which none leaves it stays: the vector still depends, so nothing is
+//!   tried.
+//! - A withdrawal exchanges the two columns first and steps then. In the
+//!   exchanged columns the vector's product is the bit of its new row, so this
+//!   is the step of an add, and gives the same as to step and then to exchange.
 //! - Change and withdraw of a vector that is not live do nothing (the table
 //!   answers cause 7 before it would come to that).
+
+#[cfg(test)]
+mod tests;
 
 pub const WIDTH: usize = 64;
 pub const PLAN_BITS: usize = 8;
@@ -42,6 +56,8 @@ pub struct Leaving {
 
 /// 1 if the number of ones is odd, else 0.
 pub fn parity(x: u64) -> u64 {
+    #[cfg(test)]
+    crate::products::note_parity();
     u64::from(x.count_ones() % 2)
 }
 
@@ -58,6 +74,8 @@ impl Bucket {
     /// The product of a vector with K's inverse: bit i is the parity of
     /// (k AND column i).
     pub fn product(&self, k: u64) -> u64 {
+        #[cfg(test)]
+        crate::products::note_product(self, k);
         let mut product = 0;
         for (i, &col) in self.cols.iter().enumerate() {
             product |= parity(k & col) << i;
@@ -76,7 +94,11 @@ impl Bucket {
 
     /// The row of a live vector, or nothing.
     pub fn live(&self, k: u64) -> Option<usize> {
-        let product = self.product(k);
+        self.live_with(self.product(k))
+    }
+
+    /// `live` by the vector's product.
+    pub fn live_with(&self, product: u64) -> Option<usize> {
         if product.is_power_of_two() && self.mark & product != 0 {
             Some(product.trailing_zeros() as usize)
         } else {
@@ -87,12 +109,17 @@ impl Bucket {
     /// Adds a vector with its plan and gives its row; or, if the vector
     /// depends on the live ones, changes nothing and gives nothing.
     pub fn add(&mut self, k: u64, plan: u8) -> Option<usize> {
-        let free = self.product(k) & !self.mark;
+        self.add_with(k, self.product(k), plan)
+    }
+
+    /// `add` with the vector's product.
+    pub fn add_with(&mut self, k: u64, product: u64, plan: u8) -> Option<usize> {
+        let free = product & !self.mark;
         if free == 0 {
             return None;
         }
         let row = free.trailing_zeros() as usize;
-        self.column_step(k ^ (1 << row), row);
+        self.column_step(row, product);
         self.mark |= 1 << row;
         self.solution_step(k, plan, row);
         Some(row)
@@ -111,18 +138,20 @@ impl Bucket {
         // k is live in this row, so (k AND column) has odd parity and the
         // column has a set bit.
         let lowest = self.cols[row].trailing_zeros() as usize;
-        self.column_step(k ^ (1 << lowest), row);
+        // From here on k is in row `lowest`.
         self.cols.swap(row, lowest);
+        self.column_step(lowest, 1 << lowest);
         self.mark &= !(1 << lowest);
         Some(plan)
     }
 
-    /// XORs column `row` into each column a for which (v AND column a) has
-    /// odd parity.
-    fn column_step(&mut self, v: u64, row: usize) {
+    /// XORs column `row` into each column a for which bit a of the product and
+    /// bit `row` of column a differ.
+    fn column_step(&mut self, row: usize, product: u64) {
         let u = self.cols[row];
-        for col in &mut self.cols {
-            *col ^= u & parity(v & *col).wrapping_neg();
+        for (a, col) in self.cols.iter_mut().enumerate() {
+            let differ = (product >> a ^ *col >> row) & 1;
+            *col ^= u & differ.wrapping_neg();
         }
     }
 
@@ -183,32 +212,48 @@ impl Bucket {
     /// `threshold` gives the threshold of every vector of this bucket. The
     /// bucket must be sound.
     pub fn settle(&mut self, k: u64, plan: u8, threshold: impl Fn(u64) -> u64) -> Vec<Leaving> {
-        let mut leaving = Vec::new();
         if threshold(k) < self.bound {
-            if self.add(k, plan).is_some() {
+            self.settle_with(k, self.product(k), plan, threshold)
+        } else {
+            vec![Leaving { vector: k, plan }]
+        }
+    }
+
+    /// `settle` with the vector's product. Its threshold must be below the
+    /// bound.
+    pub fn settle_with(
+        &mut self,
+        k: u64,
+        product: u64,
+        plan: u8,
+        threshold: impl Fn(u64) -> u64,
+    ) -> Vec<Leaving> {
+        debug_assert!(threshold(k) < self.bound);
+        let mut leaving = Vec::new();
+        if self.add_with(k, product, plan).is_some() {
+            return leaving;
+        }
+        let mut vectors = self.live_vectors();
+        vectors.sort_unstable();
+        loop {
+            self.bound -= 1;
+            let bound = self.bound;
+            let gone = leaving.len();
+            for &vector in vectors.iter().filter(|&&v| threshold(v) == bound) {
+                let plan = self
+                    .withdraw(vector)
+                    .expect("the vectors of occupied rows are live");
+                leaving.push(Leaving { vector, plan });
+            }
+            if threshold(k) >= bound {
+                leaving.push(Leaving { vector: k, plan });
                 return leaving;
             }
-            let mut vectors = self.live_vectors();
-            vectors.sort_unstable();
-            loop {
-                self.bound -= 1;
-                let bound = self.bound;
-                for &vector in vectors.iter().filter(|&&v| threshold(v) == bound) {
-                    let plan = self
-                        .withdraw(vector)
-                        .expect("the vectors of occupied rows are live");
-                    leaving.push(Leaving { vector, plan });
-                }
-                if threshold(k) >= bound {
-                    break;
-                }
-                if self.add(k, plan).is_some() {
-                    return leaving;
-                }
+            // While none leaves, the vector depends as before.
+            if leaving.len() > gone && self.add(k, plan).is_some() {
+                return leaving;
             }
         }
-        leaving.push(Leaving { vector: k, plan });
-        leaving
     }
 }
 

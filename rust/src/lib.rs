@@ -1,6 +1,6 @@
 //! Reference implementation of the plan table, its plane and its patches,
 //! written from the requirement alone (document 01, "The plan table and its
-//! plane"; document 02, orders 1 to 4).
+//! plane"; document 02, orders 1 to 5).
 
 pub mod answer;
 pub mod bucket;
@@ -10,6 +10,8 @@ pub mod lines;
 pub mod ours;
 pub mod patch;
 pub mod plane;
+#[cfg(test)]
+mod products;
 pub mod rng;
 pub mod table;
 

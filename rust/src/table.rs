@@ -1,5 +1,5 @@
 //! The whole table as one slice of 64-bit numbers (document 01, "The whole
-//! table"; document 02, orders 2 to 4).
+//! table"; document 02, orders 2 to 5).
 //!
 //! Decisions:
 //! - Every call but opening and the question for a plan's total tests the whole
@@ -20,6 +20,11 @@
 //! - Cause 6 (live) comes before 8 (full). "Full" is judged by the whole add:
 //!   base entries only grow in number during it, so the first insertion that
 //!   finds 64 entries settles it.
+//! - An add forms the product of its word in the bucket where the bounds send
+//!   it, once: it tells whether the word is live, and settling goes on from it.
+//!   A word that they send to the base list needs none. A word that leaves level
+//!   1 gets one at level 2, if its bucket there holds it.
+//! - What goes further than level 1 goes to a copy of the table first.
 
 use crate::answer::*;
 use crate::bucket::{Bucket, BOUND_MAX, PLAN_BITS, WIDTH};
@@ -391,29 +396,43 @@ impl Shape {
     /// The add of a word: causes 14, 6, 8. The table must be sound.
     pub fn add(&self, table: &mut [u64], word: u64, plan: u8) -> Result<u64, Answer> {
         check_plan(plan)?;
-        if let Some(plan) = self.plan(table, word) {
-            return Err(Answer::refused(WORD_LIVE, u64::from(plan)));
-        }
-        let vector = level1_vector(word);
-        let index = identifier::bucket(identifier::place(vector), self.buckets1) as usize;
+        let live = |plan: u64| Answer::refused(WORD_LIVE, plan);
+        let spot = self.spot(table, word);
+        let vector = vector_at(spot, word);
+        let Some(index) = self.bucket_index(spot) else {
+            if let Ok(index) = self.find_base(table, vector) {
+                return Err(live(self.base_pair(table, index).1));
+            }
+            let mut draft = table.to_vec();
+            self.add_base(&mut draft, vector, plan)?;
+            table.copy_from_slice(&draft);
+            return Ok(count_in(table, plan));
+        };
         let mut bucket = self.read_bucket(table, index);
-        let leaving = bucket.settle(vector, plan, threshold_of);
-        if leaving.is_empty() {
+        let product = bucket.product(vector);
+        if bucket.live_with(product).is_some() {
+            return Err(live(bucket.lookup(vector).into()));
+        }
+        let leaving = bucket.settle_with(vector, product, plan, threshold_of);
+        if leaving.is_empty() && matches!(spot, Spot::Level1(_)) {
             self.write_bucket(table, index, &bucket);
-            count_in(table, plan);
-            return Ok(table[LIVE_COUNT]);
+            return Ok(count_in(table, plan));
         }
 
-        // Words go further, and the last of them may find the base list full:
-        // work on a copy until all have their place.
+        // Words go further than level 1, and the last of them may find the base
+        // list full: work on a copy until all have their place.
         let mut draft = table.to_vec();
         self.write_bucket(&mut draft, index, &bucket);
         for left in leaving {
-            self.add_level2(&mut draft, level2_vector(left.vector), left.plan)?;
+            match spot {
+                Spot::Level1(_) => {
+                    self.add_level2(&mut draft, level2_vector(left.vector), left.plan)?
+                }
+                _ => self.add_base(&mut draft, left.vector, left.plan)?,
+            }
         }
-        count_in(&mut draft, plan);
         table.copy_from_slice(&draft);
-        Ok(table[LIVE_COUNT])
+        Ok(count_in(table, plan))
     }
 
     fn add_level2(&self, table: &mut [u64], vector: u64, plan: u8) -> Result<(), Answer> {
@@ -530,10 +549,11 @@ fn total_at(plan: u8) -> usize {
     LEADING + usize::from(plan)
 }
 
-/// Counts a word that was added with a plan.
-fn count_in(table: &mut [u64], plan: u8) {
-    table[LIVE_COUNT] += 1;
+/// Counts a word that was added with a plan; the live count is returned.
+fn count_in(table: &mut [u64], plan: u8) -> u64 {
     table[total_at(plan)] += 1;
+    table[LIVE_COUNT] += 1;
+    table[LIVE_COUNT]
 }
 
 /// The vector under which a word is held at a spot.

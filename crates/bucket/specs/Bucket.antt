@@ -21,12 +21,19 @@ largestBound = 8
 unfoldable pub emptyBucket : ℕ → ℕ → Bucket
 emptyBucket n r = record { cols = units n; mark = 0; sols = replicate r 0; bound = largestBound }
 
+-- a vector whose product is p is live: p is one bit, and the mark has that row
+abbrev pub liveBy : ℕ → ℕ → ℕ → Bool
+liveBy n p mark =
+    let i : ℕ = trailingZeros n p in
+    eqb p (2 ^ i) && eqb (bit i mark) 1
+
+-- its row; n where it is not live
+abbrev pub rowBy : ℕ → ℕ → ℕ → ℕ
+rowBy n p mark = cond (liveBy n p mark) (trailingZeros n p) n
+
 -- k is live: its product is one bit, and that row is occupied
 unfoldable pub live : ℕ → ℕ → Bucket → Bool
-live n k b =
-    let p : ℕ = product (b .cols) k in
-    let i : ℕ = trailingZeros n p in
-    eqb p (2 ^ i) && eqb (bit i (b .mark)) 1
+live n k b = liveBy n (product (b .cols) k) (b .mark)
 
 -- the row of a live k; n where k is not live
 unfoldable pub rowOf : ℕ → ℕ → Bucket → ℕ

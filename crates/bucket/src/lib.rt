@@ -1,13 +1,14 @@
 // One bucket of document 01: 64 columns of the inverse of K, the mark word of occupied rows, 8 solution words and the bound.
 // Each step is an equation with a definition of specs/Bucket.antt, which follows document 01's "One bucket" sentence by sentence
-// at every number of rows and of solution words; proofs/Steps.antt has what the steps keep (K and its inverse, live vectors, plans).
+// at every number of rows and of solution words; proofs/Steps.antt has what the steps keep (K and its inverse, live vectors, plans),
+// proofs/Laws.antt an add and a withdrawal by product and row. The step on the columns gets a row and a product, and no vector.
 // Cites gf2 (vectors), lists and bits. bucket_words, bucket_settle, model and table build on it.
 ghost use mathlib.Core.Path.{_≡_};
 ghost use Prim.Native.Nat.{_<_, _≤_, _^_};
 ghost use lib.Count.{trailingZeros};
 ghost use lib.ListN.{length, getD};
-ghost use Rattle.gf2.specs.Vectors.{dot, product, colStep, solStep, exchange};
-ghost use Rattle.bucket.specs.Bucket.{emptyBucket, rowOf, lookup, add, change, withdraw};
+ghost use Rattle.gf2.specs.Vectors.{dot, product, rowStep, solStep, exchange};
+ghost use Rattle.bucket.specs.Bucket.{emptyBucket, rowBy, rowOf, lookup, add, change, withdraw};
 
 // The bucket by value. The columns travel as one array.
 pub struct Bucket {
@@ -31,7 +32,7 @@ pub fn dot(k: u64, c: u64) -> u64
 }
 
 // Bit i is the parity of ones in (k AND word i), for at most 64 words.
-pub(crate) fn product_in(words: &[u64], k: u64) -> u64
+pub fn product_in(words: &[u64], k: u64) -> u64
     requires { ⌜ length (now words) ≤ 64 ⌝ }
     ensures { λ r. ⌜ r ≡ product (now (words .entry)) k ⌝ }
 {
@@ -45,30 +46,34 @@ pub(crate) fn product_in(words: &[u64], k: u64) -> u64
 }
 
 // Bit i is the parity of ones in (k AND column i).
-pub(crate) fn product(cols: [u64; Bucket::ROWS], k: u64) -> u64
+pub fn product(cols: [u64; Bucket::ROWS], k: u64) -> u64
     ensures { λ r. ⌜ r ≡ product cols k ⌝ }
 {
     product_in(&cols, k)
 }
 
-// u = column i is XORed into each column a for which (v AND a) has odd parity.
-pub(crate) fn col_step(i: usize, v: u64, cols: [u64; Bucket::ROWS]) -> [u64; Bucket::ROWS]
+// The step on the columns for row i, by the product p and no vector: u = column i is XORed into each column a where bit a of p and
+// bit i of a differ.
+pub fn col_step(i: usize, p: u64, cols: [u64; Bucket::ROWS]) -> [u64; Bucket::ROWS]
     requires { do ⌜ i < (← ⟦Bucket::ROWS⟧) ⌝ }
-    ensures { λ r. ⌜ r ≡ colStep (getD cols i 0) v cols ⌝ }
+    ensures { λ r. ⌜ r ≡ rowStep (getD cols i 0) i p cols ⌝ }
 {
     let mut out = cols;
     let u = out[i];
+    let mut left = p;
     let mut at: usize = 0;
     while at < Bucket::ROWS {
         let a = out[at];
-        out[at] = bits::flip_if(dot(v, a), u, a);
+        let own = a >> i;
+        out[at] = bits::flip_if((left ^ own) % 2, u, a);
+        left = left / 2;
         at += 1;
     }
     out
 }
 
 // u is XORed into each solution word whose bit of d is set.
-pub(crate) fn sol_step(u: u64, d: u64, sols: [u64; Bucket::SOLUTIONS]) -> [u64; Bucket::SOLUTIONS]
+pub fn sol_step(u: u64, d: u64, sols: [u64; Bucket::SOLUTIONS]) -> [u64; Bucket::SOLUTIONS]
     ensures { λ r. ⌜ r ≡ solStep u d sols ⌝ }
 {
     let mut out = sols;
@@ -83,7 +88,7 @@ pub(crate) fn sol_step(u: u64, d: u64, sols: [u64; Bucket::SOLUTIONS]) -> [u64; 
 }
 
 // Columns i and j change places.
-pub(crate) fn exchanged(i: usize, j: usize, cols: [u64; Bucket::ROWS]) -> [u64; Bucket::ROWS]
+pub fn exchanged(i: usize, j: usize, cols: [u64; Bucket::ROWS]) -> [u64; Bucket::ROWS]
     requires { do ⌜ (i < (← ⟦Bucket::ROWS⟧)) × (j < (← ⟦Bucket::ROWS⟧)) ⌝ }
     ensures { λ r. ⌜ r ≡ exchange i j cols ⌝ }
 {
@@ -95,10 +100,25 @@ pub(crate) fn exchanged(i: usize, j: usize, cols: [u64; Bucket::ROWS]) -> [u64; 
 }
 
 // The lowest set bit of x; `ROWS` where x is 0.
-pub(crate) fn lowest(x: u64) -> usize
+pub fn lowest(x: u64) -> usize
     ensures { λ r. do ⌜ r ≡ trailingZeros (← ⟦Bucket::ROWS⟧ .entry) x ⌝ }
 {
     u64::trailing_zeros(x) as usize
+}
+
+// The row of a live vector whose product is p, under this mark; `ROWS` where it is not live.
+pub fn row_by(mark: u64, p: u64) -> usize
+    ensures { λ r. do ⌜ r ≡ rowBy (← ⟦Bucket::ROWS⟧ .entry) p mark ⌝ }
+{
+    let i = lowest(p);
+    if i < Bucket::ROWS {
+        if p == bits::power(i) {
+            if (mark >> i) % 2 == 1 {
+                return i;
+            }
+        }
+    }
+    Bucket::ROWS
 }
 
 impl Bucket {
@@ -148,17 +168,7 @@ impl Bucket {
         ensures { λ r. do ⌜ r ≡ rowOf (← ⟦Bucket::ROWS⟧ .entry) k self ⌝ }
     {
         let cols = self.cols;
-        let mark = self.mark;
-        let p = product(cols, k);
-        let i = lowest(p);
-        if i < Self::ROWS {
-            if p == bits::power(i) {
-                if (mark >> i) % 2 == 1 {
-                    return i;
-                }
-            }
-        }
-        Self::ROWS
+        row_by(self.mark, product(cols, k))
     }
 
     // k with its plan in the lowest free row whose product bit is 1; not done where there is none: k depends on the live vectors.
@@ -170,7 +180,7 @@ impl Bucket {
         let p = product(cols, k);
         let i = lowest(p ^ (p & mark));
         if i < Self::ROWS {
-            let next = col_step(i, k ^ bits::power(i), cols);
+            let next = col_step(i, p, cols);
             let sols = self.sols;
             let solved = sol_step(next[i], self.lookup(k) ^ plan, sols);
             return Tried {
@@ -223,7 +233,7 @@ impl Bucket {
             let cols = self.cols;
             let mark = self.mark;
             let j = lowest(cols[i]);
-            let next = exchanged(i, j, col_step(i, k ^ bits::power(j), cols));
+            let next = col_step(j, bits::power(j), exchanged(i, j, cols)); // k's product is bit j once the columns are exchanged
             let sols = self.sols;
             return Tried {
                 done: true,

@@ -13,6 +13,7 @@ use Rattle.lists.proofs.Tests.{cond-true, cond-false}
 use Rattle.bucket.specs.declared.Bucket.{Bucket}
 use Rattle.bucket.specs.declared.Tried.{Tried}
 use Rattle.bucket.specs.Bucket.{add}
+use Rattle.bucket.proofs.Laws.{done-test}
 use Rattle.bucket_settle.specs.declared.Outgoing.{Outgoing}
 use Rattle.bucket_settle.specs.declared.Settled.{Settled}
 use Rattle.bucket_settle.specs.Settle.{SoundBucket, contents, leaving, withdrawAll, atBound, lowered, Settlement, ahead, settle}
@@ -24,16 +25,24 @@ use Rattle.bucket_settle.proofs.Sound.{contents-few, lowered-sound, low
 -- ---- the three ways of the definition
 
 module _ (n : ℕ) (thr : ℕ → ℕ) (e : Entry) where
-  settle-done : (t : ℕ) (b : Bucket) → thr (e .word) < t → add n (e .word) (e .plan) b .done ≡ true → settle n thr e t b ≡ record { bucket = add n (e .word) (e .plan) b .bucket; out = [] }
+  pub settle-done : (t : ℕ) (b : Bucket) → thr (e .word) < t → add n (e .word) (e .plan) b .done ≡ true → settle n thr e t b ≡ record { bucket = add n (e .word) (e .plan) b .bucket; out = [] }
   settle-done zero b l d = absurd (not-suc-le-zero l)
   settle-done (suc t) b l d = cond-true _ _ (lt-ltb (thr (e .word)) (suc t) l) ∙ cond-true _ _ d
 
   settle-falls : (t : ℕ) (b : Bucket) → thr (e .word) < suc t → add n (e .word) (e .plan) b .done ≡ false → settle n thr e (suc t) b ≡ ahead (leaving n thr t b) (settle n thr e t (lowered n thr t b))
   settle-falls t b l d = cond-true _ _ (lt-ltb (thr (e .word)) (suc t) l) ∙ cond-false _ _ d
 
-  settle-past : (t : ℕ) (b : Bucket) → t ≤ thr (e .word) → settle n thr e t b ≡ record { bucket = b; out = e ∷ [] }
+  pub settle-past : (t : ℕ) (b : Bucket) → t ≤ thr (e .word) → settle n thr e t b ≡ record { bucket = b; out = e ∷ [] }
   settle-past zero b l = refl
   settle-past (suc t) b l = cond-false _ _ (le-ltb (thr (e .word)) (suc t) l)
+
+-- ---- a dependence that stays
+
+-- where no word leaves, the columns and the mark are those that they were
+pub depends-still : (n k plan t : ℕ) (b : Bucket) {b′ : Bucket} (q : Outgoing) → b′ ≡ atBound t (withdrawAll n (take (q .count) (q .vectors)) b) → q .count ≡ 0
+    → add n k plan b .done ≡ false → add n k plan b′ .done ≡ false
+depends-still n k plan t b q p z d =
+    ap (λ (c : Bucket). add n k plan c .done) (p ∙ ap (λ (m : ℕ). atBound t (withdrawAll n (take m (q .vectors)) b)) z) ∙ done-test n k plan (atBound t b) ∙ sym (done-test n k plan b) ∙ d
 
 -- ---- the loop
 

@@ -1,19 +1,22 @@
-// Settling under a bound: a word is added to one bucket, whose bound falls while the word depends; the words that leave go one level
-// further. specs/Settle.antt has the definition, in document 01's order, and specs/Outgoing.antt its result as the code keeps it.
+// Settling under a bound: a word that depends in one bucket comes to it, the bound falls while it depends, and the words that leave go one
+// level further. specs/Settle.antt has the definition, in document 01's order, and specs/Outgoing.antt its result as the code keeps it.
 // Laws: proofs/Hold.antt (what a bucket holds, as a list of entries), proofs/Fall.antt (where the bound comes to stand, who stays and
 // who leaves), proofs/Sound.antt (`settle-meaning`; the bucket stays sound).
-// Cites gf2, lists, identifier (thresholds), bucket_rows (the rows of K) and bucket. table_arrive and table_add build on it.
+// Cites gf2, lists, identifier (thresholds), bucket_rows (the rows of K), bucket and bucket_words. table_arrive and table_add build on it.
 use bucket::Bucket;
+use bucket::Tried;
 use identifier::threshold;
 ghost use mathlib.Core.Path.{_≡_};
-ghost use mathlib.Core.List.{[]};
+ghost use mathlib.Core.Bool.{false};
+ghost use mathlib.Core.List.{[], _∷_};
 ghost use Prim.Native.Nat.{_+_, _<_, _≤_};
-ghost use lib.ListN.{take};
+ghost use lib.ListN.{length, take};
 ghost use lib.Seq.{paste};
 ghost use Rattle.gf2.specs.Select.{chosen};
+ghost use Rattle.bucket.specs.Bucket.{add};
 ghost use Rattle.bucket_settle.specs.Settle.{SoundBucket, thresholdOf, leaving, withdrawAll, atBound, settle};
 ghost use Rattle.bucket_settle.specs.Outgoing.{outgoing, settledOf};
-ghost use Rattle.bucket_settle.specs.Steps.{putIn, positionOf, putAt, inserted, joined, leaves, leavingOf};
+ghost use Rattle.bucket_settle.specs.Steps.{putIn, positionOf, putAt, joined, leaves, leavingOf};
 
 // The words that leave a bucket, with their plans, in order; unused elements are 0.
 pub struct Outgoing {
@@ -29,25 +32,23 @@ pub struct Settled {
 }
 
 // x before element i; the last element goes.
-pub(crate) fn put_in(words: [u64; Outgoing::MOST], i: usize, x: u64) -> [u64; Outgoing::MOST]
-    ensures { λ r. ⌜ r ≡ putIn i x words ⌝ }
+pub(crate) fn put_in(words: &mut [u64], i: usize, x: u64)
+    ensures { λ _. ⌜ now (words .exit) ≡ putIn i x (now (words .entry)) ⌝ }
 {
-    let mut out = words;
     let mut carried = x;
     let mut at = i;
-    while at < Outgoing::MOST {
-        let next = out[at];
-        out[at] = carried;
+    while at < words.len() {
+        let next = words[at];
+        words[at] = carried;
         carried = next;
         at += 1;
     }
-    out
 }
 
 // How many of the first `count` vectors stand before the first that is larger than v.
-pub(crate) fn position_of(vectors: [u64; Outgoing::MOST], count: usize, v: u64) -> usize
-    requires { do ⌜ count ≤ (← ⟦Outgoing::MOST⟧) ⌝ }
-    ensures { λ r. ⌜ r ≡ positionOf v (take count vectors) ⌝ }
+pub(crate) fn position_of(vectors: &[u64], count: usize, v: u64) -> usize
+    requires { ⌜ count ≤ length (now vectors) ⌝ }
+    ensures { λ r. ⌜ r ≡ positionOf v (take count (now (vectors .entry))) ⌝ }
 {
     let mut i: usize = 0;
     while i < count {
@@ -97,22 +98,15 @@ impl Outgoing {
         requires { do ⌜ self .count < (← ⟦Outgoing::MOST⟧) ⌝ }
         ensures { λ r. ⌜ r ≡ putAt i v plan self ⌝ }
     {
-        let vectors = self.vectors;
-        let plans = self.plans;
+        let mut vectors = self.vectors;
+        let mut plans = self.plans;
+        put_in(&mut vectors, i, v);
+        put_in(&mut plans, i, plan);
         Self {
             count: self.count + 1,
-            vectors: put_in(vectors, i, v),
-            plans: put_in(plans, i, plan),
+            vectors,
+            plans,
         }
-    }
-
-    // v with its plan before the first word with a larger vector.
-    pub(crate) fn insert(self, v: u64, plan: u64) -> Self
-        requires { do ⌜ self .count < (← ⟦Outgoing::MOST⟧) ⌝ }
-        ensures { λ r. ⌜ r ≡ inserted v plan self ⌝ }
-    {
-        let vectors = self.vectors;
-        self.put_at(position_of(vectors, self.count, v), v, plan)
     }
 
     // v with its plan after all others.
@@ -121,6 +115,13 @@ impl Outgoing {
         ensures { λ r. ⌜ r ≡ putAt (self .count) v plan self ⌝ }
     {
         self.put_at(self.count, v, plan)
+    }
+
+    // v with its plan alone.
+    pub fn one(v: u64, plan: u64) -> Self
+        ensures { λ r. do ⌜ r ≡ outgoing (← ⟦Outgoing::MOST⟧ .entry) (record { word = v; plan = plan } ∷ []) ⌝ }
+    {
+        Self::none().push(v, plan)
     }
 
     // These words, then the next ones.
@@ -157,16 +158,25 @@ pub(crate) fn leaving_of(b: Bucket, rows: [u64; Bucket::ROWS], t: u64) -> Outgoi
     ensures { λ r. do ⌜ r ≡ outgoing (← ⟦Outgoing::MOST⟧ .entry) (leavingOf thresholdOf t b (chosen (b .mark) rows)) ⌝ }
 {
     let mark = b.mark;
-    let mut out = Outgoing::none();
+    let mut count: usize = 0;
+    let mut vectors = [0u64; Outgoing::MOST];
+    let mut plans = [0u64; Outgoing::MOST];
     let mut i = Bucket::ROWS;
     while 0 < i {
         i -= 1;
         let v = rows[i];
         if leaves((mark >> i) % 2, v, t) {
-            out = out.insert(v, b.lookup(v));
+            let at = position_of(&vectors, count, v);
+            put_in(&mut vectors, at, v);
+            put_in(&mut plans, at, b.lookup(v));
+            count += 1;
         }
     }
-    out
+    Outgoing {
+        count,
+        vectors,
+        plans,
+    }
 }
 
 // The words of threshold t, with their plans, smallest first.
@@ -187,13 +197,14 @@ pub(crate) fn withdraw_all(b: Bucket, out: Outgoing) -> Bucket
 {
     let vectors = out.vectors;
     let count = out.count;
-    let mut left = b;
+    let mut left = [0u64; Bucket::WORDS];
+    bucket_words::store(&mut left, b);
     let mut i: usize = 0;
     while i < count {
-        left = left.withdraw(vectors[i]).bucket;
+        bucket_words::withdraw(&mut left, vectors[i]);
         i += 1;
     }
-    left
+    bucket_words::load(&left)
 }
 
 // The bucket under the bound t.
@@ -210,17 +221,33 @@ pub(crate) fn at_bound(b: Bucket, t: u64) -> Bucket
     }
 }
 
-// The word k with its plan comes to the bucket. While it depends there, the bound falls by one, and the words whose threshold equals
-// the new bound leave, smallest vector first, each withdrawn. If k's threshold is not below the bound, k leaves last.
+// The add of k to a bucket that `gone` words have just left. Where none has left, k depends as it did: nothing is tried, and no product is
+// formed.
+pub(crate) fn tried_again(gone: usize, b: Bucket, k: u64, plan: u64) -> Tried
+    requires { do ⌜ (gone ≡ 0 → add (← ⟦Bucket::ROWS⟧) k plan b .done ≡ false) ⌝ }
+    ensures { λ r. do ⌜ r ≡ add (← ⟦Bucket::ROWS⟧ .entry) k plan b ⌝ }
+{
+    if gone == 0 {
+        return Tried {
+            done: false,
+            bucket: b,
+        };
+    }
+    b.add(k, plan)
+}
+
+// The word k comes to the bucket with its plan, and depends there. While it does, the bound falls by one, and the words whose threshold
+// equals the new bound leave, smallest vector first, each withdrawn. If k's threshold is not below the bound, k leaves last.
 pub fn settle(b: Bucket, k: u64, plan: u64) -> Settled
-    requires { do ⌜ SoundBucket (← ⟦Bucket::ROWS⟧) (← ⟦Bucket::SOLUTIONS⟧) b ⌝ }
+    requires { do ⌜ SoundBucket (← ⟦Bucket::ROWS⟧) (← ⟦Bucket::SOLUTIONS⟧) b × (add (← ⟦Bucket::ROWS⟧) k plan b .done ≡ false) ⌝ }
     ensures { λ r. do ⌜ r ≡ settledOf (← ⟦Outgoing::MOST⟧ .entry) (settle (← ⟦Bucket::ROWS⟧ .entry) thresholdOf (record { word = k; plan = plan }) (b .bound) b) ⌝ }
 {
     let own = threshold(k);
     let mut bucket = b;
     let mut out = Outgoing::none();
+    let mut left: usize = 0; // how many words left the bucket last
     while own < bucket.bound {
-        let tried = bucket.add(k, plan);
+        let tried = tried_again(left, bucket, k, plan);
         if tried.done {
             let added = tried.bucket;
             return Settled { bucket: added, out };
@@ -229,6 +256,7 @@ pub fn settle(b: Bucket, k: u64, plan: u64) -> Settled
         let gone = leaving(bucket, t);
         out = out.followed_by(gone);
         bucket = at_bound(withdraw_all(bucket, gone), t);
+        left = gone.count;
     }
     Settled {
         bucket,

@@ -5,9 +5,9 @@ use mathlib.Core.List.{List, [], _∷_, _++_, append-assoc}
 use Prim.Native.Nat.{ℕ, suc, _+_}
 use native.Mathlib.Numerals.{add-one}
 use native.Mathlib.Omega.{arith}
-use lib.ListN.{length, set, take, drop, length-append, length-drop, length-set, drop-of-length-le}
+use lib.ListN.{length, getD, set, take, drop, length-append, length-drop, length-set, drop-of-length-le}
 use lib.Seq.{length-take-le, drop-cons, drop-drop, set-at, take-at, drop-at}
-use borrow.Rule.Slice.PartMut.{putMid}
+use borrow.Rule.Slice.PartMut.{putMid, put-same}
 use Rattle.bucket.specs.declared.Bucket.{Bucket}
 use Rattle.bucket_words.specs.Words.{bucketWords, wordsOf, Shaped}
 
@@ -51,3 +51,18 @@ module _ {n r : ℕ} (t : List ℕ) {b : Bucket} (ht : length t ≡ bucketWords 
       ap (λ (s : List ℕ). set s (n + 1 + r) (b .bound)) solved-is
       ∙ rw (drop-cons t (n + 1 + r) 0 (omega arith), drop-of-length-le t {i = suc (n + 1 + r)} (omega arith), set-at (front ++ b .sols) _ _ (b .bound) (n + 1 + r) l)
       (simp append-assoc)
+
+  -- ---- a bucket whose bound the part has
+
+  -- the solutions as they lie there once the mark is written
+  sols-before : take r (drop (n + 1) marked) ≡ take r (drop (n + 1) t)
+  sols-before = rw (marked-is, drop-at front (drop (n + 1) t) (n + 1) length-front)
+
+  pub written : b .bound ≡ getD t (n + 1 + r) 0 → solved ≡ wordsOf b
+  unfolding wordsOf
+  written e =
+      solved-is ∙ rw (drop-cons t (n + 1 + r) 0 (omega arith), drop-of-length-le t {i = suc (n + 1 + r)} (omega arith), ← e) (simp append-assoc)
+
+  -- where the solutions stay too
+  pub framed : b .sols ≡ take r (drop (n + 1) t) → b .bound ≡ getD t (n + 1 + r) 0 → marked ≡ wordsOf b
+  framed s e = sym (put-same (n + 1) r marked) ∙ ap (putMid (n + 1) r marked) (sols-before ∙ sym s) ∙ written e

@@ -1,7 +1,7 @@
 -- A bucket and its words, there and back, at every number of rows and of solution words.
 -- Assumes nothing.
 use mathlib.Core.Path.{_≡_, sym, ap, _∙_, subst}
-use mathlib.Core.List.{List, _∷_, _++_, append-assoc}
+use mathlib.Core.List.{List, [], _∷_, _++_, append-assoc, append-nil}
 use Prim.Native.Nat.{ℕ, suc, _+_, _≤_, _<_}
 use native.Mathlib.Omega.{arith}
 use lib.ListN.{length, getD, take, drop, length-append, length-drop, length-replicate, take-append-drop}
@@ -38,6 +38,9 @@ module _ (n r : ℕ) (b : Bucket) (h : Shaped n r b) where
     pub from-words : bucketFrom n r (wordsOf b ++ rest) ≡ b
     unfolding bucketFrom
     from-words = rw (spread, take-at (b .cols) after-cols n (h .cols), getD-at (b .cols) (b .mark) (b .sols ++ b .bound ∷ rest) 0 n (h .cols), drop-cols 1, take-at (b .sols) (b .bound ∷ rest) r (h .sols), bound-at)
+
+pub words-bucket : (n r : ℕ) (b : Bucket) → Shaped n r b → bucketFrom n r (wordsOf b) ≡ b
+words-bucket n r b h = ap (bucketFrom n r) (sym (append-nil (wordsOf b))) ∙ from-words n r b h []
 
 -- what was loaded is what is stored
 pub words-from : (n r : ℕ) (xs : List ℕ) → bucketWords n r ≤ length xs → wordsOf (bucketFrom n r xs) ++ drop (bucketWords n r) xs ≡ xs

@@ -1,11 +1,14 @@
-// A bucket as its words in a part of a table: columns, mark, solutions, bound, as load and store find and leave them there.
-// Definitions: specs/Words.antt, at every number of rows and of solution words. Laws: proofs/Words.antt (there and back) and
-// proofs/Parts.antt (what each of store's writes leaves).
-// Cites bucket, gf2 and lists; table, table_layout and what works on tables build on it.
+// A bucket as its words in a part of a table: columns, mark, solutions, bound, as load and store find and leave them there; an add and a
+// withdrawal, which read and write what they change of it and no more.
+// Definitions: specs/Words.antt, at every number of rows and of solution words. Laws: proofs/Words.antt (there and back),
+// proofs/Parts.antt (what each of store's writes leaves) and proofs/OnWords.antt (the words after an add, after a withdrawal).
+// Cites bucket, gf2, lists and bits; bucket_settle, table, table_layout and what works on tables build on it.
 use bucket::Bucket;
 ghost use mathlib.Core.Path.{_≡_};
 ghost use lib.ListN.{length};
-ghost use Rattle.bucket_words.specs.Words.{bucketFrom, wordsOf};
+ghost use Rattle.gf2.specs.Vectors.{product};
+ghost use Rattle.bucket.specs.Bucket.{add, withdraw};
+ghost use Rattle.bucket_words.specs.Words.{bucketFrom, wordsOf, Stepped};
 
 // The words of `from` into `to`.
 pub fn put(to: &mut [u64], from: &[u64])
@@ -19,7 +22,8 @@ pub fn put(to: &mut [u64], from: &[u64])
     }
 }
 
-pub(crate) fn cols_in(part: &[u64]) -> [u64; Bucket::ROWS]
+// The columns of a bucket from their words.
+pub fn cols_in(part: &[u64]) -> [u64; Bucket::ROWS]
     requires { do ⌜ length (now part) ≡ (← ⟦Bucket::ROWS⟧) ⌝ }
     ensures { λ r. ⌜ r ≡ now (part .entry) ⌝ }
 {
@@ -63,4 +67,42 @@ pub fn store(part: &mut [u64], b: Bucket)
     part[Bucket::MARK_AT] = b.mark;
     put(&mut part[Bucket::SOLUTIONS_AT..Bucket::BOUND_AT], &sols);
     part[Bucket::BOUND_AT] = b.bound;
+}
+
+// The add of k, whose product is p, to the bucket of a part of a table. False where k depends on the live vectors: then nothing is written.
+pub fn add_by(part: &mut [u64], k: u64, p: u64, plan: u64) -> bool
+    requires { do ⌜ (length (now part) ≡ (← ⟦Bucket::WORDS⟧)) × (p ≡ product (bucketFrom (← ⟦Bucket::ROWS⟧) (← ⟦Bucket::SOLUTIONS⟧) (now part) .cols) k) ⌝ }
+    ensures { λ r. do ⌜ Stepped (← ⟦Bucket::ROWS⟧ .entry) (← ⟦Bucket::SOLUTIONS⟧ .entry) (add (← ⟦Bucket::ROWS⟧ .entry) k plan) (now (part .entry)) r (now (part .exit)) ⌝ }
+{
+    let mark = part[Bucket::MARK_AT];
+    let i = bucket::lowest(p ^ (p & mark));
+    if i < Bucket::ROWS {
+        let cols = cols_in(&part[0..Bucket::ROWS]);
+        let sols = sols_in(&part[Bucket::SOLUTIONS_AT..Bucket::BOUND_AT]);
+        let stepped = bucket::col_step(i, p, cols);
+        let solved = bucket::sol_step(stepped[i], bucket::product_in(&sols, k) ^ plan, sols);
+        put(&mut part[0..Bucket::ROWS], &stepped);
+        part[Bucket::MARK_AT] = mark | bits::power(i);
+        put(&mut part[Bucket::SOLUTIONS_AT..Bucket::BOUND_AT], &solved);
+        return true;
+    }
+    false
+}
+
+// The withdrawal of k from the bucket of a part of a table. False where k is not live: then nothing is written.
+pub fn withdraw(part: &mut [u64], k: u64) -> bool
+    requires { do ⌜ length (now part) ≡ (← ⟦Bucket::WORDS⟧) ⌝ }
+    ensures { λ r. do ⌜ Stepped (← ⟦Bucket::ROWS⟧ .entry) (← ⟦Bucket::SOLUTIONS⟧ .entry) (withdraw (← ⟦Bucket::ROWS⟧ .entry) k) (now (part .entry)) r (now (part .exit)) ⌝ }
+{
+    let mark = part[Bucket::MARK_AT];
+    let cols = cols_in(&part[0..Bucket::ROWS]);
+    let i = bucket::row_by(mark, bucket::product(cols, k));
+    if i < Bucket::ROWS {
+        let j = bucket::lowest(cols[i]);
+        let next = bucket::col_step(j, bits::power(j), bucket::exchanged(i, j, cols)); // k's product is bit j once the columns are exchanged
+        put(&mut part[0..Bucket::ROWS], &next);
+        part[Bucket::MARK_AT] = mark ^ (mark & bits::power(j));
+        return true;
+    }
+    false
 }

@@ -1,14 +1,15 @@
 -- The three outcomes of a step of a bucket that is handed in as its words.
 -- Assumes nothing.
-use mathlib.Core.Path.{_≡_, refl}
-use mathlib.Core.Bool.{true, false}
+use mathlib.Core.Path.{_≡_, refl, _∙_}
+use mathlib.Core.Bool.{Bool, true, false}
 use mathlib.Core.List.{List}
 use Prim.Native.Nat.{ℕ}
 use lib.ListN.{length}
 use borrow.Author.Tests.{eq-eqb, ne-eqb}
+use Rattle.lists.proofs.Tests.{cond-true, cond-false}
 use Rattle.bucket.specs.declared.Bucket.{Bucket}
 use Rattle.bucket.specs.declared.Tried.{Tried}
-use Rattle.bucket_words.specs.Words.{bucketWords, wordsOf, bucketFrom}
+use Rattle.bucket_words.specs.Words.{bucketWords, Stepped}
 use Rattle.table.specs.Calls.{rows, solutions}
 use Rattle.run_probe.specs.Steps.{probed}
 
@@ -21,11 +22,11 @@ module _ (step : Bucket → Tried) (p : List ℕ) where
   unfolding probed
   wrong h = rw (ne-eqb (length p) (bucketWords rows solutions) h) (refl, refl)
 
-  module _ (t : Tried) (h : length p ≡ bucketWords rows solutions) (e : t ≡ step (bucketFrom rows solutions p)) where
-    pub not-done : t .done ≡ false → Gives 0 p
+  module _ (h : length p ≡ bucketWords rows solutions) {said : Bool} {ws : List ℕ} (g : Stepped rows solutions step p said ws) where
+    pub was-done : said ≡ true → Gives 1 ws
     unfolding probed
-    not-done d = rw (eq-eqb (length p) (bucketWords rows solutions) h, ← e, d) (refl, refl)
+    was-done d = rw (eq-eqb (length p) (bucketWords rows solutions) h, ← g .says, d) (refl, g .words ∙ cond-true _ p d)
 
-    pub was-done : (ws : List ℕ) → t .done ≡ true → ws ≡ wordsOf (t .bucket) → Gives 1 ws
+    pub not-done : said ≡ false → Gives 0 ws
     unfolding probed
-    was-done ws d q = rw (eq-eqb (length p) (bucketWords rows solutions) h, ← e, d, q) (refl, refl)
+    not-done d = rw (eq-eqb (length p) (bucketWords rows solutions) h, ← g .says, d) (refl, g .words ∙ cond-false _ p d)

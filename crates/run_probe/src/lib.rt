@@ -91,11 +91,8 @@ pub extern "C" fn probe_add(part: &mut [u64], k: u64, plan: u64) -> u64
     if part.len() != Bucket::WORDS {
         return 2;
     }
-    let b = bucket_words::load(part);
-    let t = b.add(k, plan);
-    if t.done {
-        let next = t.bucket;
-        bucket_words::store(part, next);
+    let p = bucket::product(bucket_words::cols_in(&part[0..Bucket::ROWS]), k);
+    if bucket_words::add_by(part, k, p, plan) {
         return 1;
     }
     0
@@ -109,11 +106,7 @@ pub extern "C" fn probe_withdraw(part: &mut [u64], k: u64) -> u64
     if part.len() != Bucket::WORDS {
         return 2;
     }
-    let b = bucket_words::load(part);
-    let t = b.withdraw(k);
-    if t.done {
-        let next = t.bucket;
-        bucket_words::store(part, next);
+    if bucket_words::withdraw(part, k) {
         return 1;
     }
     0

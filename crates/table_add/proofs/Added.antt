@@ -1,7 +1,7 @@
 -- A word that is not live arrives at level 1: what that leaves is document 01's add. At every number n of rows and r of solution words, and for
 -- every mix S; then at 64 and 8.
 -- Assumes nothing.
-use Prim.Native.Nat.{ℕ, zero, suc, _+_, _^_, _≤_, _<_}
+use Prim.Native.Nat.{ℕ, suc, _+_, _^_, _≤_, _<_}
 use native.Mathlib.Omega.{arith}
 use mathlib.Core.Path.{_≡_, refl, sym, ap, ap₂, _∙_, subst, subst⁻¹}
 use mathlib.Core.Bool.{Bool, true, false}
@@ -9,20 +9,21 @@ use mathlib.Core.List.{List, [], _∷_, map}
 use mathlib.Core.Option.{none, some}
 use lib.Dec.{ltb}
 use lib.ListN.{length, getD, set, drop}
-use borrow.Author.Tests.{leb-false, le-ltb, lt-ltb, ltb-false}
+use borrow.Author.Tests.{leb-false, le-ltb, lt-ltb}
 use Rattle.answer.specs.declared.Answer.{Answer}
 use Rattle.answer.specs.declared.Answer.the-variants.{Accepted, Live, Full}
 use Rattle.lists.specs.Entries.{Entry}
 use Rattle.lists.specs.Totals.{oneMore}
+use Rattle.lists.proofs.Entries.{assignable-byte}
 use Rattle.lists.proofs.Tests.{cond-true, cond-false}
 use Rattle.hash.specs.Mix.{mixOf}
 use Rattle.bucket.specs.declared.Bucket.{Bucket}
 use Rattle.bucket_words.specs.Words.{bucketWords, bucketFrom}
 use Rattle.bucket_settle.specs.declared.Settled.{Settled}
-use Rattle.bucket_settle.specs.Settle.{SoundBucket, settle}
+use Rattle.bucket_settle.specs.Settle.{SoundBucket}
 use Rattle.bucket_settle.specs.Outgoing.{outgoing, settledOf}
 use Rattle.model.specs.Model.{baseLimit, add}
-use Rattle.table.specs.Table.{Table, totalNumbers, withFirst, withCount, withOne, thr, index, onSecond, put, bucketOf, holds, arriveAt, addedTo}
+use Rattle.table.specs.Table.{Table, totalNumbers, withFirst, withCount, withOne, thr, index, second, onSecond, put, bucketOf, holds, arriveAt, addedTo}
 use Rattle.table.specs.Layout.{buckets1At, liveCountAt, totalsAt, inRange, numbersOf, bucketPlace, tableFrom}
 use Rattle.table.specs.Calls.{rows, solutions, tableOf, planIn, Outcome, turnedDown, joined, served}
 use Rattle.table.proofs.Numbers.{header-read, write-count, long-numbers, read-total, write-more}
@@ -33,8 +34,8 @@ use Rattle.table_calls.proofs.Touched.{flat-of, live-room}
 use Rattle.table_calls.proofs.Calls.{total-few}
 use Rattle.table_arrive.specs.Arrival.{settledAt, storedAt, toSecond, Straight, Passed, Kept, FlatKept}
 use Rattle.table_arrive.proofs.Tables.{flat, first-sound, numbers-table, numbers-kept}
-use Rattle.table_arrive.proofs.Settled.{straightly, straight-is, bucket-is, out-is, out-few}
-use Rattle.table_add.specs.Arrivals.{seconds, allToSecond, entering, countedIn, Countable}
+use Rattle.table_arrive.proofs.Settled.{past-settled, straightly, straight-is, bucket-is, out-is, out-few}
+use Rattle.table_add.specs.Arrivals.{seconds, allToSecond, entering, Passing, countedIn, Countable}
 use Rattle.table_add.proofs.Arrivals.{all-law, add-law}
 use Rattle.table_add.proofs.Passing.{pass-none, pass-one}
 
@@ -146,11 +147,6 @@ module _ (n r : ℕ) (S : ℕ → ℕ) (t : List ℕ) (h : FlatKept n r t) (e : 
 
 -- ---- a word that settles at once: straight into its bucket, or in none at level 1. Either way u is the table before it is counted
 
-module _ (n : ℕ) (thr : ℕ → ℕ) (e : Entry) (b : Bucket) where
-  settle-passes : (x : ℕ) → x ≤ thr (e .word) → settle n thr e x b ≡ record { bucket = b; out = e ∷ [] }
-  settle-passes zero h = refl
-  settle-passes (suc t) h = cond-false _ _ (le-ltb (thr (e .word)) (suc t) h)
-
 module _ (n r : ℕ) (S : ℕ → ℕ) (t : List ℕ) (h : FlatKept n r t) (e : Entry) (small : e .word < 2 ^ n) (at : ℕ) (p : at ≡ bucketPlace n r (index S (getD t buckets1At 0) (e .word))) where
   pub counted-straight : (u : List ℕ) → Straight n r (thr S) at e t true u → Counted n r S t e u
   unfolding outgoing
@@ -164,10 +160,7 @@ module _ (n r : ℕ) (S : ℕ → ℕ) (t : List ℕ) (h : FlatKept n r t) (e : 
     passing = settledOf 1 (record { bucket = bucketFrom n r (drop at t); out = e ∷ [] })
 
     passing-is : passing ≡ settledOf 1 (settledAt n r (thr S) at e t)
-    passing-is =
-        ap (settledOf 1)
-        (sym (settle-passes n (thr S) e (bucketFrom n r (drop at t)) _
-        (ltb-false (thr S (e .word)) _ (ap (λ (b : Bucket). ltb (thr S (e .word)) (b .bound)) (first-here n r t (flat n r t h .shape) S (e .word) at p) ∙ f))))
+    passing-is = past-settled n r (thr S) at e t (ap (λ (b : Bucket). ltb (thr S (e .word)) (b .bound)) (first-here n r t (flat n r t h .shape) S (e .word) at p) ∙ f) 1
 
     passes : (done : Bool) → Passed n r t (toSecond n r S (tableFrom n r t) (record { word = v; plan = e .plan })) done u → Passed n r t (allToSecond n r S (tableFrom n r t) (seconds S (passing .out))) done u
     unfolding outgoing
@@ -230,3 +223,20 @@ module _ (t : List ℕ) (w p : ℕ) where
   pub added-gone : planIn t w ≡ none → served t (add w p) ≡ outcome
   unfolding served
   added-gone e = ap (joined t added) e
+
+-- a word that level 1 does not hold: v is its form at level 2, u the table once it has gone on
+module _ {t : List ℕ} {w p : ℕ} (h : Passing t w p) (small : w < 2 ^ rows) {v : ℕ} (e : v ≡ second mixOf w) {u : List ℕ} {done : Bool}
+    (g : Passed rows solutions t (toSecond rows solutions mixOf (tableOf t) (record { word = v; plan = p })) done u) where
+  passing-counted : done ≡ true → Counted rows solutions mixOf t (record { word = w; plan = p }) u
+  passing-counted y =
+      counted-second rows solutions mixOf t (ready-kept t (h .ready)) (record { word = w; plan = p }) small _ refl (h .past) v e u (passed-as rows solutions t _ done true u y g)
+
+  pub passing-room : done ≡ true → Countable p u
+  passing-room y = count-room t (h .ready) (record { word = w; plan = p }) u (passing-counted y) (assignable-byte p (h .plan))
+
+  pub passing-done : done ≡ true → (a : Answer) (x : List ℕ) → (a ≡ Accepted (getD u liveCountAt 0 + 1)) × (x ≡ countedIn p u) → (a ≡ outcome t w p .answer) × (x ≡ outcome t w p .table)
+  passing-done y = entered-done t w p u (passing-counted y) (assignable-byte p (h .plan))
+
+  pub passing-full : done ≡ false → (Full ≡ outcome t w p .answer) × (u ≡ outcome t w p .table)
+  passing-full y =
+      entered-full t w p u (full-second rows solutions mixOf t (ready-kept t (h .ready)) (record { word = w; plan = p }) small _ refl (h .past) v e u (passed-as rows solutions t _ done false u y g))

@@ -3,18 +3,19 @@
 -- Assumes nothing.
 use Prim.Native.Nat.{ℕ, _+_, _^_, _≤_, _<_}
 use mathlib.Core.Path.{_≡_}
-use mathlib.Core.Bool.{Bool, true}
+use mathlib.Core.Bool.{Bool, true, false}
 use mathlib.Core.Option.{none}
 use mathlib.Core.List.{List, [], _∷_, map}
 use lib.ListN.{length, getD, set}
-use Rattle.lists.specs.Entries.{Entry}
+use Rattle.lists.specs.Entries.{Entry, assignable}
 use Rattle.lists.specs.Totals.{oneMore}
 use Rattle.hash.specs.Mix.{mixOf}
 use Rattle.bucket_settle.specs.declared.Outgoing.{Outgoing}
-use Rattle.table.specs.Table.{Table, totalNumbers, withSecond, onSecond, put, bucketOf, addedTo}
+use Rattle.table.specs.Table.{Table, totalNumbers, withSecond, onSecond, put, bucketOf, holds, addedTo}
 use Rattle.table.specs.Calls.{rows, solutions, tableOf, Outcome, joined}
 use Rattle.table.specs.Layout.{buckets1At, buckets2At, liveCountAt, totalsAt, numbersOf}
-use Rattle.table_arrive.specs.Arrival.{entriesOf, toSecond, fits, Kept, FlatKept}
+use Rattle.table_calls.specs.Ready.{Ready}
+use Rattle.table_arrive.specs.Arrival.{entriesOf, DependsIn, toSecond, fits, Kept, FlatKept}
 
 -- the words that leave level 1, as level 2 sees them
 abbrev pub seconds : (ℕ → ℕ) → Outgoing → List Entry
@@ -48,6 +49,25 @@ module _ (n r : ℕ) where
 -- what an add of the word e, which is not live, does at 64 rows and 8 solution words
 abbrev pub entering : List ℕ → Entry → Outcome
 entering t e = joined t (addedTo rows solutions mixOf (tableOf t) e) none
+
+-- a word that level 1 of a table that passes the tests holds, and a plan for it
+pub record Held (t : List ℕ) (w p : ℕ) : Type 0 where
+  pub ready : Ready t
+  pub plan : assignable p ≡ true
+  pub held : holds rows solutions mixOf (tableOf t .level1) w ≡ true
+
+-- a word that level 1 of such a table does not hold, and a plan for it
+pub record Passing (t : List ℕ) (w p : ℕ) : Type 0 where
+  pub ready : Ready t
+  pub plan : assignable p ≡ true
+  pub past : holds rows solutions mixOf (tableOf t .level1) w ≡ false
+
+-- a word that depends in the bucket where the bounds of such a table send it, and a plan for it
+pub record Depending (t : List ℕ) (w p : ℕ) : Type 0 where
+  pub ready : Ready t
+  pub plan : assignable p ≡ true
+  pub first : holds rows solutions mixOf (tableOf t .level1) w ≡ true → DependsIn rows solutions mixOf (tableOf t .level1) (record { word = w; plan = p })
+  pub second : holds rows solutions mixOf (tableOf t .level1) w ≡ false → DependsIn rows solutions mixOf (tableOf t .level2) (onSecond mixOf (record { word = w; plan = p }))
 
 -- the numbers of a table with one live word more, whose plan is p
 abbrev pub countedIn : ℕ → List ℕ → List ℕ

@@ -1,30 +1,35 @@
 // The call `add`: what leaves level 1 goes to level 2, and what leaves that to the base list. Nothing is written before it is known that
-// the base list has room; then only the stretches of the buckets that changed, the base list and the header are.
+// the base list has room; then only the stretches of the buckets that changed, the base list and the header are. The word's product in the
+// bucket that holds it is formed once: whether it is live, whether it goes straight in and whether it depends are told by it.
 // specs/Arrivals.antt has the words that go on, one after the other, as the code goes about them. Laws: proofs/Arrivals.antt (they lead to
 // the table of the crate table's `addedTo`), proofs/Passing.antt (the loops over them and the draft),
 // proofs/Added.antt (what a word that arrives at level 1 leaves is the call's table).
 // Cites table_arrive (the arrival of one word), table_calls (the tests of a call, the query), table, table_layout (places), bucket_settle (the words that leave
 // a bucket), identifier, bucket and table_base. The library, the line program and run_probe build on it.
 use answer::Answer;
+use bucket::Bucket;
 use bucket_settle::Outgoing;
 use identifier::Read;
 use table_base::Found;
 use table_layout::Table;
 ghost use mathlib.Core.Path.{_≡_};
-ghost use mathlib.Core.Bool.{true};
+ghost use mathlib.Core.Bool.{true, false};
 ghost use Prim.Native.Nat.{_+_, _<_, _≤_};
-ghost use lib.ListN.{length, getD};
+ghost use lib.ListN.{length, getD, drop};
 ghost use Rattle.lists.specs.Entries.{words, planLimit, assignable};
 ghost use Rattle.hash.specs.Mix.{mixOf};
 ghost use Rattle.answer.specs.declared.Answer.the-variants.{Accepted};
 ghost use Rattle.identifier.specs.Identifier.{token};
+ghost use Rattle.bucket_words.specs.Words.{bucketFrom};
+ghost use Rattle.bucket_settle.specs.Settle.{planOf};
 ghost use Rattle.model.specs.Model.{add};
-ghost use Rattle.table.specs.Table.{withBase};
+ghost use Rattle.table.specs.Table.{second, withBase, holds};
 ghost use Rattle.table.specs.Layout.{liveCountAt, numbersOf};
 ghost use Rattle.table.specs.Calls.{rows, solutions, tableOf, served, call};
+ghost use Rattle.table_base.specs.Base.{foundOf};
 ghost use Rattle.table_calls.specs.Ready.{Ready};
-ghost use Rattle.table_arrive.specs.Arrival.{Passed, FlatKept};
-ghost use Rattle.table_add.specs.Arrivals.{seconds, allToSecond, takeOver, Drafted, SameSize, entering, countedIn, Countable};
+ghost use Rattle.table_arrive.specs.Arrival.{productAt, productIn, DependsIn, Passed, FlatKept};
+ghost use Rattle.table_add.specs.Arrivals.{seconds, allToSecond, takeOver, Drafted, SameSize, entering, Held, Passing, Depending, countedIn, Countable};
 
 // The words that leave level 1 arrive at level 2 one after the other, on a draft. False as soon as the base list has no room: then nothing is
 // said of the draft.
@@ -115,9 +120,20 @@ pub(crate) fn count_one(t: &mut [u64], plan: u64) -> Answer
     Answer::Accepted(count)
 }
 
-// A word that is not live settles at level 1, and what leaves that goes on.
+// The plan of v, whose product is p, in the bucket at a place, if it is live there.
+pub(crate) fn plan_by(t: &[u64], at: usize, v: u64, p: u64) -> Found
+    requires { do ⌜ (at + (← ⟦Bucket::WORDS⟧) ≤ length (now t)) × (p ≡ productAt rows solutions at v (now t)) ⌝ }
+    ensures { λ r. ⌜ r ≡ foundOf (planOf rows v (bucketFrom rows solutions (drop at (now (t .entry))))) ⌝ }
+{
+    if bucket::row_by(t[at + Bucket::MARK_AT], p) < Bucket::ROWS {
+        return Found::Plan(table_layout::bucket_at(t, at).lookup(v));
+    }
+    Found::Nothing
+}
+
+// A word that is not live and that depends in its bucket at level 1 settles there, and what leaves that goes on.
 pub(crate) fn enter_settling(t: &mut [u64], w: u64, plan: u64) -> Answer
-    requires { ⌜ Ready (now t) × (plan < planLimit) ⌝ }
+    requires { ⌜ Ready (now t) × ((plan < planLimit) × DependsIn rows solutions mixOf (tableOf (now t) .level1) (record { word = w; plan = plan })) ⌝ }
     ensures { λ r. ⌜ (r ≡ entering (now (t .entry)) (record { word = w; plan = plan }) .answer) × (now (t .exit) ≡ entering (now (t .entry)) (record { word = w; plan = plan }) .table) ⌝ }
 {
     let at = table_layout::first_place(t, w);
@@ -131,22 +147,85 @@ pub(crate) fn enter_settling(t: &mut [u64], w: u64, plan: u64) -> Answer
     Answer::Full // and the bucket stays as it was
 }
 
-// A word that is not live arrives at level 1: straight into its bucket; or, where that does not hold it, at level 2; or it settles there.
-pub(crate) fn enter(t: &mut [u64], w: u64, plan: u64) -> Answer
-    requires { ⌜ Ready (now t) × (plan < planLimit) ⌝ }
+// A word that is not live and that depends in the bucket where the bounds send it settles there. Both levels end here, so that the draft
+// lies in the frame of this call alone: an add that goes straight in has a small one.
+pub(crate) fn enter_depending(t: &mut [u64], w: u64, plan: u64) -> Answer
+    requires { ⌜ Depending (now t) w plan ⌝ }
     ensures { λ r. ⌜ (r ≡ entering (now (t .entry)) (record { word = w; plan = plan }) .answer) × (now (t .exit) ≡ entering (now (t .entry)) (record { word = w; plan = plan }) .table) ⌝ }
 {
-    let at = table_layout::first_place(t, w);
-    if table_arrive::put_straight(t, at, w, plan) {
-        return count_one(t, plan);
-    }
     if table_layout::holds_first(t, w) {
         return enter_settling(t, w, plan);
     }
-    if table_arrive::arrive_second(t, identifier::second(w), plan) {
+    if table_arrive::settle_second(t, identifier::second(w), plan) {
         return count_one(t, plan);
     }
     Answer::Full
+}
+
+// A word that is not live, that level 1 holds and whose product in its bucket there is p arrives there: straight in, or it settles.
+pub(crate) fn enter(t: &mut [u64], w: u64, p: u64, plan: u64) -> Answer
+    requires { ⌜ Held (now t) w plan × (p ≡ productIn rows solutions mixOf (tableOf (now t) .level1) w) ⌝ }
+    ensures { λ r. ⌜ (r ≡ entering (now (t .entry)) (record { word = w; plan = plan }) .answer) × (now (t .exit) ≡ entering (now (t .entry)) (record { word = w; plan = plan }) .table) ⌝ }
+{
+    let at = table_layout::first_place(t, w);
+    if table_arrive::put_straight(t, at, w, p, plan) {
+        return count_one(t, plan);
+    }
+    enter_depending(t, w, plan)
+}
+
+// A word that is not live, that level 2 holds and level 1 does not, and whose product in its bucket at level 2 is p arrives there: straight
+// in, or it settles.
+pub(crate) fn enter_second(t: &mut [u64], w: u64, p: u64, plan: u64) -> Answer
+    requires { ⌜ Passing (now t) w plan × ((holds rows solutions mixOf (tableOf (now t) .level2) (second mixOf w) ≡ true) × (p ≡ productIn rows solutions mixOf (tableOf (now t) .level2) (second mixOf w))) ⌝ }
+    ensures { λ r. ⌜ (r ≡ entering (now (t .entry)) (record { word = w; plan = plan }) .answer) × (now (t .exit) ≡ entering (now (t .entry)) (record { word = w; plan = plan }) .table) ⌝ }
+{
+    let v = identifier::second(w);
+    let at = table_layout::second_place(t, v);
+    if table_arrive::put_straight(t, at, v, p, plan) {
+        return count_one(t, plan);
+    }
+    enter_depending(t, w, plan)
+}
+
+// A word that is not live and that neither level holds goes on to the base list.
+pub(crate) fn enter_last(t: &mut [u64], w: u64, plan: u64) -> Answer
+    requires { ⌜ Passing (now t) w plan × (holds rows solutions mixOf (tableOf (now t) .level2) (second mixOf w) ≡ false) ⌝ }
+    ensures { λ r. ⌜ (r ≡ entering (now (t .entry)) (record { word = w; plan = plan }) .answer) × (now (t .exit) ≡ entering (now (t .entry)) (record { word = w; plan = plan }) .table) ⌝ }
+{
+    if table_arrive::pass_second(t, identifier::second(w), plan) {
+        return count_one(t, plan);
+    }
+    Answer::Full
+}
+
+// An add of the word w, which level 1 holds: its product there is formed once.
+pub(crate) fn add_first(t: &mut [u64], w: u64, plan: u64) -> Answer
+    requires { ⌜ Held (now t) w plan ⌝ }
+    ensures { λ r. ⌜ (r ≡ served (now (t .entry)) (add w plan) .answer) × (now (t .exit) ≡ served (now (t .entry)) (add w plan) .table) ⌝ }
+{
+    let at = table_layout::first_place(t, w);
+    let p = table_arrive::product_at(t, at, w);
+    let found = plan_by(t, at, w, p);
+    match found {
+        Found::Plan(q) => Answer::Live(q),
+        Found::Nothing => enter(t, w, p, plan),
+    }
+}
+
+// An add of the word w, which level 2 holds and level 1 does not: its product at level 2 is formed once.
+pub(crate) fn add_second(t: &mut [u64], w: u64, plan: u64) -> Answer
+    requires { ⌜ Passing (now t) w plan × (holds rows solutions mixOf (tableOf (now t) .level2) (second mixOf w) ≡ true) ⌝ }
+    ensures { λ r. ⌜ (r ≡ served (now (t .entry)) (add w plan) .answer) × (now (t .exit) ≡ served (now (t .entry)) (add w plan) .table) ⌝ }
+{
+    let v = identifier::second(w);
+    let at = table_layout::second_place(t, v);
+    let p = table_arrive::product_at(t, at, v);
+    let found = plan_by(t, at, v, p);
+    match found {
+        Found::Plan(q) => Answer::Live(q),
+        Found::Nothing => enter_second(t, w, p, plan),
+    }
 }
 
 // An add of the word w.
@@ -154,10 +233,16 @@ pub fn add_word(t: &mut [u64], w: u64, plan: u64) -> Answer
     requires { ⌜ Ready (now t) × (assignable plan ≡ true) ⌝ }
     ensures { λ r. ⌜ (r ≡ served (now (t .entry)) (add w plan) .answer) × (now (t .exit) ≡ served (now (t .entry)) (add w plan) .table) ⌝ }
 {
-    let found = table_calls::plan_in(t, w);
+    if table_layout::holds_first(t, w) {
+        return add_first(t, w, plan);
+    }
+    if table_layout::holds_second(t, identifier::second(w)) {
+        return add_second(t, w, plan);
+    }
+    let found = table_calls::plan_in(t, w); // in the base list: no product is formed
     match found {
-        Found::Plan(p) => Answer::Live(p),
-        Found::Nothing => enter(t, w, plan),
+        Found::Plan(q) => Answer::Live(q),
+        Found::Nothing => enter_last(t, w, plan),
     }
 }
 

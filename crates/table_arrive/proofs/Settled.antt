@@ -10,23 +10,25 @@ use lib.Dec.{ltb}
 use lib.ListN.{length, getD, take, drop}
 use lib.Seq.{getD-drop}
 use borrow.Rule.Slice.PartMut.{midOf, putMid, post-is, put-same}
-use borrow.Author.Tests.{le-leb, lt-leb, lt-ltb, le-ltb, ltb-true}
+use borrow.Author.Tests.{le-leb, lt-leb, lt-ltb, le-ltb, ltb-true, ltb-false}
 use Rattle.lists.specs.Entries.{Entry, words, insertAll}
 use Rattle.lists.proofs.Entries.{insert-length}
-use Rattle.lists.proofs.Tests.{cond-true, cond-false, and-one, and-two, and-both, and-false}
+use Rattle.lists.proofs.Tests.{cond-false, and-one, and-two}
 use Rattle.bucket.specs.declared.Bucket.{Bucket}
-use Rattle.bucket.specs.declared.Tried.{Tried}
 use Rattle.bucket.specs.Bucket.{add}
-use Rattle.bucket_words.specs.Words.{bucketWords, wordsOf, bucketFrom}
+use Rattle.bucket_words.specs.Words.{bucketWords, wordsOf, bucketFrom, Stepped}
+use Rattle.bucket_settle.specs.declared.Outgoing.{Outgoing}
 use Rattle.bucket_settle.specs.declared.Settled.{Settled}
 use Rattle.bucket_settle.specs.Settle.{SoundBucket, Settlement, settle}
 use Rattle.bucket_settle.specs.Outgoing.{plans, outgoing, settledOf}
+use Rattle.bucket_settle.proofs.Arrays.{count-of}
+use Rattle.bucket_settle.proofs.Run.{settle-done, settle-past}
 use Rattle.bucket_settle.proofs.Sound.{settle-sound, settle-few}
 use Rattle.model.specs.Model.{baseLimit}
-use Rattle.table.specs.Table.{Table, withSecond, withBase, thr, index, put, bucketOf, arriveAt}
+use Rattle.table.specs.Table.{Table, withSecond, withBase, thr, index, put, bucketOf, holds, arriveAt}
 use Rattle.table.specs.Layout.{buckets1At, buckets2At, baseCountAt, numbersOf, bucketPlace, tableFrom}
-use Rattle.table_layout.proofs.Shape.{part-bucket, second-here, second-stored}
-use Rattle.table_arrive.specs.Arrival.{entriesFrom, entriesOf, settledAt, storedAt, goesIn, addedIn, toSecond, Straight, Passed, Kept, FlatKept}
+use Rattle.table_layout.proofs.Shape.{part-bucket, stored-same, second-in, second-here, second-stored}
+use Rattle.table_arrive.specs.Arrival.{entriesFrom, entriesOf, settledAt, storedAt, goesIn, addedIn, DependsIn, toSecond, Straight, Passed, Kept, FlatKept}
 use Rattle.table_arrive.proofs.Tables.{count0, flat, second-sound, second-kept, base-kept, numbers-table, numbers-kept}
 
 -- ---- the words that leave a bucket, as the code keeps them
@@ -67,11 +69,6 @@ module _ (n r : ℕ) (S : ℕ → ℕ) where
 
 -- ---- a word that settles at once
 
-module _ (n : ℕ) (thr : ℕ → ℕ) (e : Entry) (b : Bucket) where
-  settle-straight : (x : ℕ) → thr (e .word) < x → add n (e .word) (e .plan) b .done ≡ true → settle n thr e x b ≡ record { bucket = add n (e .word) (e .plan) b .bucket; out = [] }
-  settle-straight zero h d = absurd (not-suc-le-zero h)
-  settle-straight (suc t) h d = cond-true _ _ (lt-ltb (thr (e .word)) (suc t) h) ∙ cond-true _ _ d
-
 module _ (n r : ℕ) (thr : ℕ → ℕ) (e : Entry) (xs : List ℕ) where
   -- what the bucket step does on the stretch xs, where it says done and leaves ys
   abbrev pub Step : Bool → List ℕ → Type 0
@@ -85,22 +82,10 @@ module _ (n r : ℕ) (thr : ℕ → ℕ) (e : Entry) (xs : List ℕ) where
   unfolding bucketFrom
   goes-is = refl
 
-  -- the bucket b is read and a is the add to it
-  module _ (b : Bucket) (a : Tried) (q : b ≡ bucketFrom n r xs) (p : a ≡ add n (e .word) (e .plan) b) where
-    tried : a ≡ add n (e .word) (e .plan) (bucketFrom n r xs)
-    tried = p ∙ ap (add n (e .word) (e .plan)) q
-
-    done-is : {c : Bool} → a .done ≡ c → add n (e .word) (e .plan) (bucketFrom n r xs) .done ≡ c
-    done-is d = ap (λ (z : Tried). z .done) (sym tried) ∙ d
-
-    -- x is the threshold, ys the stretch once the bucket is stored
-    pub step-in : (x : ℕ) (ys : List ℕ) → x ≡ thr (e .word) → x < bound → a .done ≡ true → ys ≡ wordsOf (a .bucket) → Step true ys
-    step-in x ys y h d w =
-        (sym (goes-is ∙ and-both (lt-ltb (thr (e .word)) bound (subst (λ (k : ℕ). k < bound) y h)) (done-is d)), w ∙ ap (λ (z : Tried). wordsOf (z .bucket)) tried)
-
-    -- it depends
-    pub step-depends : a .done ≡ false → Step false xs
-    step-depends d = (sym (goes-is ∙ ap (λ (c : Bool). ltb (thr (e .word)) bound && c) (done-is d) ∙ and-false (ltb (thr (e .word)) bound)), refl)
+  -- its threshold x is below the bound: what the add to the bucket does
+  pub step-held : (x : ℕ) → x ≡ thr (e .word) → x < bound → {done : Bool} {ys : List ℕ} → Stepped n r (add n (e .word) (e .plan)) xs done ys → Step done ys
+  step-held x y h g =
+      (g .says ∙ sym (goes-is ∙ ap (λ (c : Bool). c && add n (e .word) (e .plan) (bucketFrom n r xs) .done) (lt-ltb (thr (e .word)) bound (subst (λ (k : ℕ). k < bound) y h))), g .words)
 
   -- its threshold is not below the bound
   pub step-past : (x : ℕ) → x ≡ thr (e .word) → bound ≤ x → Step false xs
@@ -112,7 +97,12 @@ module _ (n r : ℕ) (thr : ℕ → ℕ) (at : ℕ) (e : Entry) (t : List ℕ) w
   goes-settled : goesIn n r thr e (drop at t) ≡ true → settledAt n r thr at e t ≡ record { bucket = add n (e .word) (e .plan) (bucketFrom n r (drop at t)) .bucket; out = [] }
   goes-settled g =
       let b : Bucket = bucketFrom n r (drop at t) in
-      settle-straight n thr e b (b .bound) (ltb-true (thr (e .word)) (b .bound) (and-one (ltb (thr (e .word)) (b .bound)) _ g)) (and-two (ltb (thr (e .word)) (b .bound)) _ g)
+      settle-done n thr e (b .bound) b (ltb-true (thr (e .word)) (b .bound) (and-one (ltb (thr (e .word)) (b .bound)) _ g)) (and-two (ltb (thr (e .word)) (b .bound)) _ g)
+
+  -- where its threshold is not below the bound it leaves alone; m is the length of the code's arrays
+  pub past-settled : ltb (thr (e .word)) (bucketFrom n r (drop at t) .bound) ≡ false → (m : ℕ)
+      → settledOf m (record { bucket = bucketFrom n r (drop at t); out = e ∷ [] }) ≡ settledOf m (settledAt n r thr at e t)
+  past-settled f m = ap (settledOf m) (sym (settle-past n thr e _ (bucketFrom n r (drop at t)) (ltb-false (thr (e .word)) _ f)))
 
   -- ---- the bucket step on the stretch that is lent
 
@@ -230,6 +220,14 @@ module _ (n r : ℕ) (S : ℕ → ℕ) (t : List ℕ) (h : FlatKept n r t) (e : 
               ∙ ap (λ (bs : List Bucket). numbersOf (withBase (withSecond T bs) (insertAll (arriveAt n r S (T .level2) e .out) (T .base)))) (bucket-is n r S m (T .level2) e at t s here q);
         }
 
+-- a word that its level holds and that does not go straight in depends
+pub straight-depends : (n r : ℕ) (S : ℕ → ℕ) (bs : List Bucket) (e : Entry) (at : ℕ) (t : List ℕ) → bucketFrom n r (drop at t) ≡ bucketOf n r S bs (e .word) → holds n r S bs (e .word) ≡ true
+    → {done : Bool} {u : List ℕ} → done ≡ false → Straight n r (thr S) at e t done u → DependsIn n r S bs e
+straight-depends n r S bs e at t a h y g =
+    let b : Bucket = bucketOf n r S bs (e .word) in
+    sym (ap (λ (c : Bool). c && add n (e .word) (e .plan) b .done) h)
+    ∙ sym (ap (λ (c : Bucket). ltb (thr S (e .word)) (c .bound) && add n (e .word) (e .plan) c .done) a) ∙ sym (g .says) ∙ y
+
 -- straight into its bucket
 pub arrive-straight : (n r : ℕ) (S : ℕ → ℕ) (t : List ℕ) (h : FlatKept n r t) (e : Entry) (at : ℕ) → at ≡ bucketPlace n r (getD t buckets1At 0 + index S (getD t buckets2At 0) (e .word)) → e .word < 2 ^ n
     → (u : List ℕ) → Straight n r (thr S) at e t true u → Passed n r t (toSecond n r S (tableFrom n r t) e) true u
@@ -238,3 +236,27 @@ arrive-straight n r S t h e at p small u g =
     let s : Settled = straightly n r (thr S) at e t 0 u g in
     let q = straight-is n r (thr S) at e t 0 u g in
     arrive-done n r S t h e at p 0 s q small u (g .table) u (sym (arrive-stored n r S t h e at p 0 s q small u (g .table) .numbers)) (omega (arith, count0 n r t h, h .table .short))
+
+-- on to the base list: level 2 does not hold it. o is the word alone, as the code keeps it
+module _ (n r : ℕ) (S : ℕ → ℕ) (t : List ℕ) (h : FlatKept n r t) (e : Entry) (f : holds n r S (tableFrom n r t .level2) (e .word) ≡ false) (m : ℕ) (o : Outgoing) (q : o ≡ outgoing m (e ∷ [])) where
+  abbrev place : ℕ
+  place = bucketPlace n r (getD t buckets1At 0 + index S (getD t buckets2At 0) (e .word))
+
+  abbrev alone : Settled
+  alone = record { bucket = bucketFrom n r (drop place t); out = o }
+
+  alone-is : alone ≡ settledOf m (settledAt n r (thr S) place e t)
+  alone-is =
+      (λ i. record { bucket = bucketFrom n r (drop place t); out = q i })
+      ∙ past-settled n r (thr S) place e t (ap (λ (b : Bucket). ltb (thr S (e .word)) (b .bound)) (second-here n r t (flat n r t h .shape) S (e .word) place refl) ∙ f) m
+
+  pub alone-one : o .count ≡ 1
+  alone-one = ap (λ (x : Outgoing). x .count) q ∙ count-of m (e ∷ [])
+
+  pub pass-full : baseLimit ≤ getD t baseCountAt 0 → Passed n r t (toSecond n r S (tableFrom n r t) e) false t
+  pass-full l = arrive-full n r S t h e place refl m alone alone-is (omega (arith, alone-one))
+
+  pub pass-done : e .word < 2 ^ n → (u : List ℕ) → u ≡ numbersOf (withBase (tableFrom n r t) (insertAll (entriesOf o) (tableFrom n r t .base))) → getD t baseCountAt 0 < baseLimit
+      → Passed n r t (toSecond n r S (tableFrom n r t) e) true u
+  pass-done small u w l =
+      arrive-done n r S t h e place refl m alone alone-is small t (sym (stored-same n r t place (second-in n r t (flat n r t h .shape) S (e .word) place refl))) u w (omega (arith, alone-one))

@@ -3,18 +3,19 @@
 -- Assumes nothing.
 use Prim.Native.Nat.{ℕ, zero, suc, _+_, _≤_, _<_}
 use mathlib.Core.Path.{_≡_}
-use mathlib.Core.Bool.{Bool, true, cond, _&&_}
+use mathlib.Core.Bool.{Bool, true, false, cond, _&&_}
 use mathlib.Core.List.{List, [], _∷_, _++_}
 use lib.Dec.{leb, ltb}
 use lib.ListN.{length, getD, take, drop}
 use Rattle.lists.specs.Entries.{Entry, insertAll}
+use Rattle.gf2.specs.Vectors.{product}
 use Rattle.bucket.specs.declared.Bucket.{Bucket}
 use Rattle.bucket.specs.Bucket.{add}
 use Rattle.bucket_words.specs.Words.{bucketWords, wordsOf, bucketFrom}
 use Rattle.bucket_settle.specs.declared.Outgoing.{Outgoing}
 use Rattle.bucket_settle.specs.Settle.{SoundBucket, Settlement, settle}
 use Rattle.model.specs.Model.{baseLimit}
-use Rattle.table.specs.Table.{Table, totalNumbers, withSecond, withBase, Placed, nth, arriveAt}
+use Rattle.table.specs.Table.{Table, totalNumbers, withSecond, withBase, Placed, nth, bucketOf, arriveAt}
 use Rattle.table.specs.Layout.{inRange, numbersOf, tableFrom}
 
 -- k words with their plans, from the front of two lists
@@ -30,6 +31,10 @@ module _ (n r : ℕ) where
   -- e settles in the bucket at a place
   abbrev pub settledAt : (ℕ → ℕ) → ℕ → Entry → List ℕ → Settlement
   settledAt thr at e t = let b : Bucket = bucketFrom n r (drop at t) in settle n thr e (b .bound) b
+
+  -- the product of v in it
+  abbrev pub productAt : ℕ → ℕ → List ℕ → ℕ
+  productAt at v t = product (bucketFrom n r (drop at t) .cols) v
 
   -- the bucket in the place of the one that starts there
   abbrev pub storedAt : ℕ → Bucket → List ℕ → List ℕ
@@ -49,6 +54,14 @@ module _ (n r : ℕ) where
     pub table : after ≡ cond done (storedAt at (settledAt thr at e t .bucket) t) t
 
 module _ (n r : ℕ) (S : ℕ → ℕ) where
+  -- the product of v in its bucket of a level
+  abbrev pub productIn : List Bucket → ℕ → ℕ
+  productIn bs v = product (bucketOf n r S bs v .cols) v
+
+  -- e depends in its bucket of a level
+  abbrev pub DependsIn : List Bucket → Entry → Type 0
+  DependsIn bs e = add n (e .word) (e .plan) (bucketOf n r S bs (e .word)) .done ≡ false
+
   -- the word e arrives at level 2, and what leaves that at the base list
   abbrev pub toSecond : Table → Entry → Table
   toSecond T e = let p : Placed = arriveAt n r S (T .level2) e in withBase (withSecond T (p .buckets)) (insertAll (p .out) (T .base))

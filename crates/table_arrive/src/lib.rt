@@ -1,32 +1,45 @@
-// A word arrives at a bucket, at level 2 and at the base list: an add's steps on the table. A bucket takes the word straight in, or the word
-// settles there; what leaves level 2 goes to the base list, and where that has no room nothing is written.
+// A word arrives at a bucket, at level 2 and at the base list: an add's steps on the table. Its product is formed once for a bucket that holds
+// it; by it the bucket takes the word straight in, or the word settles there; what leaves level 2 goes to the base list, and where that has no
+// room nothing is written.
 // specs/Arrival.antt has the steps as the code goes about them, at every number of rows and of solution words, and `Kept`, what each of
 // them keeps. Laws: proofs/Tables.antt (such a table and its numbers, words into the pairs of the base list),
 // proofs/Settled.antt (the words that leave a bucket, as the code keeps them; what it finds settled is what the crate table's `arriveAt` leaves).
-// Cites table, table_layout (places), bucket, identifier (thresholds), bucket_settle (one bucket under its bound) and table_base. table_add cites it.
+// Cites table, table_layout (places), bucket, bucket_words, gf2, identifier (thresholds), bucket_settle (one bucket under its bound) and table_base. table_add cites it.
 use bucket::Bucket;
 use bucket_settle::Outgoing;
 use bucket_settle::Settled;
 use table_layout::Table;
 ghost use mathlib.Core.Path.{_≡_};
-ghost use mathlib.Core.Bool.{cond};
+ghost use mathlib.Core.Bool.{true, false, cond};
 ghost use Prim.Native.Nat.{_+_, _≤_};
 ghost use lib.ListN.{length, getD, drop};
 ghost use Rattle.lists.specs.Entries.{insertAll};
+ghost use Rattle.gf2.specs.Vectors.{product};
 ghost use Rattle.hash.specs.Mix.{mixOf};
+ghost use Rattle.bucket.specs.Bucket.{add};
 ghost use Rattle.bucket_words.specs.Words.{bucketFrom};
 ghost use Rattle.bucket_settle.specs.Settle.{SoundBucket, thresholdOf};
 ghost use Rattle.bucket_settle.specs.Outgoing.{settledOf};
 ghost use Rattle.model.specs.Model.{baseLimit};
-ghost use Rattle.table.specs.Table.{withBase};
+ghost use Rattle.table.specs.Table.{withBase, holds};
 ghost use Rattle.table.specs.Layout.{baseCountAt, pairsFrom, basePairs, numbersOf};
 ghost use Rattle.table.specs.Calls.{rows, solutions, tableOf};
 ghost use Rattle.table_base.specs.Base.{Pairs};
-ghost use Rattle.table_arrive.specs.Arrival.{entriesOf, settledAt, storedAt, goesIn, addedIn, toSecond, Straight, Passed, FlatKept};
+ghost use Rattle.table_arrive.specs.Arrival.{entriesOf, settledAt, productAt, storedAt, goesIn, addedIn, productIn, DependsIn, toSecond, Straight, Passed, FlatKept};
 
-// v with its plan settles in the bucket at a place. Nothing is written.
+// The product of v in the bucket at a place. An add forms it here, once for each bucket that holds the word: whether the word is live, the
+// straight attempt and the dependence go on from it.
+pub fn product_at(t: &[u64], at: usize, v: u64) -> u64
+    requires { do ⌜ at + (← ⟦Bucket::WORDS⟧) ≤ length (now t) ⌝ }
+    ensures { λ r. ⌜ r ≡ productAt rows solutions at v (now (t .entry)) ⌝ }
+{
+    let end = at + Bucket::ROWS;
+    bucket::product(bucket_words::cols_in(&t[at..end]), v)
+}
+
+// v, which depends there, settles with its plan in the bucket at a place. Nothing is written.
 pub fn settled_at(t: &[u64], at: usize, v: u64, plan: u64) -> Settled
-    requires { do ⌜ (at + (← ⟦Bucket::WORDS⟧) ≤ length (now t)) × SoundBucket rows solutions (bucketFrom rows solutions (drop at (now t))) ⌝ }
+    requires { do ⌜ (at + (← ⟦Bucket::WORDS⟧) ≤ length (now t)) × (SoundBucket rows solutions (bucketFrom rows solutions (drop at (now t))) × (add rows v plan (bucketFrom rows solutions (drop at (now t))) .done ≡ false)) ⌝ }
     ensures { λ r. do ⌜ r ≡ settledOf (← ⟦Outgoing::MOST⟧ .entry) (settledAt rows solutions thresholdOf at (record { word = v; plan = plan }) (now (t .entry))) ⌝ }
 {
     bucket_settle::settle(table_layout::bucket_at(t, at), v, plan)
@@ -41,32 +54,26 @@ pub fn store_at(t: &mut [u64], at: usize, b: Bucket)
     bucket_words::store(&mut t[at..end], b);
 }
 
-// The bucket step of an add, on the stretch of one bucket: v goes in, where its threshold is below the bound and it does not depend.
-// False if not: then nothing is written.
-pub(crate) fn add_in(part: &mut [u64], v: u64, plan: u64) -> bool
-    requires { do ⌜ length (now part) ≡ (← ⟦Bucket::WORDS⟧) ⌝ }
+// The bucket step of an add, on the stretch of one bucket: v, whose product is p, goes in, where its threshold is below the bound and it
+// does not depend. False if not: then nothing is written.
+pub(crate) fn add_in(part: &mut [u64], v: u64, p: u64, plan: u64) -> bool
+    requires { do ⌜ (length (now part) ≡ (← ⟦Bucket::WORDS⟧)) × (p ≡ product (bucketFrom rows solutions (now part) .cols) v) ⌝ }
     ensures { λ r. ⌜ (r ≡ goesIn rows solutions thresholdOf (record { word = v; plan = plan }) (now (part .entry))) × (now (part .exit) ≡ cond r (addedIn rows solutions (record { word = v; plan = plan }) (now (part .entry))) (now (part .entry))) ⌝ }
 {
     if identifier::threshold(v) < part[Bucket::BOUND_AT] {
-        let b = bucket_words::load(part);
-        let tried = b.add(v, plan);
-        if tried.done {
-            let next = tried.bucket;
-            bucket_words::store(part, next);
-            return true;
-        }
+        return bucket_words::add_by(part, v, p, plan);
     }
     false
 }
 
-// The word v goes straight into the bucket at a place, whose stretch alone is lent to the bucket step. False if it does not go in: then
-// nothing is written.
-pub fn put_straight(t: &mut [u64], at: usize, v: u64, plan: u64) -> bool
-    requires { do ⌜ at + (← ⟦Bucket::WORDS⟧) ≤ length (now t) ⌝ }
+// The word v, whose product there is p, goes straight into the bucket at a place, whose stretch alone is lent to the bucket step. False if it
+// does not go in: then nothing is written.
+pub fn put_straight(t: &mut [u64], at: usize, v: u64, p: u64, plan: u64) -> bool
+    requires { do ⌜ (at + (← ⟦Bucket::WORDS⟧) ≤ length (now t)) × (p ≡ productAt rows solutions at v (now t)) ⌝ }
     ensures { λ r. ⌜ Straight rows solutions thresholdOf at (record { word = v; plan = plan }) (now (t .entry)) r (now (t .exit)) ⌝ }
 {
     let end = at + Bucket::WORDS;
-    add_in(&mut t[at..end], v, plan)
+    add_in(&mut t[at..end], v, p, plan)
 }
 
 // The words into the base list, one after the other.
@@ -96,9 +103,10 @@ pub(crate) fn enter_base(t: &mut [u64], out: Outgoing)
     t[Table::BASE_COUNT_AT] = (count + more) as u64;
 }
 
-// The word v settles at level 2, and what leaves that arrives at the base list. False if that has no room: then nothing is written.
-pub(crate) fn settle_second(t: &mut [u64], v: u64, plan: u64) -> bool
-    requires { ⌜ FlatKept rows solutions (now t) ⌝ }
+// The word v, which depends in its bucket at level 2, settles there, and what leaves that arrives at the base list. False if that has no room:
+// then nothing is written.
+pub fn settle_second(t: &mut [u64], v: u64, plan: u64) -> bool
+    requires { ⌜ FlatKept rows solutions (now t) × DependsIn rows solutions mixOf (tableOf (now t) .level2) (record { word = v; plan = plan }) ⌝ }
     ensures { λ r. ⌜ Passed rows solutions (now (t .entry)) (toSecond rows solutions mixOf (tableOf (now (t .entry))) (record { word = v; plan = plan })) r (now (t .exit)) ⌝ }
 {
     let at = table_layout::second_place(t, v);
@@ -114,14 +122,38 @@ pub(crate) fn settle_second(t: &mut [u64], v: u64, plan: u64) -> bool
     true
 }
 
-// The word v arrives at level 2: straight into its bucket, or it settles there.
+// The word v, which level 2 holds and whose product in its bucket there is p, arrives there: straight in, or it settles.
+pub(crate) fn arrive_by(t: &mut [u64], v: u64, p: u64, plan: u64) -> bool
+    requires { ⌜ FlatKept rows solutions (now t) × ((holds rows solutions mixOf (tableOf (now t) .level2) v ≡ true) × (p ≡ productIn rows solutions mixOf (tableOf (now t) .level2) v)) ⌝ }
+    ensures { λ r. ⌜ Passed rows solutions (now (t .entry)) (toSecond rows solutions mixOf (tableOf (now (t .entry))) (record { word = v; plan = plan })) r (now (t .exit)) ⌝ }
+{
+    let at = table_layout::second_place(t, v);
+    if put_straight(t, at, v, p, plan) {
+        return true;
+    }
+    settle_second(t, v, plan)
+}
+
+// The word v, which level 2 does not hold, goes on to the base list. False if that has no room: then nothing is written.
+pub fn pass_second(t: &mut [u64], v: u64, plan: u64) -> bool
+    requires { ⌜ FlatKept rows solutions (now t) × (holds rows solutions mixOf (tableOf (now t) .level2) v ≡ false) ⌝ }
+    ensures { λ r. ⌜ Passed rows solutions (now (t .entry)) (toSecond rows solutions mixOf (tableOf (now (t .entry))) (record { word = v; plan = plan })) r (now (t .exit)) ⌝ }
+{
+    if t[Table::BASE_COUNT_AT] < Table::BASE_ENTRIES {
+        enter_base(t, Outgoing::one(v, plan));
+        return true;
+    }
+    false
+}
+
+// The word v arrives at level 2: into its bucket if that holds it, else at the base list.
 pub fn arrive_second(t: &mut [u64], v: u64, plan: u64) -> bool
     requires { ⌜ FlatKept rows solutions (now t) ⌝ }
     ensures { λ r. ⌜ Passed rows solutions (now (t .entry)) (toSecond rows solutions mixOf (tableOf (now (t .entry))) (record { word = v; plan = plan })) r (now (t .exit)) ⌝ }
 {
-    let at = table_layout::second_place(t, v);
-    if put_straight(t, at, v, plan) {
-        return true;
+    if table_layout::holds_second(t, v) {
+        let p = product_at(t, table_layout::second_place(t, v), v);
+        return arrive_by(t, v, p, plan);
     }
-    settle_second(t, v, plan)
+    pass_second(t, v, plan)
 }

@@ -6,17 +6,17 @@ use Prim.Native.Nat.{_-_, _<_}
 use native.Mathlib.Omega.{arith}
 use borrow.Author.Needs.{needs}
 use lib.ListN.{length, getD, take, drop, length-set}
-use Rattle.gf2.specs.Vectors.{colStep}
+use Rattle.gf2.specs.Vectors.{rowStep}
 use Rattle.lists.proofs.Loops.{front-end}
-use Rattle.gf2.proofs.Loops.{colStep-at}
+use Rattle.gf2.proofs.Loops.{rowStep-at}
 use Rattle.bucket.proofs.col_step.Statement.{statement}
 use Rattle.bucket.proofs.col_step.Tie as tie
 
 abbrev Inv-loop : tie.InvT-loop
-Inv-loop i v out₀ u at₀ out at = (length out ≡ length out₀) × (take at out ++ colStep u v (drop at out) ≡ colStep u v out₀)
+Inv-loop i p out₀ u left₀ at₀ out left at = (length out ≡ length out₀) × (take at out ++ rowStep u i left (drop at out) ≡ rowStep u i p out₀)
 
 abbrev μ-loop : tie.MeasureT-loop
-μ-loop i v out₀ u at₀ out at = length out₀ - at
+μ-loop i p out₀ u left₀ at₀ out left at = length out₀ - at
 
 mul-u : tie.Need-mul-u Inv-loop μ-loop
 mul-u c = search needs
@@ -33,8 +33,8 @@ mul-a c = search needs
 array-read-a : tie.Need-array-read-a Inv-loop μ-loop
 array-read-a c = search needs
 
-dot-requires : tie.Need-dot-requires Inv-loop μ-loop
-dot-requires c κs = search needs
+shr-own : tie.Need-shr-own Inv-loop μ-loop
+shr-own c = search needs
 
 flip-if-requires : tie.Need-flip-if-requires Inv-loop μ-loop
 flip-if-requires c κs = search needs
@@ -53,17 +53,17 @@ loop-less c = search needs
 
 loop-again : tie.Need-loop-again Inv-loop μ-loop
 loop-again c =
-    let b = c .before .before .before in
+    let b = c .before .before in
     let h : b .loop .at < length (b .loop .out) = omega arith in (
       simp length-set (b .loop .inv .0),
-      colStep-at _ _ _ _ _ h (cc) ∙ b .loop .inv .1,
+      rowStep-at _ _ _ _ _ _ h (cc) ∙ b .loop .inv .1,
     )
 
 returns : tie.Need-returns Inv-loop μ-loop
 returns c =
     let b = c .before in
     let a = b .before .args in
-    sym (front-end (colStep (getD (a .cols) (a .i) 0) (a .v)) (b .loop .out) (b .loop .at) refl (omega arith)) ∙ b .loop .inv .1
+    sym (front-end (rowStep (getD (a .cols) (a .i) 0) (a .i) (b .loop .left)) (b .loop .out) (b .loop .at) refl (omega arith)) ∙ b .loop .inv .1
 
 pub col-step-spec : {M : Type 1} → statement M
 col-step-spec =
@@ -76,7 +76,7 @@ col-step-spec =
     loop-holds
     mul-a
     array-read-a
-    dot-requires
+    shr-own
     flip-if-requires
     mul-out
     array-write-out

@@ -12,10 +12,10 @@ use Rattle.bucket_settle.proofs.position_of.Statement.{statement}
 use Rattle.bucket_settle.proofs.position_of.Tie as tie
 
 abbrev Inv-loop : tie.InvT-loop
-Inv-loop count v vectors i₀ i = (i ≤ count) × (positionOf v (take count vectors) ≡ i + positionOf v (drop i (take count vectors)))
+Inv-loop vectors count v i₀ i = (i ≤ count) × (positionOf v (take count vectors) ≡ i + positionOf v (drop i (take count vectors)))
 
 abbrev μ-loop : tie.MeasureT-loop
-μ-loop count v vectors i₀ i = count - i
+μ-loop vectors count v i₀ i = count - i
 
 loop-holds : tie.Need-loop-holds Inv-loop μ-loop
 loop-holds c = (search needs, search needs)
@@ -23,15 +23,14 @@ loop-holds c = (search needs, search needs)
 mul-if1 : tie.Need-mul-if1 Inv-loop μ-loop
 mul-if1 c = search needs
 
-array-read-if1 : tie.Need-array-read-if1 Inv-loop μ-loop
-array-read-if1 c = search needs
+shared-slice-read-if1 : tie.Need-shared-slice-read-if1 Inv-loop μ-loop
+shared-slice-read-if1 c = search needs
 
 returns : tie.Need-returns Inv-loop μ-loop
 returns c =
-    let a = c .before .before .before .args in
-    let e : length (a .t1) ≡ 65 = search needs in
-    let h : a .count ≤ length (a .t1) = omega arith in
-    omega (arith, position-here (a .v) (a .t1) (a .count) (c .before .before .loop .i) h (c .before .loop-test .taken) (c .if1 .taken))
+    let a = c .before .before .before .before .args in
+    let h : a .count ≤ length (a .vectors .now) = omega arith in
+    omega (arith, position-here (a .v) (a .vectors .now) (a .count) (c .before .before .before .loop .i) h (c .before .before .loop-test .taken) (c .if1 .taken))
 
 add-i : tie.Need-add-i Inv-loop μ-loop
 add-i c = search needs
@@ -41,16 +40,15 @@ loop-less c = search needs
 
 loop-again : tie.Need-loop-again Inv-loop μ-loop
 loop-again c =
-    let a = c .before .before .before .args in
-    let e : length (a .t1) ≡ 65 = search needs in
-    let h : a .count ≤ length (a .t1) = omega arith in
-    (search needs, rw add-one (omega (arith, position-next (a .v) (a .t1) (a .count) (c .before .before .loop .i) h (c .before .loop-test .taken) (c .if1 .left))))
+    let a = c .before .before .before .before .args in
+    let h : a .count ≤ length (a .vectors .now) = omega arith in
+    (search needs, rw add-one (omega (arith, position-next (a .v) (a .vectors .now) (a .count) (c .before .before .before .loop .i) h (c .before .before .loop-test .taken) (c .if1 .left))))
 
 returns-2 : tie.Need-returns-2 Inv-loop μ-loop
 returns-2 c =
     let a = c .before .before .args in
     let h : a .count ≤ c .before .loop .i = omega arith in
-    omega (arith, position-end (a .v) (a .t1) (a .count) (c .before .loop .i) h)
+    omega (arith, position-end (a .v) (a .vectors .now) (a .count) (c .before .loop .i) h)
 
 pub position-of-spec : {M : Type 1} → statement M
 position-of-spec =
@@ -60,7 +58,7 @@ position-of-spec =
     μ-loop
     loop-holds
     mul-if1
-    array-read-if1
+    shared-slice-read-if1
     returns
     add-i
     loop-less

@@ -1,6 +1,6 @@
 -- `bucket_settle::put_in` meets its contract. The loop carries the element that is to stand at `at`: it and what is to come are the result's.
 -- Assumes nothing.
-use mathlib.Core.Path.{_≡_, refl, sym, _∙_}
+use mathlib.Core.Path.{_≡_, refl, _∙_}
 use mathlib.Core.List.{_∷_, _++_}
 use Prim.Native.Nat.{_-_, _≤_, _<_}
 use native.Mathlib.Omega.{arith}
@@ -12,10 +12,10 @@ use Rattle.bucket_settle.proofs.put_in.Statement.{statement}
 use Rattle.bucket_settle.proofs.put_in.Tie as tie
 
 abbrev Inv-loop : tie.InvT-loop
-Inv-loop i x out₀ carried₀ at₀ out carried at = (length out ≡ 65) × (take at out ++ carried ∷ drop at out ≡ take i out₀ ++ x ∷ drop i out₀)
+Inv-loop words₀ i x carried₀ at₀ words carried at = (length words ≡ length words₀) × (take at words ++ carried ∷ drop at words ≡ take i words₀ ++ x ∷ drop i words₀)
 
 abbrev μ-loop : tie.MeasureT-loop
-μ-loop i x out₀ carried₀ at₀ out carried at = 65 - at
+μ-loop words₀ i x carried₀ at₀ words carried at = length words₀ - at
 
 loop-holds : tie.Need-loop-holds Inv-loop μ-loop
 loop-holds c = (search needs, refl)
@@ -23,14 +23,14 @@ loop-holds c = (search needs, refl)
 mul-next : tie.Need-mul-next Inv-loop μ-loop
 mul-next c = search needs
 
-array-read-next : tie.Need-array-read-next Inv-loop μ-loop
-array-read-next c = search needs
+slice-read-next : tie.Need-slice-read-next Inv-loop μ-loop
+slice-read-next c = search needs
 
-mul-out : tie.Need-mul-out Inv-loop μ-loop
-mul-out c = search needs
+mul-words : tie.Need-mul-words Inv-loop μ-loop
+mul-words c = search needs
 
-array-write-out : tie.Need-array-write-out Inv-loop μ-loop
-array-write-out c = search needs
+slice-write-words : tie.Need-slice-write-words Inv-loop μ-loop
+slice-write-words c = search needs
 
 add-at : tie.Need-add-at Inv-loop μ-loop
 add-at c = search needs
@@ -40,16 +40,18 @@ loop-less c = search needs
 
 loop-again : tie.Need-loop-again Inv-loop μ-loop
 loop-again c =
-    let l = c .before .loop in
-    let h : l .at < length (l .out) = omega arith in
+    let l = c .before .before .loop in
+    let h : l .at < length (l .words) = omega arith in
     (simp length-set (l .inv .0), carry-up _ _ _ h ∙ l .inv .1)
+
+same-length : tie.Need-same-length Inv-loop μ-loop
+same-length c = search needs
 
 returns : tie.Need-returns Inv-loop μ-loop
 returns c =
     let l = c .before .loop in
-    let e : length (c .before .before .args .words) ≡ 65 = search needs in
-    let h : length (l .out) ≤ l .at = omega arith in
-    carry-end _ _ _ _ _ _ h (l .inv .0 ∙ sym e) (l .inv .1)
+    let h : length (l .words) ≤ l .at = omega arith in
+    carry-end _ _ _ _ _ _ h (l .inv .0) (l .inv .1)
 
 pub put-in-spec : {M : Type 1} → statement M
 put-in-spec =
@@ -59,10 +61,11 @@ put-in-spec =
     μ-loop
     loop-holds
     mul-next
-    array-read-next
-    mul-out
-    array-write-out
+    slice-read-next
+    mul-words
+    slice-write-words
     add-at
     loop-less
     loop-again
+    same-length
     returns)

@@ -1,6 +1,8 @@
 -- `table_add::enter_settling` meets its contract.
 -- Assumes nothing.
-use mathlib.Core.Path.{subst⁻¹}
+use mathlib.Core.Path.{ap, _∙_, subst⁻¹}
+use Rattle.bucket.specs.declared.Bucket.{Bucket}
+use Rattle.bucket.specs.Bucket.{add}
 use mathlib.Core.Bool.{true}
 use Rattle.lists.specs.Entries.{Entry}
 use Rattle.hash.specs.Mix.{mixOf}
@@ -38,7 +40,10 @@ settled-at-requires c κs =
     let s = c .before .before .before .before in
     let k = ready-kept _ (s .pre .0) in
     let p = c .before .first-place .ensures in
-    (first-in rows solutions _ (flat rows solutions _ k .shape) mixOf (s .args .w) _ p, subst⁻¹ (SoundBucket rows solutions) (first-here rows solutions _ (flat rows solutions _ k .shape) mixOf (s .args .w) _ p) (first-sound rows solutions _ k mixOf (s .args .w)))
+    let here = first-here rows solutions _ (flat rows solutions _ k .shape) mixOf (s .args .w) _ p in (
+      first-in rows solutions _ (flat rows solutions _ k .shape) mixOf (s .args .w) _ p,
+      (subst⁻¹ (SoundBucket rows solutions) here (first-sound rows solutions _ k mixOf (s .args .w)), ap (λ (b : Bucket). add rows (s .args .w) (s .args .plan) b .done) here ∙ s .pre .1 .1),
+    )
 
 pass-on-requires : tie.Need-pass-on-requires
 pass-on-requires c κs =
@@ -55,7 +60,7 @@ store-at-requires c κs =
 count-one-requires : tie.Need-count-one-requires
 count-one-requires c κs =
     let s = c .before .before .before .before .before .before .before .before .before .before .before .before .before .before .before .before .before in
-    count-room _ (s .pre .0) (word s) _ (counted c) (s .pre .1)
+    count-room _ (s .pre .0) (word s) _ (counted c) (s .pre .1 .0)
 
 same-length : tie.Need-same-length
 same-length c = search needs
@@ -64,7 +69,7 @@ returns : tie.Need-returns
 returns c =
     let d = c .before .before .before in
     let s = d .before .before .before .before .before .before .before .before .before .before .before .before .before .before .before .before .before in
-    entered-done (s .args .t .now) (s .args .w) (s .args .plan) _ (counted d) (s .pre .1) _ _ (c .before .before .count-one .ensures)
+    entered-done (s .args .t .now) (s .args .w) (s .args .plan) _ (counted d) (s .pre .1 .0) _ _ (c .before .before .count-one .ensures)
 
 same-length-2 : tie.Need-same-length-2
 same-length-2 c = search needs

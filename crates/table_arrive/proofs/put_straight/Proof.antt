@@ -1,7 +1,11 @@
 -- `table_arrive::put_straight` meets its contract.
 -- Assumes nothing.
+use mathlib.Core.Path.{sym, ap, _∙_}
+use Rattle.gf2.specs.Vectors.{product}
+use Rattle.bucket.specs.declared.Bucket.{Bucket}
 use Rattle.bucket_settle.specs.Settle.{thresholdOf}
 use Rattle.table.specs.Calls.{rows, solutions}
+use Rattle.table_layout.proofs.Shape.{part-bucket}
 use Rattle.table_arrive.proofs.Settled.{straight-at}
 use borrow.Author.Needs.{needs}
 use Rattle.table_arrive.proofs.put_straight.Statement.{statement}
@@ -23,7 +27,9 @@ part-add-in-end : tie.Need-part-add-in-end
 part-add-in-end c = search needs
 
 add-in-requires : tie.Need-add-in-requires
-add-in-requires c κs = search needs
+add-in-requires c κs =
+    let s = c .before .before in
+    (search needs, s .pre .1 ∙ ap (λ (b : Bucket). product (b .cols) (s .args .v)) (sym (part-bucket rows solutions (s .args .t .now) (s .args .at))))
 
 same-length : tie.Need-same-length
 same-length c = search needs

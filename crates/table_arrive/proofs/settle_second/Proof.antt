@@ -1,7 +1,9 @@
 -- `table_arrive::settle_second` meets its contract.
 -- Assumes nothing.
 use native.Mathlib.Omega.{arith}
-use mathlib.Core.Path.{subst⁻¹}
+use mathlib.Core.Path.{ap, _∙_, subst⁻¹}
+use Rattle.bucket.specs.declared.Bucket.{Bucket}
+use Rattle.bucket.specs.Bucket.{add}
 use Rattle.lists.specs.Entries.{Entry}
 use Rattle.hash.specs.Mix.{mixOf}
 use Rattle.bucket_settle.specs.Settle.{SoundBucket}
@@ -17,22 +19,25 @@ abbrev word : tie.Start → Entry
 word s = record { word = s .args .v; plan = s .args .plan }
 
 second-place-requires : tie.Need-second-place-requires
-second-place-requires c κs = shape rows solutions _ (c .before .before .pre)
+second-place-requires c κs = shape rows solutions _ (c .before .before .pre .0)
 
 settled-at-requires : tie.Need-settled-at-requires
 settled-at-requires c κs =
     let s = c .before .before .before .before in
     let p = c .before .second-place .ensures in
-    (second-in rows solutions _ (flat rows solutions _ (s .pre) .shape) mixOf (s .args .v) _ p, subst⁻¹ (SoundBucket rows solutions) (second-here rows solutions _ (flat rows solutions _ (s .pre) .shape) mixOf (s .args .v) _ p) (second-sound rows solutions _ (s .pre) mixOf (s .args .v)))
+    let here = second-here rows solutions _ (flat rows solutions _ (s .pre .0) .shape) mixOf (s .args .v) _ p in (
+      second-in rows solutions _ (flat rows solutions _ (s .pre .0) .shape) mixOf (s .args .v) _ p,
+      (subst⁻¹ (SoundBucket rows solutions) here (second-sound rows solutions _ (s .pre .0) mixOf (s .args .v)), ap (λ (b : Bucket). add rows (s .args .v) (s .args .plan) b .done) here ∙ s .pre .1),
+    )
 
 slice-read-if1 : tie.Need-slice-read-if1
-slice-read-if1 c = let h = long rows solutions _ (c .before .before .before .before .before .before .before .pre) in omega arith
+slice-read-if1 c = let h = long rows solutions _ (c .before .before .before .before .before .before .before .pre .0) in omega arith
 
 add-if1 : tie.Need-add-if1
 add-if1 c =
     let s = c .before .before .before .before .before .before .before in
-    let k = arrive-few rows solutions mixOf _ (s .pre) (word s) _ (c .before .before .before .before .second-place .ensures) 65 _ (c .before .before .settled-at .ensures) (s .fits .v .fits) in
-    omega (arith, count0 rows solutions _ (s .pre), s .pre .table .short)
+    let k = arrive-few rows solutions mixOf _ (s .pre .0) (word s) _ (c .before .before .before .before .second-place .ensures) 65 _ (c .before .before .settled-at .ensures) (s .fits .v .fits) in
+    omega (arith, count0 rows solutions _ (s .pre .0), s .pre .0 .table .short)
 
 same-length : tie.Need-same-length
 same-length c = search needs
@@ -41,12 +46,12 @@ returns : tie.Need-returns
 returns c =
     let s = c .before .before .before .before .before .before .before .before in
     let b = c .before .before .before in
-    arrive-full rows solutions mixOf _ (s .pre) (word s) _ (b .before .before .second-place .ensures) 65 _ (b .settled-at .ensures) (c .if1 .taken)
+    arrive-full rows solutions mixOf _ (s .pre .0) (word s) _ (b .before .before .second-place .ensures) 65 _ (b .settled-at .ensures) (c .if1 .taken)
 
 store-at-requires : tie.Need-store-at-requires
 store-at-requires c κs =
     let s = c .before .before .before .before .before .before .before .before .before .before in
-    second-in rows solutions _ (flat rows solutions _ (s .pre) .shape) mixOf (s .args .v) _ (c .before .before .before .before .before .before .before .second-place .ensures)
+    second-in rows solutions _ (flat rows solutions _ (s .pre .0) .shape) mixOf (s .args .v) _ (c .before .before .before .before .before .before .before .second-place .ensures)
 
 enter-base-requires : tie.Need-enter-base-requires
 enter-base-requires c κs =
@@ -55,8 +60,8 @@ enter-base-requires c κs =
     let p = d .before .before .second-place .ensures in
     let q = d .settled-at .ensures in
     let q1 = c .before .before .before .store-at .ensures in
-    let k = arrive-count rows solutions mixOf _ (s .pre) (word s) _ p 65 _ q (s .fits .v .fits) _ q1 in
-    (arrive-stored rows solutions mixOf _ (s .pre) (word s) _ p 65 _ q (s .fits .v .fits) _ q1, omega arith)
+    let k = arrive-count rows solutions mixOf _ (s .pre .0) (word s) _ p 65 _ q (s .fits .v .fits) _ q1 in
+    (arrive-stored rows solutions mixOf _ (s .pre .0) (word s) _ p 65 _ q (s .fits .v .fits) _ q1, omega arith)
 
 same-length-2 : tie.Need-same-length-2
 same-length-2 c = search needs
@@ -65,7 +70,7 @@ returns-2 : tie.Need-returns-2
 returns-2 c =
     let d = c .before .before .before .before .before .before .before .before .before .before .before .before in
     let s = d .before .before .before .before .before in
-    arrive-done rows solutions mixOf _ (s .pre) (word s) _ (d .before .before .second-place .ensures) 65 _ (d .settled-at .ensures) (s .fits .v .fits) _ (c .before .before .before .before .before .before .store-at .ensures) _
+    arrive-done rows solutions mixOf _ (s .pre .0) (word s) _ (d .before .before .second-place .ensures) 65 _ (d .settled-at .ensures) (s .fits .v .fits) _ (c .before .before .before .before .before .before .store-at .ensures) _
     (c .before .before .enter-base .ensures) (c .before .before .before .before .before .before .before .before .before .if1 .left)
 
 pub settle-second-spec : {M : Type 1} → statement M

@@ -2,6 +2,7 @@
 -- Assumes nothing.
 use mathlib.Core.Path.{ap, _∙_, subst⁻¹}
 use Rattle.bucket.specs.declared.Bucket.{Bucket}
+use Rattle.bucket.specs.Bucket.{add}
 use Rattle.bucket_settle.specs.Settle.{SoundBucket, thresholdOf, settle}
 use Rattle.bucket_settle.specs.Outgoing.{settledOf}
 use borrow.Author.Needs.{needs}
@@ -13,7 +14,9 @@ bucket-at-requires : tie.Need-bucket-at-requires
 bucket-at-requires c κs = search needs
 
 settle-requires : tie.Need-settle-requires
-settle-requires c κs = subst⁻¹ (SoundBucket rows solutions) (c .bucket-at .ensures) (c .before .before .pre .1)
+settle-requires c κs =
+    let s = c .before .before in
+    (subst⁻¹ (SoundBucket rows solutions) (c .bucket-at .ensures) (s .pre .1 .0), ap (λ (b : Bucket). add rows (s .args .v) (s .args .plan) b .done) (c .bucket-at .ensures) ∙ s .pre .1 .1)
 
 returns : tie.Need-returns
 returns c =

@@ -13,6 +13,7 @@ mod records;
 mod strangers;
 mod tables;
 mod totals;
+mod words;
 
 use reference::rng::Rng;
 
@@ -31,6 +32,7 @@ fn main() {
     parts::identifiers(&mut rng, 300_000 * times);
     parts::every_identifier(&mut rng);
     parts::buckets(&mut rng, 2_000 * times);
+    words::fills(&mut Rng::new(20261116), 600 * times);
     tables::tables(&mut rng, if long { 20_000 } else { 1_800 });
     totals::questions(&mut rng, 20_000 * times);
     totals::wrong(&mut rng, 40 * times);

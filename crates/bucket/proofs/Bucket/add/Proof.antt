@@ -1,9 +1,9 @@
--- `bucket::Bucket::add` meets its contract.
+-- `bucket::Bucket::add` meets its contract: the step by the row and the product is the step by the vector.
 -- Assumes nothing.
-use mathlib.Core.Path.{_≡_, sym}
+use mathlib.Core.Path.{sym, _∙_}
 use borrow.Author.Needs.{needs}
-use borrow.Author.Tests.{lt-ltb, le-ltb}
-use Rattle.bucket.specs.Bucket.{freeRow, addAt, add}
+use Rattle.bucket.specs.Bucket.{addAt}
+use Rattle.bucket.proofs.Laws.{add-done, add-none, add-cols}
 use Rattle.bucket.proofs.Bucket.add.Statement.{statement}
 use Rattle.bucket.proofs.Bucket.add.Tie as tie
 
@@ -12,9 +12,6 @@ product-requires c κs = search needs
 
 lowest-requires : tie.Need-lowest-requires
 lowest-requires c κs = search needs
-
-power-requires : tie.Need-power-requires
-power-requires c κs = search needs
 
 col-step-requires : tie.Need-col-step-requires
 col-step-requires c κs = search needs
@@ -31,23 +28,24 @@ lookup-requires c κs = search needs
 sol-step-requires : tie.Need-sol-step-requires
 sol-step-requires c κs = search needs
 
-power-requires-2 : tie.Need-power-requires-2
-power-requires-2 c κs = search needs
+power-requires : tie.Need-power-requires
+power-requires c κs = search needs
 
 returns : tie.Need-returns
-unfolding add addAt
+unfolding addAt
 returns c =
-    let b = c .before .before .before .before .before .before in
+    let b = c .before .before .before .before .before in
+    let p = b .before .before .product in
     let a = b .before .before .before .before .args in
-    let e : freeRow 64 (a .k) (a .self) ≡ b .before .lowest .result = rw (← b .before .before .product .ensures) (sym (b .before .lowest .ensures)) in
-    rw (e, lt-ltb _ _ (b .if1 .taken), c .power2 .ensures, c .before .sol-step .ensures, c .before .before .lookup .ensures, c .before .before .before .before .col-step .ensures, c .before .before .before .before .before .power .ensures)
+    let i = b .before .lowest .result in
+    let cols = c .before .before .before .before .col-step .ensures ∙ add-cols (a .k) (p .result) (a .plan) i (a .self) (p .ensures) in
+    rw (add-done 64 (a .k) (p .result) (a .plan) i (a .self) (p .ensures) (b .before .lowest .ensures) (b .if1 .taken), c .power .ensures, c .before .sol-step .ensures, c .before .before .lookup .ensures, cols)
 
 returns-2 : tie.Need-returns-2
-unfolding add
 returns-2 c =
+    let p = c .before .before .product in
     let a = c .before .before .before .before .args in
-    let e : freeRow 64 (a .k) (a .self) ≡ c .before .lowest .result = rw (← c .before .before .product .ensures) (sym (c .before .lowest .ensures)) in
-    rw (e, le-ltb _ _ (c .if1 .left))
+    sym (add-none 64 (a .k) (p .result) (a .plan) _ (a .self) (p .ensures) (c .before .lowest .ensures) (c .if1 .left))
 
 pub add-spec : {M : Type 1} → statement M
 add-spec =
@@ -55,12 +53,11 @@ add-spec =
     (tie.spec
     product-requires
     lowest-requires
-    power-requires
     col-step-requires
     mul-sol-step
     array-read-sol-step
     lookup-requires
     sol-step-requires
-    power-requires-2
+    power-requires
     returns
     returns-2)
