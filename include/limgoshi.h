@@ -49,7 +49,7 @@ extern "C" {
  * at most one bucket or one entry: 89 bytes at most, and 22 if the plan was that already. */
 #define LIMGOSHI_PATCH_BYTES(changes, gone, news) (22u + 67u * (changes) + 9u * (gone) + 10u * (news))
 
-/* Bytes of stack that a call needs at most. Where memcpy, memmove and memset are bound lazily, the first call needs about 3,200 more. */
+/* Bytes of stack that a call needs at most. Where memcpy and memset are bound lazily, the first call needs about 3,200 more. */
 #define LIMGOSHI_STACK_ADD 75000u   /* limgoshi_add */
 #define LIMGOSHI_STACK_PATCH 10000u /* limgoshi_make_patch, limgoshi_apply_patch */
 #define LIMGOSHI_STACK_LOOKUP 500u  /* limgoshi_plane_lookup, limgoshi_plan_total */
