@@ -24,7 +24,7 @@
 //!   it, once: it tells whether the word is live, and settling goes on from it.
 //!   A word that they send to the base list needs none. A word that leaves level
 //!   1 gets one at level 2, if its bucket there holds it.
-//! - What goes further than level 1 goes to a copy of the table first.
+//! - The table is copied only if words leave a bucket.
 
 use crate::answer::*;
 use crate::bucket::{Bucket, BOUND_MAX, PLAN_BITS, WIDTH};
@@ -403,9 +403,7 @@ impl Shape {
             if let Ok(index) = self.find_base(table, vector) {
                 return Err(live(self.base_pair(table, index).1));
             }
-            let mut draft = table.to_vec();
-            self.add_base(&mut draft, vector, plan)?;
-            table.copy_from_slice(&draft);
+            self.add_base(table, vector, plan)?;
             return Ok(count_in(table, plan));
         };
         let mut bucket = self.read_bucket(table, index);
@@ -414,13 +412,13 @@ impl Shape {
             return Err(live(bucket.lookup(vector).into()));
         }
         let leaving = bucket.settle_with(vector, product, plan, threshold_of);
-        if leaving.is_empty() && matches!(spot, Spot::Level1(_)) {
+        if leaving.is_empty() {
             self.write_bucket(table, index, &bucket);
             return Ok(count_in(table, plan));
         }
 
-        // Words go further than level 1, and the last of them may find the base
-        // list full: work on a copy until all have their place.
+        // Words go further, and the last of them may find the base list full:
+        // work on a copy until all have their place.
         let mut draft = table.to_vec();
         self.write_bucket(&mut draft, index, &bucket);
         for left in leaving {
