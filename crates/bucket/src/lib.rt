@@ -2,7 +2,7 @@
 // Each step is an equation with a definition of specs/Bucket.antt, which follows document 01's "One bucket" sentence by sentence
 // at every number of rows and of solution words; proofs/Steps.antt has what the steps keep (K and its inverse, live vectors, plans),
 // proofs/Laws.antt an add and a withdrawal by product and row. The step on the columns gets a row and a product, and no vector.
-// Cites gf2 (vectors), lists and bits. bucket_words, bucket_settle, model and table build on it.
+// Cites gf2 (vectors), lists, bits and parities (the product). bucket_words, bucket_settle, model and table build on it.
 ghost use mathlib.Core.Path.{_≡_};
 ghost use Prim.Native.Nat.{_<_, _≤_, _^_};
 ghost use lib.Count.{trailingZeros};
@@ -49,7 +49,7 @@ pub fn product_in(words: &[u64], k: u64) -> u64
 pub fn product(cols: [u64; Bucket::ROWS], k: u64) -> u64
     ensures { λ r. ⌜ r ≡ product cols k ⌝ }
 {
-    product_in(&cols, k)
+    parities::product(cols, k)
 }
 
 // The step on the columns for row i, by the product p and no vector: u = column i is XORed into each column a where bit a of p and
@@ -60,13 +60,10 @@ pub fn col_step(i: usize, p: u64, cols: [u64; Bucket::ROWS]) -> [u64; Bucket::RO
 {
     let mut out = cols;
     let u = out[i];
-    let mut left = p;
     let mut at: usize = 0;
     while at < Bucket::ROWS {
         let a = out[at];
-        let own = a >> i;
-        out[at] = bits::flip_if((left ^ own) % 2, u, a);
-        left = left / 2;
+        out[at] = bits::flip_if(((p >> at) ^ (a >> i)) % 2, u, a);
         at += 1;
     }
     out

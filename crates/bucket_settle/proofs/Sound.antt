@@ -30,7 +30,7 @@ use Rattle.bucket_rows.proofs.Exact.{found-is}
 use Rattle.bucket_settle.specs.Settle.{SoundBucket, listed, contents, leaving, lowered, Settlement, ahead, settle}
 use Rattle.bucket_settle.specs.Steps.{leavingOf}
 use Rattle.bucket_settle.proofs.Hold.{Holds, holds-perm, fresh}
-use Rattle.bucket_settle.proofs.Fall.{rows-of, rows-ascending, holds-lowered, held, over, seen, under-held, settle-law}
+use Rattle.bucket_settle.proofs.Settling.{rows-of, rows-ascending, holds-lowered, held, over, seen, under-held, settle-law}
 
 -- ---- a sound bucket holds its rows
 

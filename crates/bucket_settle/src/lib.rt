@@ -1,6 +1,6 @@
 // Settling under a bound: a word that depends in one bucket comes to it, the bound falls while it depends, and the words that leave go one
 // level further. specs/Settle.antt has the definition, in document 01's order, and specs/Outgoing.antt its result as the code keeps it.
-// Laws: proofs/Hold.antt (what a bucket holds, as a list of entries), proofs/Fall.antt (where the bound comes to stand, who stays and
+// Laws: proofs/Hold.antt (what a bucket holds, as a list of entries), proofs/Settling.antt (where the bound comes to stand, who stays and
 // who leaves), proofs/Sound.antt (`settle-meaning`; the bucket stays sound).
 // Cites gf2, lists, identifier (thresholds), bucket_rows (the rows of K), bucket and bucket_words. table_arrive and table_add build on it.
 use bucket::Bucket;
@@ -32,7 +32,7 @@ pub struct Settled {
 }
 
 // x before element i; the last element goes.
-pub(crate) fn put_in(words: &mut [u64], i: usize, x: u64)
+pub(crate) fn put_into(words: &mut [u64], i: usize, x: u64)
     ensures { λ _. ⌜ now (words .exit) ≡ putIn i x (now (words .entry)) ⌝ }
 {
     let mut carried = x;
@@ -46,7 +46,7 @@ pub(crate) fn put_in(words: &mut [u64], i: usize, x: u64)
 }
 
 // How many of the first `count` vectors stand before the first that is larger than v.
-pub(crate) fn position_of(vectors: &[u64], count: usize, v: u64) -> usize
+pub(crate) fn position_among(vectors: &[u64], count: usize, v: u64) -> usize
     requires { ⌜ count ≤ length (now vectors) ⌝ }
     ensures { λ r. ⌜ r ≡ positionOf v (take count (now (vectors .entry))) ⌝ }
 {
@@ -100,8 +100,8 @@ impl Outgoing {
     {
         let mut vectors = self.vectors;
         let mut plans = self.plans;
-        put_in(&mut vectors, i, v);
-        put_in(&mut plans, i, plan);
+        put_into(&mut vectors, i, v);
+        put_into(&mut plans, i, plan);
         Self {
             count: self.count + 1,
             vectors,
@@ -166,9 +166,9 @@ pub(crate) fn leaving_of(b: Bucket, rows: [u64; Bucket::ROWS], t: u64) -> Outgoi
         i -= 1;
         let v = rows[i];
         if leaves((mark >> i) % 2, v, t) {
-            let at = position_of(&vectors, count, v);
-            put_in(&mut vectors, at, v);
-            put_in(&mut plans, at, b.lookup(v));
+            let at = position_among(&vectors, count, v);
+            put_into(&mut vectors, at, v);
+            put_into(&mut plans, at, b.lookup(v));
             count += 1;
         }
     }
@@ -238,7 +238,7 @@ pub(crate) fn tried_again(gone: usize, b: Bucket, k: u64, plan: u64) -> Tried
 
 // The word k comes to the bucket with its plan, and depends there. While it does, the bound falls by one, and the words whose threshold
 // equals the new bound leave, smallest vector first, each withdrawn. If k's threshold is not below the bound, k leaves last.
-pub fn settle(b: Bucket, k: u64, plan: u64) -> Settled
+pub fn fall(b: Bucket, k: u64, plan: u64) -> Settled
     requires { do ⌜ SoundBucket (← ⟦Bucket::ROWS⟧) (← ⟦Bucket::SOLUTIONS⟧) b × (add (← ⟦Bucket::ROWS⟧) k plan b .done ≡ false) ⌝ }
     ensures { λ r. do ⌜ r ≡ settledOf (← ⟦Outgoing::MOST⟧ .entry) (settle (← ⟦Bucket::ROWS⟧ .entry) thresholdOf (record { word = k; plan = plan }) (b .bound) b) ⌝ }
 {

@@ -22,7 +22,7 @@ use Rattle.identifier.specs.Place.{thresholds}
 use Rattle.bucket.specs.declared.Bucket.{Bucket}
 use Rattle.bucket_settle.specs.Settle.{contents}
 use Rattle.bucket_settle.proofs.Hold.{Holds}
-use Rattle.bucket_settle.proofs.Fall.{held, rows-of}
+use Rattle.bucket_settle.proofs.Settling.{held, rows-of}
 use Rattle.model.specs.Model.{State}
 use Rattle.table.specs.Table.{Table, bounds, thr, index, onSecond, nth}
 use Rattle.table.specs.Content.{occupied, allRows, backOf, entriesOf, liveOf}

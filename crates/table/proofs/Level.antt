@@ -24,7 +24,7 @@ use Rattle.bucket.specs.declared.Bucket.{Bucket}
 use Rattle.bucket.specs.Bucket.{emptyBucket, change, withdraw}
 use Rattle.bucket_settle.specs.Settle.{planOf, Settlement, settle}
 use Rattle.bucket_settle.proofs.Hold.{Holds, holds-perm, holds-find, holds-withdraw, withdraw-bound, holds-change, change-bound}
-use Rattle.bucket_settle.proofs.Fall.{held, over, seen, Settles, settle-law}
+use Rattle.bucket_settle.proofs.Settling.{held, over, seen, Settles, settle-law}
 use Rattle.model.specs.Levels as M
 use Rattle.model.specs.Levels.{Level, dueAs, due}
 use Rattle.model.proofs.Arrivals.{arrive, arrives}

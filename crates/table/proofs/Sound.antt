@@ -25,7 +25,7 @@ use Rattle.bucket.specs.declared.Bucket.{Bucket}
 use Rattle.bucket.specs.Bucket.{largestBound, lookup, live}
 use Rattle.bucket_settle.specs.Settle.{contents}
 use Rattle.bucket_settle.proofs.Hold.{holds-perm}
-use Rattle.bucket_settle.proofs.Fall.{seen, rows-of}
+use Rattle.bucket_settle.proofs.Settling.{seen, rows-of}
 use Rattle.bucket_settle.proofs.Sound.{sound-holds, holds-sound, holds-free}
 use Rattle.model.specs.Levels.{due, passed}
 use Rattle.model.specs.Model.{baseLimit, State}

@@ -32,7 +32,7 @@ use Rattle.bucket_words.specs.Words.{bucketWords, bucketFrom, Shaped}
 use Rattle.bucket.proofs.Steps.{live-test}
 use Rattle.bucket_words.proofs.Words.{from-shaped}
 use Rattle.bucket_settle.specs.Settle.{SoundBucket, listed, contents}
-use Rattle.bucket_settle.proofs.Fall.{rows-of}
+use Rattle.bucket_settle.proofs.Settling.{rows-of}
 use Rattle.bucket_settle.proofs.Sound.{sound-listed}
 use Rattle.model.specs.Model.{baseLimit}
 use Rattle.table.specs.Table.{Table, totalNumbers, thr, index, nth, holds}

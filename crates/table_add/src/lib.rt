@@ -132,12 +132,12 @@ pub(crate) fn plan_by(t: &[u64], at: usize, v: u64, p: u64) -> Found
 }
 
 // A word that is not live and that depends in its bucket at level 1 settles there, and what leaves that goes on.
-pub(crate) fn enter_settling(t: &mut [u64], w: u64, plan: u64) -> Answer
+pub(crate) fn fall_first(t: &mut [u64], w: u64, plan: u64) -> Answer
     requires { ⌜ Ready (now t) × ((plan < planLimit) × DependsIn rows solutions mixOf (tableOf (now t) .level1) (record { word = w; plan = plan })) ⌝ }
     ensures { λ r. ⌜ (r ≡ entering (now (t .entry)) (record { word = w; plan = plan }) .answer) × (now (t .exit) ≡ entering (now (t .entry)) (record { word = w; plan = plan }) .table) ⌝ }
 {
     let at = table_layout::first_place(t, w);
-    let s = table_arrive::settled_at(t, at, w, plan);
+    let s = table_arrive::fallen_at(t, at, w, plan);
     let out = s.out;
     if pass_on(t, out) {
         let b = s.bucket;
@@ -154,21 +154,21 @@ pub(crate) fn enter_depending(t: &mut [u64], w: u64, plan: u64) -> Answer
     ensures { λ r. ⌜ (r ≡ entering (now (t .entry)) (record { word = w; plan = plan }) .answer) × (now (t .exit) ≡ entering (now (t .entry)) (record { word = w; plan = plan }) .table) ⌝ }
 {
     if table_layout::holds_first(t, w) {
-        return enter_settling(t, w, plan);
+        return fall_first(t, w, plan);
     }
-    if table_arrive::settle_second(t, identifier::second(w), plan) {
+    if table_arrive::fall_second(t, identifier::second(w), plan) {
         return count_one(t, plan);
     }
     Answer::Full
 }
 
 // A word that is not live, that level 1 holds and whose product in its bucket there is p arrives there: straight in, or it settles.
-pub(crate) fn enter(t: &mut [u64], w: u64, p: u64, plan: u64) -> Answer
+pub(crate) fn enter_first(t: &mut [u64], w: u64, p: u64, plan: u64) -> Answer
     requires { ⌜ Held (now t) w plan × (p ≡ productIn rows solutions mixOf (tableOf (now t) .level1) w) ⌝ }
     ensures { λ r. ⌜ (r ≡ entering (now (t .entry)) (record { word = w; plan = plan }) .answer) × (now (t .exit) ≡ entering (now (t .entry)) (record { word = w; plan = plan }) .table) ⌝ }
 {
     let at = table_layout::first_place(t, w);
-    if table_arrive::put_straight(t, at, w, p, plan) {
+    if table_arrive::put_by(t, at, w, p, plan) {
         return count_one(t, plan);
     }
     enter_depending(t, w, plan)
@@ -182,7 +182,7 @@ pub(crate) fn enter_second(t: &mut [u64], w: u64, p: u64, plan: u64) -> Answer
 {
     let v = identifier::second(w);
     let at = table_layout::second_place(t, v);
-    if table_arrive::put_straight(t, at, v, p, plan) {
+    if table_arrive::put_by(t, at, v, p, plan) {
         return count_one(t, plan);
     }
     enter_depending(t, w, plan)
@@ -209,7 +209,7 @@ pub(crate) fn add_first(t: &mut [u64], w: u64, plan: u64) -> Answer
     let found = plan_by(t, at, w, p);
     match found {
         Found::Plan(q) => Answer::Live(q),
-        Found::Nothing => enter(t, w, p, plan),
+        Found::Nothing => enter_first(t, w, p, plan),
     }
 }
 

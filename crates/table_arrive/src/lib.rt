@@ -38,11 +38,11 @@ pub fn product_at(t: &[u64], at: usize, v: u64) -> u64
 }
 
 // v, which depends there, settles with its plan in the bucket at a place. Nothing is written.
-pub fn settled_at(t: &[u64], at: usize, v: u64, plan: u64) -> Settled
+pub fn fallen_at(t: &[u64], at: usize, v: u64, plan: u64) -> Settled
     requires { do ⌜ (at + (← ⟦Bucket::WORDS⟧) ≤ length (now t)) × (SoundBucket rows solutions (bucketFrom rows solutions (drop at (now t))) × (add rows v plan (bucketFrom rows solutions (drop at (now t))) .done ≡ false)) ⌝ }
     ensures { λ r. do ⌜ r ≡ settledOf (← ⟦Outgoing::MOST⟧ .entry) (settledAt rows solutions thresholdOf at (record { word = v; plan = plan }) (now (t .entry))) ⌝ }
 {
-    bucket_settle::settle(table_layout::bucket_at(t, at), v, plan)
+    bucket_settle::fall(table_layout::bucket_at(t, at), v, plan)
 }
 
 // The bucket into its stretch of the table.
@@ -56,7 +56,7 @@ pub fn store_at(t: &mut [u64], at: usize, b: Bucket)
 
 // The bucket step of an add, on the stretch of one bucket: v, whose product is p, goes in, where its threshold is below the bound and it
 // does not depend. False if not: then nothing is written.
-pub(crate) fn add_in(part: &mut [u64], v: u64, p: u64, plan: u64) -> bool
+pub(crate) fn put_part_by(part: &mut [u64], v: u64, p: u64, plan: u64) -> bool
     requires { do ⌜ (length (now part) ≡ (← ⟦Bucket::WORDS⟧)) × (p ≡ product (bucketFrom rows solutions (now part) .cols) v) ⌝ }
     ensures { λ r. ⌜ (r ≡ goesIn rows solutions thresholdOf (record { word = v; plan = plan }) (now (part .entry))) × (now (part .exit) ≡ cond r (addedIn rows solutions (record { word = v; plan = plan }) (now (part .entry))) (now (part .entry))) ⌝ }
 {
@@ -68,12 +68,12 @@ pub(crate) fn add_in(part: &mut [u64], v: u64, p: u64, plan: u64) -> bool
 
 // The word v, whose product there is p, goes straight into the bucket at a place, whose stretch alone is lent to the bucket step. False if it
 // does not go in: then nothing is written.
-pub fn put_straight(t: &mut [u64], at: usize, v: u64, p: u64, plan: u64) -> bool
+pub fn put_by(t: &mut [u64], at: usize, v: u64, p: u64, plan: u64) -> bool
     requires { do ⌜ (at + (← ⟦Bucket::WORDS⟧) ≤ length (now t)) × (p ≡ productAt rows solutions at v (now t)) ⌝ }
     ensures { λ r. ⌜ Straight rows solutions thresholdOf at (record { word = v; plan = plan }) (now (t .entry)) r (now (t .exit)) ⌝ }
 {
     let end = at + Bucket::WORDS;
-    add_in(&mut t[at..end], v, p, plan)
+    put_part_by(&mut t[at..end], v, p, plan)
 }
 
 // The words into the base list, one after the other.
@@ -105,12 +105,12 @@ pub(crate) fn enter_base(t: &mut [u64], out: Outgoing)
 
 // The word v, which depends in its bucket at level 2, settles there, and what leaves that arrives at the base list. False if that has no room:
 // then nothing is written.
-pub fn settle_second(t: &mut [u64], v: u64, plan: u64) -> bool
+pub fn fall_second(t: &mut [u64], v: u64, plan: u64) -> bool
     requires { ⌜ FlatKept rows solutions (now t) × DependsIn rows solutions mixOf (tableOf (now t) .level2) (record { word = v; plan = plan }) ⌝ }
     ensures { λ r. ⌜ Passed rows solutions (now (t .entry)) (toSecond rows solutions mixOf (tableOf (now (t .entry))) (record { word = v; plan = plan })) r (now (t .exit)) ⌝ }
 {
     let at = table_layout::second_place(t, v);
-    let s = settled_at(t, at, v, plan);
+    let s = fallen_at(t, at, v, plan);
     let out = s.out;
     let more = out.count as u64;
     if Table::BASE_ENTRIES < t[Table::BASE_COUNT_AT] + more {
@@ -128,10 +128,10 @@ pub(crate) fn arrive_by(t: &mut [u64], v: u64, p: u64, plan: u64) -> bool
     ensures { λ r. ⌜ Passed rows solutions (now (t .entry)) (toSecond rows solutions mixOf (tableOf (now (t .entry))) (record { word = v; plan = plan })) r (now (t .exit)) ⌝ }
 {
     let at = table_layout::second_place(t, v);
-    if put_straight(t, at, v, p, plan) {
+    if put_by(t, at, v, p, plan) {
         return true;
     }
-    settle_second(t, v, plan)
+    fall_second(t, v, plan)
 }
 
 // The word v, which level 2 does not hold, goes on to the base list. False if that has no room: then nothing is written.

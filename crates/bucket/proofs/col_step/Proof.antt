@@ -1,8 +1,9 @@
 -- `bucket::col_step` meets its contract. The loop rewrites the columns from the front: those before `at` are done, the others are to come.
 -- Assumes nothing.
-use mathlib.Core.Path.{_≡_, refl, sym, _∙_}
+use mathlib.Core.Path.{_≡_, refl, sym, ap, _∙_}
 use mathlib.Core.List.{_++_}
-use Prim.Native.Nat.{_-_, _<_}
+use Prim.Native.Nat.{ℕ, _-_, _/_, _^_, _<_}
+use native.Mathlib.Nat.{div-one}
 use native.Mathlib.Omega.{arith}
 use borrow.Author.Needs.{needs}
 use lib.ListN.{length, getD, take, drop, length-set}
@@ -13,10 +14,10 @@ use Rattle.bucket.proofs.col_step.Statement.{statement}
 use Rattle.bucket.proofs.col_step.Tie as tie
 
 abbrev Inv-loop : tie.InvT-loop
-Inv-loop i p out₀ u left₀ at₀ out left at = (length out ≡ length out₀) × (take at out ++ rowStep u i left (drop at out) ≡ rowStep u i p out₀)
+Inv-loop i p out₀ u at₀ out at = (length out ≡ length out₀) × (take at out ++ rowStep u i (p / 2 ^ at) (drop at out) ≡ rowStep u i p out₀)
 
 abbrev μ-loop : tie.MeasureT-loop
-μ-loop i p out₀ u left₀ at₀ out left at = length out₀ - at
+μ-loop i p out₀ u at₀ out at = length out₀ - at
 
 mul-u : tie.Need-mul-u Inv-loop μ-loop
 mul-u c = search needs
@@ -25,7 +26,7 @@ array-read-u : tie.Need-array-read-u Inv-loop μ-loop
 array-read-u c = search needs
 
 loop-holds : tie.Need-loop-holds Inv-loop μ-loop
-loop-holds c = search needs
+loop-holds c = let a = c .args in (refl, ap (λ (q : ℕ). rowStep (getD (a .cols) (a .i) 0) (a .i) q (a .cols)) (div-one (a .p)))
 
 mul-a : tie.Need-mul-a Inv-loop μ-loop
 mul-a c = search needs
@@ -33,8 +34,11 @@ mul-a c = search needs
 array-read-a : tie.Need-array-read-a Inv-loop μ-loop
 array-read-a c = search needs
 
-shr-own : tie.Need-shr-own Inv-loop μ-loop
-shr-own c = search needs
+shr-flip-if : tie.Need-shr-flip-if Inv-loop μ-loop
+shr-flip-if c = search needs
+
+shr-flip-if-2 : tie.Need-shr-flip-if-2 Inv-loop μ-loop
+shr-flip-if-2 c = search needs
 
 flip-if-requires : tie.Need-flip-if-requires Inv-loop μ-loop
 flip-if-requires c κs = search needs
@@ -63,7 +67,7 @@ returns : tie.Need-returns Inv-loop μ-loop
 returns c =
     let b = c .before in
     let a = b .before .args in
-    sym (front-end (rowStep (getD (a .cols) (a .i) 0) (a .i) (b .loop .left)) (b .loop .out) (b .loop .at) refl (omega arith)) ∙ b .loop .inv .1
+    sym (front-end (rowStep (getD (a .cols) (a .i) 0) (a .i) (a .p / 2 ^ b .loop .at)) (b .loop .out) (b .loop .at) refl (omega arith)) ∙ b .loop .inv .1
 
 pub col-step-spec : {M : Type 1} → statement M
 col-step-spec =
@@ -76,7 +80,8 @@ col-step-spec =
     loop-holds
     mul-a
     array-read-a
-    shr-own
+    shr-flip-if
+    shr-flip-if-2
     flip-if-requires
     mul-out
     array-write-out

@@ -58,28 +58,28 @@ shr-leaves c = search needs
 leaves-requires : tie.Need-leaves-requires Inv-loop μ-loop
 leaves-requires c κs = search needs
 
-slice-aggregate-position-of : tie.Need-slice-aggregate-position-of Inv-loop μ-loop
-slice-aggregate-position-of c = search needs
+slice-aggregate-position-among : tie.Need-slice-aggregate-position-among Inv-loop μ-loop
+slice-aggregate-position-among c = search needs
 
-position-of-requires : tie.Need-position-of-requires Inv-loop μ-loop
-position-of-requires c κs =
+position-among-requires : tie.Need-position-among-requires Inv-loop μ-loop
+position-among-requires c κs =
     let l = c .before .before .before .before .loop in
     omega (arith, few (c .before .before .before .before), l .inv .1 .0)
 
-slice-aggregate-put-in : tie.Need-slice-aggregate-put-in Inv-loop μ-loop
-slice-aggregate-put-in c = search needs
+slice-aggregate-put-into : tie.Need-slice-aggregate-put-into Inv-loop μ-loop
+slice-aggregate-put-into c = search needs
 
-put-in-requires : tie.Need-put-in-requires Inv-loop μ-loop
-put-in-requires c κs = search needs
+put-into-requires : tie.Need-put-into-requires Inv-loop μ-loop
+put-into-requires c κs = search needs
 
-slice-aggregate-put-in-2 : tie.Need-slice-aggregate-put-in-2 Inv-loop μ-loop
-slice-aggregate-put-in-2 c = search needs
+slice-aggregate-put-into-2 : tie.Need-slice-aggregate-put-into-2 Inv-loop μ-loop
+slice-aggregate-put-into-2 c = search needs
 
 lookup-requires : tie.Need-lookup-requires Inv-loop μ-loop
 lookup-requires c κs = search needs
 
-put-in-requires-2 : tie.Need-put-in-requires-2 Inv-loop μ-loop
-put-in-requires-2 c κs = search needs
+put-into-requires-2 : tie.Need-put-into-requires-2 Inv-loop μ-loop
+put-into-requires-2 c κs = search needs
 
 add-count : tie.Need-add-count Inv-loop μ-loop
 add-count c = record { fits = omega (arith, few (c .before .before .before .before .before .before .before .before .before .before .before .before)) }
@@ -92,7 +92,7 @@ loop-again c =
     let w = c .before .before .before .before .before .before .before .before .before .before in
     let l = w .before .before .loop in
     let a = w .before .before .before .args in
-    let at = c .before .before .before .before .before .before .before .position-of .ensures in
+    let at = c .before .before .before .before .before .before .before .position-among .ensures in
     let v = getD (a .t2) (l .i - 1) 0 in
     let h : l .i - 1 < length (a .t2) = search needs in
     let k : length (a .t2) ≤ 65 = search needs in (
@@ -103,7 +103,7 @@ loop-again c =
           search needs,
           found-leaves thresholdOf (a .t) (a .b) 65 (a .b .mark) (a .t2) (l .i - 1) h k (before (λ (j : ℕ). Found thresholdOf (a .t) (a .b) 65 (a .b .mark) (a .t2) j (record { count = l .count; vectors = l .vectors; plans = l .plans })) (w .before .loop-test .taken) (l .inv .1 .1 .1))
               (sym (w .leaves .ensures) ∙ c .before .before .before .before .before .before .before .before .before .if1 .taken)
-              (same refl (c .before .before .before .before .before .put-in .ensures ∙ ap (λ (j : ℕ). putIn j v (l .vectors)) at) (c .before .put-in2 .ensures ∙ ap₂ (λ (j x : ℕ). putIn j x (l .plans)) at (c .before .before .lookup .ensures))),
+              (same refl (c .before .before .before .before .before .put-into .ensures ∙ ap (λ (j : ℕ). putIn j v (l .vectors)) at) (c .before .put-into2 .ensures ∙ ap₂ (λ (j x : ℕ). putIn j x (l .plans)) at (c .before .before .lookup .ensures))),
         ),
       ),
     )
@@ -147,13 +147,13 @@ leaving-of-spec =
     array-read-v
     shr-leaves
     leaves-requires
-    slice-aggregate-position-of
-    position-of-requires
-    slice-aggregate-put-in
-    put-in-requires
-    slice-aggregate-put-in-2
+    slice-aggregate-position-among
+    position-among-requires
+    slice-aggregate-put-into
+    put-into-requires
+    slice-aggregate-put-into-2
     lookup-requires
-    put-in-requires-2
+    put-into-requires-2
     add-count
     loop-less
     loop-again

@@ -42,8 +42,8 @@ enum-known-found c = search needs
 enum-told : tie.Need-enum-told
 enum-told c = search needs
 
-enter-requires : tie.Need-enter-requires
-enter-requires c κs =
+enter-first-requires : tie.Need-enter-first-requires
+enter-first-requires c κs =
     let d = c .before .before .before .before .before in
     let s = d .before .before .before .before .before in
     (s .pre, d .product-at .ensures ∙ ap (λ (b : Bucket). product (b .cols) (s .args .w)) (first-here rows solutions _ (flat-of (s .pre .ready) .shape) mixOf (s .args .w) _ (d .before .before .first-place .ensures)))
@@ -67,7 +67,7 @@ returns-2 c =
     let r = c .before .before .before .before .before .before in
     let a = start r .args in
     let l = gone (a .t .now) (a .w) _ (found r) (c .before .before .before .before .enum-told .given .1) in
-    rw (added-gone (a .t .now) (a .w) (a .plan) l) (c .before .before .enter .ensures)
+    rw (added-gone (a .t .now) (a .w) (a .plan) l) (c .before .before .enter-first .ensures)
 
 pub add-first-spec : {M : Type 1} → statement M
 add-first-spec =
@@ -78,7 +78,7 @@ add-first-spec =
     plan-by-requires
     enum-known-found
     enum-told
-    enter-requires
+    enter-first-requires
     same-length
     returns
     same-length-2

@@ -19,8 +19,8 @@ past c = let s = c .before .before .before .before in record { ready = s .pre .r
 holds-first-requires : tie.Need-holds-first-requires
 holds-first-requires c κs = search needs
 
-enter-settling-requires : tie.Need-enter-settling-requires
-enter-settling-requires c κs =
+fall-first-requires : tie.Need-fall-first-requires
+fall-first-requires c κs =
     let s = c .before .before .before .before .before in
     (s .pre .ready, (assignable-byte (s .args .plan) (s .pre .plan), s .pre .first (sym (c .before .before .holds-first .ensures) ∙ c .before .if1 .taken)))
 
@@ -33,8 +33,8 @@ returns c = search needs
 second-requires : tie.Need-second-requires
 second-requires c κs = search needs
 
-settle-second-requires : tie.Need-settle-second-requires
-settle-second-requires c κs =
+fall-second-requires : tie.Need-fall-second-requires
+fall-second-requires c κs =
     let e = c .before .before in
     let s = e .before .before .before .before in (
       ready-kept _ (s .pre .ready),
@@ -45,7 +45,7 @@ count-one-requires : tie.Need-count-one-requires
 count-one-requires c κs =
     let b = c .before .before .before .before in
     let e = b .before .before .before in
-    passing-room (past e) (e .before .before .before .before .fits .w .fits) (b .before .second .ensures) (b .settle-second .ensures) (c .before .if2 .taken)
+    passing-room (past e) (e .before .before .before .before .fits .w .fits) (b .before .second .ensures) (b .fall-second .ensures) (c .before .if2 .taken)
 
 same-length-2 : tie.Need-same-length-2
 same-length-2 c = search needs
@@ -54,7 +54,7 @@ returns-2 : tie.Need-returns-2
 returns-2 c =
     let b = c .before .before .before .before .before .before .before in
     let e = b .before .before .before in
-    passing-done (past e) (e .before .before .before .before .fits .w .fits) (b .before .second .ensures) (b .settle-second .ensures) (c .before .before .before .before .if2 .taken) _ _ (c .before .before .count-one .ensures)
+    passing-done (past e) (e .before .before .before .before .fits .w .fits) (b .before .second .ensures) (b .fall-second .ensures) (c .before .before .before .before .if2 .taken) _ _ (c .before .before .count-one .ensures)
 
 same-length-3 : tie.Need-same-length-3
 same-length-3 c = search needs
@@ -63,18 +63,18 @@ returns-3 : tie.Need-returns-3
 returns-3 c =
     let b = c .before .before .before in
     let e = b .before .before .before in
-    passing-full (past e) (e .before .before .before .before .fits .w .fits) (b .before .second .ensures) (b .settle-second .ensures) (c .if2 .left)
+    passing-full (past e) (e .before .before .before .before .fits .w .fits) (b .before .second .ensures) (b .fall-second .ensures) (c .if2 .left)
 
 pub enter-depending-spec : {M : Type 1} → statement M
 enter-depending-spec =
     tie.close
     (tie.spec
     holds-first-requires
-    enter-settling-requires
+    fall-first-requires
     same-length
     returns
     second-requires
-    settle-second-requires
+    fall-second-requires
     count-one-requires
     same-length-2
     returns-2

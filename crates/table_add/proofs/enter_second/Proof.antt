@@ -38,8 +38,8 @@ held : (c : tie.After-second) → holds rows solutions mixOf (tableOf (c .before
 held c = ap (holds rows solutions mixOf (tableOf (c .before .before .args .t .now) .level2)) (c .second .ensures) ∙ c .before .before .pre .1 .0
 
 -- it did not go straight in: the table is as it was
-same : (c : tie.Else1) → c .before .before .before .put-straight .last .0 ≡ c .before .before .before .before .before .before .before .before .before .args .t .now
-same c = straight-left rows solutions thresholdOf _ (word (c .before .before .before .before .before .before .before)) _ (c .if1 .left) (c .before .before .before .put-straight .ensures)
+same : (c : tie.Else1) → c .before .before .before .put-by .last .0 ≡ c .before .before .before .before .before .before .before .before .before .args .t .now
+same c = straight-left rows solutions thresholdOf _ (word (c .before .before .before .before .before .before .before)) _ (c .if1 .left) (c .before .before .before .put-by .ensures)
 
 second-requires : tie.Need-second-requires
 second-requires c κs = search needs
@@ -47,8 +47,8 @@ second-requires c κs = search needs
 second-place-requires : tie.Need-second-place-requires
 second-place-requires c κs = search needs
 
-put-straight-requires : tie.Need-put-straight-requires
-put-straight-requires c κs =
+put-by-requires : tie.Need-put-by-requires
+put-by-requires c κs =
     let p = c .before in
     let v = p .before .before in
     let s = v .before .before in (
@@ -58,14 +58,14 @@ put-straight-requires c κs =
 
 -- it went straight in
 straight : (c : tie.Then1) → let v = c .before .before .before .before .before .before .before in let s = v .before .before in
-    Passed rows solutions (s .args .t .now) (toSecond rows solutions mixOf (tableOf (s .args .t .now)) (word v)) true (c .before .before .before .put-straight .last .0)
+    Passed rows solutions (s .args .t .now) (toSecond rows solutions mixOf (tableOf (s .args .t .now)) (word v)) true (c .before .before .before .put-by .last .0)
 straight c =
     let d = c .before .before .before in
     let v = d .before .before .before .before in
     let s = v .before .before in
     let f : Fits w64 (v .second .result) = search needs in
     arrive-straight rows solutions mixOf _ (ready-kept _ (s .pre .0 .ready)) (word v) _ (d .before .before .second-place .ensures) (f .fits) _
-    (straight-as rows solutions thresholdOf _ (word v) _ (c .if1 .taken) (d .put-straight .ensures))
+    (straight-as rows solutions thresholdOf _ (word v) _ (c .if1 .taken) (d .put-by .ensures))
 
 count-one-requires : tie.Need-count-one-requires
 count-one-requires c κs =
@@ -94,7 +94,7 @@ enter-depending-requires c κs =
       plan = s .pre .0 .plan;
       first = λ h. absurd (true≢false (sym h ∙ s .pre .0 .past));
       second = λ h. subst (λ (x : ℕ). DependsIn rows solutions mixOf (tableOf (s .args .t .now) .level2) (record { word = x; plan = s .args .plan })) (v .second .ensures)
-          (straight-depends rows solutions mixOf (tableOf (s .args .t .now) .level2) (word v) _ _ (here (d .before .before)) (held v) (e .if1 .left) (d .put-straight .ensures));
+          (straight-depends rows solutions mixOf (tableOf (s .args .t .now) .level2) (word v) _ _ (here (d .before .before)) (held v) (e .if1 .left) (d .put-by .ensures));
     })
 
 same-length-2 : tie.Need-same-length-2
@@ -113,7 +113,7 @@ enter-second-spec =
     (tie.spec
     second-requires
     second-place-requires
-    put-straight-requires
+    put-by-requires
     count-one-requires
     same-length
     returns

@@ -6,31 +6,31 @@ use borrow.Author.Needs.{needs}
 use Rattle.bucket_settle.proofs.Outgoing.put_at.Statement.{statement}
 use Rattle.bucket_settle.proofs.Outgoing.put_at.Tie as tie
 
-slice-aggregate-put-in : tie.Need-slice-aggregate-put-in
-slice-aggregate-put-in c = search needs
+slice-aggregate-put-into : tie.Need-slice-aggregate-put-into
+slice-aggregate-put-into c = search needs
 
-put-in-requires : tie.Need-put-in-requires
-put-in-requires c κs = search needs
+put-into-requires : tie.Need-put-into-requires
+put-into-requires c κs = search needs
 
-slice-aggregate-put-in-2 : tie.Need-slice-aggregate-put-in-2
-slice-aggregate-put-in-2 c = search needs
+slice-aggregate-put-into-2 : tie.Need-slice-aggregate-put-into-2
+slice-aggregate-put-into-2 c = search needs
 
-put-in-requires-2 : tie.Need-put-in-requires-2
-put-in-requires-2 c κs = search needs
+put-into-requires-2 : tie.Need-put-into-requires-2
+put-into-requires-2 c κs = search needs
 
 add-t12 : tie.Need-add-t12
 add-t12 c = search needs
 
 returns : tie.Need-returns
-returns c = same refl (c .before .before .before .before .before .put-in .ensures) (c .before .before .put-in2 .ensures)
+returns c = same refl (c .before .before .before .before .before .put-into .ensures) (c .before .before .put-into2 .ensures)
 
 pub put-at-spec : {M : Type 1} → statement M
 put-at-spec =
     tie.close
     (tie.spec
-    slice-aggregate-put-in
-    put-in-requires
-    slice-aggregate-put-in-2
-    put-in-requires-2
+    slice-aggregate-put-into
+    put-into-requires
+    slice-aggregate-put-into-2
+    put-into-requires-2
     add-t12
     returns)

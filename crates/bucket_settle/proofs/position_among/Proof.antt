@@ -1,4 +1,4 @@
--- `bucket_settle::position_of` meets its contract: no vector that the loop passed is larger than v.
+-- `bucket_settle::position_among` meets its contract: no vector that the loop passed is larger than v.
 -- Assumes nothing.
 use mathlib.Core.Path.{_≡_}
 use Prim.Native.Nat.{_+_, _-_, _≤_}
@@ -8,8 +8,8 @@ use lib.ListN.{length, take, drop}
 use Rattle.bucket_settle.proofs.Arrays.{position-here, position-next, position-end}
 use Rattle.bucket_settle.specs.Steps.{positionOf}
 use borrow.Author.Needs.{needs}
-use Rattle.bucket_settle.proofs.position_of.Statement.{statement}
-use Rattle.bucket_settle.proofs.position_of.Tie as tie
+use Rattle.bucket_settle.proofs.position_among.Statement.{statement}
+use Rattle.bucket_settle.proofs.position_among.Tie as tie
 
 abbrev Inv-loop : tie.InvT-loop
 Inv-loop vectors count v i₀ i = (i ≤ count) × (positionOf v (take count vectors) ≡ i + positionOf v (drop i (take count vectors)))
@@ -50,8 +50,8 @@ returns-2 c =
     let h : a .count ≤ c .before .loop .i = omega arith in
     omega (arith, position-end (a .v) (a .vectors .now) (a .count) (c .before .loop .i) h)
 
-pub position-of-spec : {M : Type 1} → statement M
-position-of-spec =
+pub position-among-spec : {M : Type 1} → statement M
+position-among-spec =
     tie.close
     (tie.spec
     Inv-loop

@@ -1,4 +1,4 @@
--- `bucket_settle::put_in` meets its contract. The loop carries the element that is to stand at `at`: it and what is to come are the result's.
+-- `bucket_settle::put_into` meets its contract. The loop carries the element that is to stand at `at`: it and what is to come are the result's.
 -- Assumes nothing.
 use mathlib.Core.Path.{_≡_, refl, _∙_}
 use mathlib.Core.List.{_∷_, _++_}
@@ -8,8 +8,8 @@ use lib.ListN.{length, take, drop, length-set}
 use Rattle.lists.proofs.Loops.{carry-up}
 use Rattle.bucket_settle.proofs.Arrays.{carry-end}
 use borrow.Author.Needs.{needs}
-use Rattle.bucket_settle.proofs.put_in.Statement.{statement}
-use Rattle.bucket_settle.proofs.put_in.Tie as tie
+use Rattle.bucket_settle.proofs.put_into.Statement.{statement}
+use Rattle.bucket_settle.proofs.put_into.Tie as tie
 
 abbrev Inv-loop : tie.InvT-loop
 Inv-loop words₀ i x carried₀ at₀ words carried at = (length words ≡ length words₀) × (take at words ++ carried ∷ drop at words ≡ take i words₀ ++ x ∷ drop i words₀)
@@ -53,8 +53,8 @@ returns c =
     let h : length (l .words) ≤ l .at = omega arith in
     carry-end _ _ _ _ _ _ h (l .inv .0) (l .inv .1)
 
-pub put-in-spec : {M : Type 1} → statement M
-put-in-spec =
+pub put-into-spec : {M : Type 1} → statement M
+put-into-spec =
     tie.close
     (tie.spec
     Inv-loop

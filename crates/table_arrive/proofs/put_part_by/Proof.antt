@@ -1,12 +1,12 @@
--- `table_arrive::add_in` meets its contract.
+-- `table_arrive::put_part_by` meets its contract.
 -- Assumes nothing.
 use Rattle.lists.specs.Entries.{Entry}
 use Rattle.bucket_settle.specs.Settle.{thresholdOf}
 use Rattle.table.specs.Calls.{rows, solutions}
 use Rattle.table_arrive.proofs.Settled.{step-held, step-past}
 use borrow.Author.Needs.{needs}
-use Rattle.table_arrive.proofs.add_in.Statement.{statement}
-use Rattle.table_arrive.proofs.add_in.Tie as tie
+use Rattle.table_arrive.proofs.put_part_by.Statement.{statement}
+use Rattle.table_arrive.proofs.put_part_by.Tie as tie
 
 abbrev word : tie.Start → Entry
 word s = record { word = s .args .v; plan = s .args .plan }
@@ -34,5 +34,5 @@ returns-2 c =
     let s = c .before .before .before .before in
     step-past rows solutions thresholdOf (word s) (s .args .part .now) _ (c .before .before .threshold .ensures) (c .if1 .left)
 
-pub add-in-spec : {M : Type 1} → statement M
-add-in-spec = tie.close (tie.spec threshold-requires slice-read-if1 add-by-requires same-length returns returns-2)
+pub put-part-by-spec : {M : Type 1} → statement M
+put-part-by-spec = tie.close (tie.spec threshold-requires slice-read-if1 add-by-requires same-length returns returns-2)

@@ -1,4 +1,4 @@
--- `bucket_settle::settle` meets its contract. The words that have left so far, ahead of what is to come, are the whole settlement.
+-- `bucket_settle::fall` meets its contract. The words that have left so far, ahead of what is to come, are the whole settlement.
 -- Assumes nothing.
 use Prim.Native.Nat.{suc, _+_, _-_, _≤_, _<_}
 use mathlib.Core.Path.{_≡_, sym, ap, _∙_}
@@ -11,8 +11,8 @@ use Rattle.bucket.specs.Bucket.{add}
 use Rattle.bucket_settle.specs.Settle.{thresholdOf, withdrawAll, atBound}
 use Rattle.bucket_settle.proofs.Run.{Settling, starts, last-room, ends-added, ends-past, next-room, falls, depends-still}
 use borrow.Author.Needs.{needs}
-use Rattle.bucket_settle.proofs.settle.Statement.{statement}
-use Rattle.bucket_settle.proofs.settle.Tie as tie
+use Rattle.bucket_settle.proofs.fall.Statement.{statement}
+use Rattle.bucket_settle.proofs.fall.Tie as tie
 
 abbrev Inv-loop : tie.InvT-loop
 Inv-loop k plan own bucket₀ out₀ left₀ bucket out left =
@@ -101,8 +101,8 @@ returns-2 c =
     let h : l .bucket .bound ≤ thresholdOf (c .before .before .before .before .before .before .args .k) = omega arith in
     ends-past _ _ _ _ _ (l .inv .0) h (search needs) (c .push .ensures)
 
-pub settle-spec : {M : Type 1} → statement M
-settle-spec =
+pub fall-spec : {M : Type 1} → statement M
+fall-spec =
     tie.close
     (tie.spec
     Inv-loop
