@@ -63,7 +63,8 @@ pub fn col_step(i: usize, p: u64, cols: [u64; Bucket::ROWS]) -> [u64; Bucket::RO
     let mut at: usize = 0;
     while at < Bucket::ROWS {
         let a = out[at];
-        out[at] = bits::flip_if(((p >> at) ^ (a >> i)) % 2, u, a);
+        let own = a >> i;
+        out[at] = bits::flip_if(((p >> at) ^ own) % 2, u, a);
         at += 1;
     }
     out

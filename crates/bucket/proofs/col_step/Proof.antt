@@ -34,11 +34,11 @@ mul-a c = search needs
 array-read-a : tie.Need-array-read-a Inv-loop μ-loop
 array-read-a c = search needs
 
+shr-own : tie.Need-shr-own Inv-loop μ-loop
+shr-own c = search needs
+
 shr-flip-if : tie.Need-shr-flip-if Inv-loop μ-loop
 shr-flip-if c = search needs
-
-shr-flip-if-2 : tie.Need-shr-flip-if-2 Inv-loop μ-loop
-shr-flip-if-2 c = search needs
 
 flip-if-requires : tie.Need-flip-if-requires Inv-loop μ-loop
 flip-if-requires c κs = search needs
@@ -80,8 +80,8 @@ col-step-spec =
     loop-holds
     mul-a
     array-read-a
+    shr-own
     shr-flip-if
-    shr-flip-if-2
     flip-if-requires
     mul-out
     array-write-out
