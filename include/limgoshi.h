@@ -36,7 +36,7 @@ extern "C" {
 
 /* The plan that means "call the desk". A plane gives it to an identifier that no bucket holds and the base list lacks. No live identifier has it: an
  * add or change to it is turned down (14), a table in which a live identifier has it is not sound (5), a plane (10) or patch (12) with it in a base
- * entry is wrong. A bucket may still give any number, this one too, to an identifier that is not live. */
+ * entry is wrong. A bucket may still give any number, this one too, to an identifier that is not live: the XOR of the plans of some that are. */
 #define LIMGOSHI_CALL_THE_DESK 255u
 
 /* 64-bit numbers of a table with b1 and b2 buckets: 536 to 6,308. */
@@ -107,7 +107,7 @@ LIMGOSHI_ANSWER limgoshi_add(uint64_t *table, size_t table_len, uint8_t kind, co
 LIMGOSHI_ANSWER limgoshi_change(uint64_t *table, size_t table_len, uint8_t kind, const uint8_t *id, size_t id_len, uint8_t plan,
                                 uint64_t *value);
 
-/* Withdraws a live identifier.
+/* Withdraws a live identifier. Planes written from then on do not depend on the plan that it had; see limgoshi_plane_lookup.
  * Value: the earlier plan. Causes: 15, 1, 2, 4, 5, 7. Time: 6 to 300 microseconds. Stack: LIMGOSHI_STACK. */
 LIMGOSHI_ANSWER limgoshi_withdraw(uint64_t *table, size_t table_len, uint8_t kind, const uint8_t *id, size_t id_len, uint64_t *value);
 
@@ -126,7 +126,8 @@ LIMGOSHI_ANSWER limgoshi_plan_total(const uint64_t *table, size_t table_len, uin
 LIMGOSHI_ANSWER limgoshi_write_plane(const uint64_t *table, size_t table_len, uint8_t *out, size_t out_len, uint64_t *value);
 
 /* Finds the plan that a plane gives an identifier: to a live one its plan, to any other LIMGOSHI_CALL_THE_DESK, or some number where a bucket holds
- * it. The whole plane is checked at each call.
+ * it: the XOR of the plans of some live identifiers of that bucket, 0 if of none. So a withdrawn one may get a plan, by chance its former one, and
+ * cannot be told from a live one. The whole plane is checked at each call.
  * Value: the plan. Causes: 15, 1, 2, 10. Time: 0.1 microseconds. Stack: LIMGOSHI_STACK_LOOKUP. */
 LIMGOSHI_ANSWER limgoshi_plane_lookup(uint8_t kind, const uint8_t *id, size_t id_len, const uint8_t *plane, size_t plane_len, uint64_t *value);
 

@@ -1,5 +1,5 @@
-//! One bucket (document 01, "One bucket"; document 02, order 5) and the fall
-//! of its bound ("The whole table").
+//! One bucket (document 01, "One bucket"; document 02, orders 5 and 6) and the
+//! fall of its bound ("The whole table").
 //!
 //! Decisions:
 //! - "smallest vector first" compares vectors as unsigned 64-bit numbers, of
@@ -9,9 +9,9 @@
 //!   descending, then vector ascending, and the new word after all of them.
 //! - A new word whose threshold is not below the bound to begin with is not
 //!   added here at all: `settle` hands on just that word and nothing changes.
-//! - The plan of a leaving word is its lookup at the moment it leaves
-//!   (withdrawals keep the solutions, so any moment before the new word's own
-//!   add gives the same).
+//! - The plan of a leaving word is its lookup at the moment it leaves (a
+//!   withdrawal keeps the lookups of the other live vectors, so any moment
+//!   before the new word's own add gives the same).
 //! - Adding a live vector depends: its product has no free row's bit.
 //! - No step on columns gets a vector. Where v is k XOR 2^i, the parity of (v
 //!   AND column a) is bit a of k's product XOR bit i of column a, whatever the
@@ -24,6 +24,10 @@
 //! - A withdrawal exchanges the two columns first and steps then. In the
 //!   exchanged columns the vector's product is the bit of its new row, so this
 //!   is the step of an add, and gives the same as to step and then to exchange.
+//! - Every withdrawal clears the row j that it frees, those of a falling bound
+//!   too. Row j of Z is bit j of each solution word, which the step on columns
+//!   has left alone; column j is the one after step and exchange. Of the free
+//!   rows' bits it has its own alone, so the other free rows stay clear.
 //! - Change and withdraw of a vector that is not live do nothing (the table
 //!   answers cause 7 before it would come to that).
 
@@ -142,6 +146,7 @@ impl Bucket {
         self.cols.swap(row, lowest);
         self.column_step(lowest, 1 << lowest);
         self.mark &= !(1 << lowest);
+        self.clear(lowest);
         Some(plan)
     }
 
@@ -167,6 +172,20 @@ impl Bucket {
             }
         }
         earlier
+    }
+
+    /// XORs column `row` into each solution word that has the bit of this row.
+    fn clear(&mut self, row: usize) {
+        let col = self.cols[row];
+        for sol in &mut self.sols {
+            *sol ^= col & (*sol >> row & 1).wrapping_neg();
+        }
+    }
+
+    /// Whether every free row of Z is 0.
+    pub fn is_clear(&self) -> bool {
+        let bits = self.sols.iter().fold(0, |bits, sol| bits | sol);
+        bits & !self.mark == 0
     }
 
     /// The rows of K, by Gaussian elimination on the columns of its inverse;

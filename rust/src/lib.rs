@@ -1,9 +1,10 @@
 //! Reference implementation of the plan table, its plane and its patches,
 //! written from the requirement alone (document 01, "The plan table and its
-//! plane"; document 02, orders 1 to 5).
+//! plane"; document 02, orders 1 to 6).
 
 pub mod answer;
 pub mod bucket;
+pub mod combination;
 pub mod identifier;
 pub mod lines;
 #[cfg(feature = "linked")]

@@ -10,7 +10,8 @@
 //! repetition.
 //!
 //! Parities are counted too: those of the products and of the plans looked up
-//! are all, so no step on columns multiplies on its own.
+//! are all, so neither a step on columns nor the clearing of a row multiplies on
+//! its own.
 
 use crate::answer::{BASE_FULL, WORD_LIVE};
 use crate::bucket::Bucket;

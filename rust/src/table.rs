@@ -1,5 +1,5 @@
 //! The whole table as one slice of 64-bit numbers (document 01, "The whole
-//! table"; document 02, orders 2 to 5).
+//! table"; document 02, orders 2 to 6).
 //!
 //! Decisions:
 //! - Every call but opening and the question for a plan's total tests the whole
@@ -11,8 +11,9 @@
 //!   is refused by it whatever the table is, and whether the word is live or not.
 //! - Opening meets 3 before 4: with bucket numbers out of range the length is
 //!   not looked at. Cause 4 returns the number of 64-bit numbers in the slice.
-//! - Solution words may be anything in a sound table, as long as the plans they
-//!   give to the occupied rows may be given and agree with the totals.
+//! - In a sound table the solution words have no bit of a free row. In the
+//!   occupied rows' bits they may be anything, as long as the plans they give
+//!   may be given and agree with the totals.
 //! - A bound of 0 with no occupied row is sound, as is any bound whose words
 //!   pass the three tests: bounds need not be the greatest possible.
 //! - w' = 0 is an ordinary base word; only the base count tells an entry from
@@ -218,7 +219,7 @@ impl Shape {
     }
 
     /// The bucket's number in the table, level 1 first; none for the base.
-    fn bucket_index(&self, spot: Spot) -> Option<usize> {
+    pub fn bucket_index(&self, spot: Spot) -> Option<usize> {
         match spot {
             Spot::Level1(bucket) => Some(bucket as usize),
             Spot::Level2(bucket) => Some((self.buckets1 + bucket) as usize),
@@ -319,8 +320,8 @@ impl Shape {
             && table[LEADING..HEADER] == totals
     }
 
-    /// Columns invertible, free rows units, occupied rows where they belong and
-    /// with plans that may be given. These are counted.
+    /// Free rows of Z 0, columns invertible, free rows units, occupied rows
+    /// where they belong and with plans that may be given. These are counted.
     fn is_bucket_sound(
         &self,
         table: &[u64],
@@ -328,6 +329,9 @@ impl Shape {
         bucket: &Bucket,
         totals: &mut [u64; TOTALS],
     ) -> bool {
+        if !bucket.is_clear() {
+            return false;
+        }
         let Some(rows) = bucket.rows() else {
             return false;
         };
@@ -555,7 +559,7 @@ fn count_in(table: &mut [u64], plan: u8) -> u64 {
 }
 
 /// The vector under which a word is held at a spot.
-fn vector_at(spot: Spot, word: u64) -> u64 {
+pub(crate) fn vector_at(spot: Spot, word: u64) -> u64 {
     match spot {
         Spot::Level1(_) => level1_vector(word),
         Spot::Level2(_) | Spot::Base => level2_vector(word),

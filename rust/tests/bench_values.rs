@@ -1,4 +1,5 @@
-//! M1 to M11 of document 01, whole buckets compared.
+//! M1 to M11 of document 01, M6 as document 02 has it since order 6; whole
+//! buckets compared.
 
 use reference::bucket::{Bucket, Leaving};
 
@@ -52,9 +53,12 @@ fn m1_to_m6() {
 
     // M6
     assert_eq!(b.withdraw(3), Some(5));
-    let m6 = bucket(&[(0, 1), (1, 2)], 1, &[(0, 2), (1, 3), (2, 1)], 8);
+    let m6 = bucket(&[(0, 1), (1, 2)], 1, &[(1, 1), (2, 1)], 8);
     assert_eq!(b, m6);
+    assert_eq!(b.sols, [0, 1, 1, 0, 0, 0, 0, 0]);
     assert_eq!(b.lookup(1), 6);
+    // 3 = 1 XOR 2, and 2 is the unit vector of the freed row.
+    assert_eq!((b.lookup(3), b.lookup(2)), (6, 0));
     assert_eq!(b.live(1), Some(0));
     assert_eq!(b.live(3), None);
 }
@@ -88,15 +92,10 @@ fn settled(k: u64, threshold: u64) -> (Bucket, Vec<(u64, u8)>) {
 #[test]
 fn m8() {
     // 3 leaves, as in M6; then 2 finds row 1: K is (1, 2), the identity. The
-    // lookup of 2 was 3 (solutions 2, 3, 1), 9 XOR 3 = 10: bits 1 and 3.
+    // lookup of 2 was 0, so column 1 goes into solutions 0 and 3: 9 is 1001.
     let (b, leaving) = settled(2, 4);
     assert_eq!(leaving, [(3, 5)]);
-    let m8 = bucket(
-        &[(0, 1), (1, 2)],
-        3,
-        &[(0, 2), (1, 3 ^ 2), (2, 1), (3, 2)],
-        5,
-    );
+    let m8 = bucket(&[(0, 1), (1, 2)], 3, &[(0, 2), (1, 1), (2, 1), (3, 2)], 5);
     assert_eq!(b, m8);
     assert_eq!((b.lookup(1), b.lookup(2)), (6, 9));
 }
@@ -113,7 +112,7 @@ fn m9() {
 fn m10() {
     let (b, leaving) = settled(0, 4);
     assert_eq!(leaving, [(3, 5), (0, 9)]);
-    let m10 = bucket(&[(0, 1), (1, 2)], 1, &[(0, 2), (1, 3), (2, 1)], 4);
+    let m10 = bucket(&[(0, 1), (1, 2)], 1, &[(1, 1), (2, 1)], 4);
     assert_eq!(b, m10);
 }
 
@@ -121,6 +120,6 @@ fn m10() {
 fn m11() {
     let (b, leaving) = settled(0, 0);
     assert_eq!(leaving, [(3, 5), (1, 6), (0, 9)]);
-    let m11 = bucket(&[], 0, &[(0, 2), (1, 3), (2, 1)], 0);
+    let m11 = bucket(&[], 0, &[], 0);
     assert_eq!(b, m11);
 }

@@ -1,5 +1,6 @@
-//! Soundness of any numbers: each rule broken alone, that of the totals in
-//! totals.rs, and random damage compared with the slow test.
+//! Soundness of any numbers: each rule broken alone, that of the solutions bit
+//! by bit, that of the totals in totals.rs, and random damage compared with the
+//! slow test.
 
 mod oracle;
 
@@ -16,6 +17,31 @@ fn soundness(table: &[u64]) -> Answer {
         Ok(_) => ACCEPTED,
         Err(refusal) => refusal,
     }
+}
+
+/// Every call that tests the table gives 5 and keeps the table and the output.
+fn not_sound(table: &[u64]) {
+    assert_eq!(soundness(table), NOT_SOUND);
+    assert_eq!(oracle::soundness(table), NOT_SOUND);
+    let mut other = table.to_vec();
+    let mut output = [9; 1000];
+    assert_eq!(table::add(&mut other, 2, b"x", 1), NOT_SOUND);
+    assert_eq!(table::change(&mut other, 2, b"x", 1), NOT_SOUND);
+    assert_eq!(table::withdraw(&mut other, 2, b"x"), NOT_SOUND);
+    assert_eq!(table::query(&other, 2, b"x"), NOT_SOUND);
+    assert_eq!(reference::plane::write(&other, &mut output), NOT_SOUND);
+    // A total is answered all the same.
+    for plan in [0, 12, 255] {
+        let value = other[4 + plan as usize];
+        assert_eq!(table::plan_total(&other, plan), Answer { cause: 0, value });
+    }
+    assert_eq!(other, table);
+    assert_eq!(output, [9; 1000]);
+}
+
+fn sound(table: &[u64]) {
+    assert_eq!(soundness(table), ACCEPTED);
+    assert_eq!(oracle::soundness(table), ACCEPTED);
 }
 
 #[test]
@@ -42,28 +68,12 @@ fn each_rule_alone() {
         let mut other = table.clone();
         change(&mut other);
         oracle::recount(&mut other);
-        assert_eq!(soundness(&other), NOT_SOUND);
-        assert_eq!(oracle::soundness(&other), NOT_SOUND);
-        // All calls give it, and keep the table and the output.
-        let kept = other.clone();
-        let mut output = [9; 10_000];
-        assert_eq!(table::add(&mut other, 2, b"x", 1), NOT_SOUND);
-        assert_eq!(table::change(&mut other, 2, b"x", 1), NOT_SOUND);
-        assert_eq!(table::withdraw(&mut other, 2, b"x"), NOT_SOUND);
-        assert_eq!(table::query(&other, 2, b"x"), NOT_SOUND);
-        assert_eq!(reference::plane::write(&other, &mut output), NOT_SOUND);
-        // A total is answered all the same.
-        for plan in [0, 12, 255] {
-            let value = other[4 + plan as usize];
-            assert_eq!(table::plan_total(&other, plan), Answer { cause: 0, value });
-        }
+        not_sound(&other);
         assert_eq!(
             table::add(&mut other, 2, b"", 1),
             Answer { cause: 1, value: 0 }
         );
         assert_eq!(table::query(&other, 2, b" "), Answer { cause: 2, value: 0 });
-        assert_eq!(other, kept);
-        assert_eq!(output, [9; 10_000]);
         // Opening does not mind.
         assert_eq!(table::open(&mut other, 2, 2), ACCEPTED);
         assert_eq!(other, ExactTable::open(2, 2).numbers());
@@ -151,16 +161,107 @@ fn each_rule_alone() {
         t[3] += 1;
     });
 
-    // Solutions are free, if no plan is 255 and the totals agree with them.
+    // In the bits of occupied rows solutions are free, if no plan is 255 and the
+    // totals agree with them.
     let mut other = table.clone();
     for c in 0..7 {
-        other[first + 65 + c] = rng.next();
+        other[first + 65 + c] = rng.next() & table[first + 64];
     }
     other[first + 65 + 7] = 0;
-    assert_eq!(soundness(&other), NOT_SOUND);
-    assert_eq!(oracle::soundness(&other), NOT_SOUND);
+    not_sound(&other);
     oracle::recount(&mut other);
-    assert_eq!(soundness(&other), ACCEPTED);
+    sound(&other);
+}
+
+/// A bit of a solution word changed, the totals made right again. Of a free row
+/// it is 5; of an occupied row it is judged by the plans alone.
+#[test]
+fn each_bit_of_the_solutions() {
+    let mut rng = Rng::new(19);
+    let (mut free, mut desk, mut others) = (0, 0, 0);
+    for table in [mixed(&mut rng, 1, 1), ExactTable::open(1, 1).numbers()] {
+        sound(&table);
+        for first in [260, 260 + 74] {
+            let mark = table[first + 64];
+            for (c, row) in (0..8).flat_map(|c| (0..64).map(move |row| (c, row))) {
+                let mut other = table.clone();
+                other[first + 65 + c] ^= 1 << row;
+                oracle::recount(&mut other);
+                if mark >> row & 1 == 0 {
+                    not_sound(&other);
+                    free += 1;
+                } else if other[4 + 255] > 0 {
+                    not_sound(&other);
+                    desk += 1;
+                } else {
+                    sound(&other);
+                    others += 1;
+                }
+            }
+        }
+    }
+    assert_eq!(free + desk + others, 4 * 8 * 64);
+    assert!(free > 1024 && desk > 0 && others > 100);
+}
+
+/// A free row of Z made another than 0 along its column, which leaves every
+/// other row's plan as it was, the totals too.
+#[test]
+fn each_free_row_with_a_plan() {
+    let table = mixed(&mut Rng::new(20), 1, 1);
+    let mut rows = [0; 2];
+    for (bucket, count) in rows.iter_mut().enumerate() {
+        let mark = table[260 + 74 * bucket + 64];
+        for row in (0..64).filter(|row| mark >> row & 1 == 0) {
+            for plan in (0..8).map(|c| 1 << c).chain([254, 255]) {
+                let other = oracle::with_row_plan(&table, bucket, row, plan);
+                let mut counted = other.clone();
+                oracle::recount(&mut counted);
+                assert_eq!(counted, other);
+                not_sound(&other);
+            }
+            let other = oracle::with_row_plan(&table, bucket, row, 0);
+            assert_eq!(other, table);
+            *count += 1;
+        }
+    }
+    assert!(rows.iter().all(|&count| count > 20), "{rows:?}");
+}
+
+/// After every call of a history the solution words have no bit of a free row.
+#[test]
+fn histories_leave_free_rows_clear() {
+    let mut rng = Rng::new(21);
+    let (mut withdrawn, mut fallen) = (0, 0);
+    for round in 0..40 {
+        let (b1, b2) = [(1, 1), (1, 2), (2, 1), (3, 2)][round % 4];
+        let mut table = ExactTable::open(b1, b2).numbers();
+        let mut words = Vec::new();
+        for _ in 0..200 {
+            let word = match rng.below(4) {
+                0 => rng.below(64),
+                1 => oracle::unsecond(rng.below(64)),
+                2 if !words.is_empty() => *rng.pick(&words),
+                _ => rng.next(),
+            };
+            words.push(word);
+            let bounds = |table: &[u64]| -> u64 {
+                let buckets = table[260..].chunks(74).take(b1 + b2);
+                buckets.map(|bucket| bucket[73]).sum()
+            };
+            let before = bounds(&table);
+            if rng.one_in(3) {
+                withdrawn += u32::from(table::withdraw_word(&mut table, word).is_accepted());
+            } else {
+                table::add_word(&mut table, word, oracle::random_plan(&mut rng));
+            }
+            fallen += u32::from(bounds(&table) < before);
+            for bucket in table[260..].chunks(74).take(b1 + b2) {
+                assert!(bucket[65..73].iter().all(|word| word & !bucket[64] == 0));
+            }
+        }
+    }
+    assert!(withdrawn > 200 && fallen > 100, "{withdrawn} {fallen}");
 }
 
 #[test]

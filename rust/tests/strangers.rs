@@ -228,8 +228,8 @@ fn live_words_with_255(table: &[u64]) -> Vec<(usize, bool)> {
             if occupied {
                 each(&|plan| oracle::with_row_plan(table, bucket, row, plan));
             } else {
-                // Nobody's plan.
-                sound(&oracle::with_row_plan(table, bucket, row, 255));
+                // Nobody's plan, and not 0.
+                not_sound(&oracle::with_row_plan(table, bucket, row, 255));
             }
         }
     }
@@ -317,28 +317,27 @@ fn a_stranger_at_a_post() {
     }
 }
 
-/// A bucket's answer is not tested: with eight equal solution words it is 0 or
-/// 255, and the table is sound as long as that is no live word's plan.
+/// A bucket's answer is not tested: with the plans 15 and 240 it is 255 to some
+/// who are not live, and the table is sound all the same.
 #[test]
 fn a_bucket_may_answer_255() {
     let mut table = with_cards((8, 8), 0);
-    table[260 + 65..260 + 73].fill(0x0123_4567_89ab_cdef);
+    assert_eq!(table::add(&mut table, 2, &card(1), 15), accepted(1));
+    assert_eq!(table::add(&mut table, 2, &card(2), 240), accepted(2));
     sound(&table);
     let plane = written(&table);
     let mut desk = 0;
-    for i in 1..=100 {
-        let word = oracle::word(2, &card(i)).unwrap();
-        let odd = (word & 0x0123_4567_89ab_cdef).count_ones() % 2 == 1;
-        let plan = if odd { 255 } else { 0 };
-        assert_eq!(plane::lookup(2, &card(i), &plane), accepted(plan));
-        desk += u32::from(odd);
+    for i in 3..=100 {
+        let answer = plane::lookup(2, &card(i), &plane);
+        assert!([0, 15, 240, 255].map(accepted).contains(&answer));
+        desk += u32::from(answer == accepted(255));
         // Added, it has the plan that it is given.
         let mut table = table.clone();
-        assert_eq!(table::add(&mut table, 2, &card(i), 7), accepted(1));
+        assert_eq!(table::add(&mut table, 2, &card(i), 7), accepted(3));
         sound(&table);
         assert_eq!(plane::lookup(2, &card(i), &written(&table)), accepted(7));
     }
-    assert!(desk > 20 && desk < 80);
+    assert!(desk > 10 && desk < 50, "{desk}");
 }
 
 /// A plane of one bucket and one with these base entries.

@@ -272,14 +272,16 @@ fn plans_without_their_totals() {
             let plan = oracle::row_plan(&table, bucket, row);
             let new = another_plan(&mut rng, plan);
             let mut other = oracle::with_row_plan(&table, bucket, row, new);
-            // The plan of a free row is nobody's.
-            if mark >> row & 1 == 0 {
-                sound(&other);
-                continue;
-            }
             not_sound(&other);
+            let totals = other[4..260].to_vec();
             oracle::recount(&mut other);
-            sound(&other);
+            if mark >> row & 1 == 1 {
+                sound(&other);
+            } else {
+                // The plan of a free row is nobody's: it must be 0.
+                assert_eq!(other[4..260], totals);
+                not_sound(&other);
+            }
         }
     }
     let base = 260 + 4 * 74;

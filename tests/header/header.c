@@ -825,6 +825,45 @@ static void totals(void)
     every_total(n);
 }
 
+/* A lost card leaves no plan behind: it was alone in its bucket, so the plane gives it 0 once it is withdrawn, and every number is what it was. Then a
+ * free row gets a plan along its column, which changes no card's plan: the table is not sound. */
+static void withdrawn(void)
+{
+    static uint64_t empty[LIMGOSHI_TABLE_NUMBERS(1, 1)];
+    const uint8_t *id = bytes("Bus-17");
+    size_t n = LIMGOSHI_TABLE_NUMBERS(1, 1), length = LIMGOSHI_PLANE_BYTES(1, 1, 0);
+    ANSWERS(limgoshi_open(table, n, 1, 1, &value), LIMGOSHI_ACCEPTED, 0);
+    memcpy(empty, table, sizeof empty);
+    for (unsigned plan = 1; plan < LIMGOSHI_CALL_THE_DESK; plan++) {
+        uint8_t kind = card_kind(plan);
+        ANSWERS(limgoshi_add(table, n, kind, id, 6, (uint8_t)plan, &value), LIMGOSHI_ACCEPTED, 1);
+        ANSWERS(limgoshi_write_plane(table, n, out, length, &value), LIMGOSHI_ACCEPTED, length);
+        ANSWERS(limgoshi_plane_lookup(kind, id, 6, out, length, &value), LIMGOSHI_ACCEPTED, plan);
+        ANSWERS(limgoshi_withdraw(table, n, kind, id, 6, &value), LIMGOSHI_ACCEPTED, plan);
+        ANSWERS(limgoshi_write_plane(table, n, out, length, &value), LIMGOSHI_ACCEPTED, length);
+        ANSWERS(limgoshi_plane_lookup(kind, id, 6, out, length, &value), LIMGOSHI_ACCEPTED, 0);
+        HOLDS(memcmp(empty, table, sizeof empty) == 0);
+    }
+    ANSWERS(limgoshi_add(table, n, given_kind, id, 6, 40, &value), LIMGOSHI_ACCEPTED, 1);
+    unsigned rows = 0;
+    for (unsigned bucket = 0; bucket < 2; bucket++) {
+        uint64_t *columns = table + 4 + LIMGOSHI_PLANS + 74 * bucket, mark = columns[64], *solutions = columns + 65;
+        for (unsigned row = 0; row < 64; row++) {
+            if ((mark >> row & 1) != 0)
+                continue;
+            rows++;
+            solutions[row % 8] ^= columns[row];
+            for (int which = ADD; which <= QUERY; which++)
+                ANSWERS(table_call(which, table, n, id, 6), LIMGOSHI_NOT_SOUND, 0);
+            ANSWERS(limgoshi_write_plane(table, n, out, length, &value), LIMGOSHI_NOT_SOUND, 0);
+            ANSWERS(limgoshi_plan_total(table, n, 40, &value), LIMGOSHI_ACCEPTED, 1);
+            solutions[row % 8] ^= columns[row];
+        }
+    }
+    HOLDS(rows == 127);
+    ANSWERS(limgoshi_query(table, n, given_kind, id, 6, &value), LIMGOSHI_ACCEPTED, 40);
+}
+
 /* The patch of each changed plan, in a bucket or in the base list, and of a plan that is set again. The table is that of `full`. */
 static void plans(void)
 {
@@ -877,6 +916,7 @@ int main(void)
     full();
     plans();
     totals();
+    withdrawn();
     static const char *const names[FUNCTIONS] = {"open", "add", "change", "withdraw", "query", "plan_total", "write_plane", "plane_lookup", "make_patch", "apply_patch"};
     for (int f = 0; f < FUNCTIONS; f++) {
         printf("limgoshi_%s", names[f]);

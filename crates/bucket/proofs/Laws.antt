@@ -13,7 +13,7 @@ use lib.Count.{trailingZeros}
 use lib.Dec.{eqb, eqb→eq, ltb}
 use lib.ListN.{length, getD}
 use borrow.Author.Tests.{lt-ltb, le-ltb}
-use Rattle.lists.proofs.Tests.{cases, cond-true, cond-false, true→T, and-l}
+use Rattle.lists.proofs.Tests.{cases, cond-true, cond-false, true→T, and-l, and-r}
 use Rattle.gf2.specs.Vectors.{bit, outside, dot, product, colStep, rowStep, exchange}
 use Rattle.gf2.proofs.Bit.{bit-pow-same, dot-zero-r}
 use Rattle.gf2.proofs.Linear.{product-bit, product-lt}
@@ -96,6 +96,14 @@ module _ (n k : ℕ) (b : Bucket) (hl : live n k b ≡ true) where
       let p : ℕ = product (b .cols) k in
       subst (λ (x : ℕ). x < n) (sym (cond-true (trailingZeros n p) n hl))
       (tz-lt n p (subst (λ (l : ℕ). p < 2 ^ l) h (product-lt (b .cols) k)) (λ e. omega (arith, row-product, pow-pos (rowOf n k b))))
+
+  -- which is occupied
+  pub row-marked : bit (rowOf n k b) (b .mark) ≡ 1
+  unfolding live rowOf
+  row-marked =
+      let p : ℕ = product (b .cols) k in
+      let i : ℕ = trailingZeros n p in
+      ap (λ (x : ℕ). bit x (b .mark)) (cond-true i n hl) ∙ eqb→eq (bit i (b .mark)) 1 (and-r (eqb p (2 ^ i)) (eqb (bit i (b .mark)) 1) (true→T hl))
 
 module _ (n k : ℕ) (b : Bucket) (h : length (b .cols) ≡ n) where
   -- no row where k is not live

@@ -1,4 +1,5 @@
 -- The laws of the crate.
 pub mod Steps
 pub mod Laws
+pub mod Answers
 pub mod Marked

@@ -1,4 +1,4 @@
--- M1 to M11 of document 01, one computed check of the definitions: whole buckets of 64 rows and 8 solution words.
+-- M1 to M11 of document 01, M6 as document 02, order 6 has it: one computed check of the definitions: whole buckets of 64 rows and 8 solution words.
 -- Assumes nothing.
 use mathlib.Core.Bool.{Bool, true, false, not, _&&_}
 use mathlib.Core.List.{List, [], _∷_, _++_}
@@ -40,7 +40,7 @@ unfoldable pub m2 : Bucket
 m2 = bucketOf (2 ∷ 3 ∷ []) 3 (2 ∷ 3 ∷ 1 ∷ [])
 
 unfoldable pub m6 : Bucket
-m6 = bucketOf (1 ∷ 2 ∷ []) 1 (2 ∷ 3 ∷ 1 ∷ [])
+m6 = bucketOf (1 ∷ 2 ∷ []) 1 (0 ∷ 1 ∷ 1 ∷ [])
 
 unfoldable pub due : ℕ → ℕ → Due
 due k t = record { vector = k; threshold = t }

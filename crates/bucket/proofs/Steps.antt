@@ -1,5 +1,6 @@
--- What the steps of a bucket keep, at every width and number of solution words: the columns are K's inverse and K's free rows are units;
--- the live vectors are the old ones and the new one, or without the one that left; a vector's plan is the one last given.
+-- What the steps of a bucket keep, at every width and number of solution words: the columns are K's inverse, K's free rows are units and
+-- those of the solutions are 0; the live vectors are the old ones and the new one, or without the one that left; a vector's plan is the one
+-- last given.
 -- Assumes nothing.
 use mathlib.Core.Path.{_≡_, sym, ap, ap₂, _∙_, subst, subst₂}
 use mathlib.Core.Bool.{Bool, true, false, not, _&&_}
@@ -15,7 +16,7 @@ use lib.Dec.{T, T-not, eqb, eqb→eq, ltb, ltb→lt, lt→ltb}
 use lib.ListN.{length, getD, set, length-set}
 use lib.Seq.{getD-set-same, getD-set-other, set-set}
 use Rattle.lists.proofs.Tests.{bool-ext, and-l, and-r, and-i, eq-T, T→true, nT→false}
-use Rattle.gf2.specs.Vectors.{bit, outside, product, combine, colStep, solStep, exchange, Inverse, units}
+use Rattle.gf2.specs.Vectors.{bit, outside, product, combine, colStep, solStep, exchange, rowIn, Inverse, units}
 use Rattle.gf2.specs.Select.{elem, sums, chosen, Within}
 use Rattle.gf2.proofs.Bit.{by-place, bit-zero, bit-lt, bit-pow-same, bit-pow-other, bit-high, dot-pow}
 use Rattle.gf2.proofs.Linear.{product-bit, product-lt, combine-pow}
@@ -23,6 +24,7 @@ use Rattle.gf2.proofs.Inverse.{replace-row, exchange-rows, empty, getD-units, e
 use Rattle.gf2.proofs.Lowest.{bit-or, bit-outside, outside-lt, tz-bit, tz-lt, tz-pow}
 use Rattle.gf2.proofs.Chosen.{chosen-add, chosen-drop, Row, elem→row, row→elem}
 use Rattle.gf2.proofs.Solutions.{plan-set, plan-kept}
+use Rattle.gf2.proofs.Clear.{clear-zeros, clear-step, clear-row}
 use Rattle.gf2.proofs.Depend.{depends-test, within→and, and→within}
 use Rattle.bucket.specs.declared.Bucket.{Bucket}
 use Rattle.bucket.specs.Bucket.{Sound, emptyBucket, lookup, live, tried, addAt, add, withdrawAt}
@@ -32,22 +34,34 @@ use Rattle.bucket.proofs.Laws.{column-lowest}
 
 pub empty-sound : (n r : ℕ) → Sound n (units n) (emptyBucket n r)
 unfolding emptyBucket
-empty-sound n r = record { inverse = empty n; free = λ j hj e. getD-units n j hj; mark-lt = pow-pos n }
+empty-sound n r = record { inverse = empty n; free = λ j hj e. getD-units n j hj; mark-lt = pow-pos n; clear = clear-zeros r }
 
 -- ---- add
 
 module _ (n : ℕ) (K : List ℕ) (b : Bucket) (i k plan : ℕ) (s : Sound n K b) (hi : i < n) (hk : k < 2 ^ n)
     (hm : bit i (b .mark) ≡ 0) (hb : bit i (product (b .cols) k) ≡ 1) where
+  added-inverse : Inverse n (set K i k) (colStep (getD (b .cols) i 0) (bitXor k (2 ^ i)) (b .cols))
+  added-inverse =
+      subst (λ (v : ℕ). Inverse n (set K i k) (colStep (getD (b .cols) i 0) v (b .cols))) (ap (λ (x : ℕ). bitXor x k) (s .free i hi hm) ∙ xor-comm (2 ^ i) k)
+      (replace-row n K (b .cols) i k (s .inverse) hi hk hb)
+
+  -- a row that is free still is another one, and was free
+  still-free : (j : ℕ) → bit j (bitOr (b .mark) (2 ^ i)) ≡ 0 → (j ≡ i → ⊥) × (bit j (b .mark) ≡ 0)
+  still-free j e =
+      let o : max (bit j (b .mark)) (bit j (2 ^ i)) ≡ 0 = sym (bit-or j (b .mark) (2 ^ i)) ∙ e in
+      (λ (q : j ≡ i). let z : bit j (2 ^ i) ≡ 1 = subst (λ (x : ℕ). bit x (2 ^ i) ≡ 1) (sym q) (bit-pow-same i) in omega arith, omega arith)
+
+  added-free : (j : ℕ) → j < n → bit j (bitOr (b .mark) (2 ^ i)) ≡ 0 → getD (set K i k) j 0 ≡ 2 ^ j
+  added-free j hj e = getD-set-other K i j k 0 (still-free j e .0) ∙ s .free j hj (still-free j e .1)
+
   pub add-sound : Sound n (set K i k) (addAt i k plan b)
   unfolding addAt
   add-sound = record {
-    inverse = subst (λ (v : ℕ). Inverse n (set K i k) (colStep (getD (b .cols) i 0) v (b .cols))) (ap (λ (x : ℕ). bitXor x k) (s .free i hi hm) ∙ xor-comm (2 ^ i) k)
-        (replace-row n K (b .cols) i k (s .inverse) hi hk hb);
-    free = λ j hj e.
-        let o : max (bit j (b .mark)) (bit j (2 ^ i)) ≡ 0 = sym (bit-or j (b .mark) (2 ^ i)) ∙ e in
-        getD-set-other K i j k 0 (λ (q : j ≡ i). let z : bit j (2 ^ i) ≡ 1 = subst (λ (x : ℕ). bit x (2 ^ i) ≡ 1) (sym q) (bit-pow-same i) in omega arith)
-        ∙ s .free j hj (omega arith);
+    inverse = added-inverse;
+    free = added-free;
     mark-lt = or-lt n (b .mark) (2 ^ i) (s .mark-lt) (pow-lt hi);
+    clear = clear-step n (bitOr (b .mark) (2 ^ i)) (set K i k) _ (b .sols) added-inverse added-free i _ hi
+        (bit-or i (b .mark) (2 ^ i) ∙ omega (arith, bit-pow-same i, bit-lt i (b .mark))) (λ j z. s .clear j (still-free j z .1));
   }
 
   pub add-live : List·Permᴰ (chosen (bitOr (b .mark) (2 ^ i)) (set K i k)) (k ∷ chosen (b .mark) K)
@@ -72,24 +86,52 @@ module _ (n : ℕ) (K : List ℕ) (b : Bucket) (i k : ℕ) (s : Sound n K b) (hi
   middle-i : getD middle i 0 ≡ 2 ^ row-of
   middle-i = getD-set-same K i (2 ^ row-of) 0 (omega (arith, s .inverse .rows))
 
-  pub withdraw-sound : Sound n (exchange i row-of middle) (withdrawAt n i k b)
+  -- the columns and the mark afterwards
+  abbrev columns : List ℕ
+  columns = exchange i row-of (colStep (getD (b .cols) i 0) (bitXor k (2 ^ row-of)) (b .cols))
+
+  abbrev marked : ℕ
+  marked = outside (b .mark) (2 ^ row-of)
+
+  left-inverse : Inverse n (exchange i row-of middle) columns
+  left-inverse =
+      exchange-rows n i row-of middle _ (subst (λ (v : ℕ). Inverse n middle (colStep (getD (b .cols) i 0) v (b .cols))) (ap (λ (x : ℕ). bitXor x (2 ^ row-of)) hk)
+      (replace-row n K (b .cols) i (2 ^ row-of) (s .inverse) hi (pow-lt row-lt) (product-bit (b .cols) (2 ^ row-of) i ∙ dot-pow row-of (getD (b .cols) i 0) ∙ row-bit))) hi row-lt
+
+  -- another row that is free now was free
+  was-free : (a : ℕ) → (a ≡ row-of → ⊥) → bit a marked ≡ 0 → bit a (b .mark) ≡ 0
+  was-free a ne e = let f : bit a (b .mark) - bit a (2 ^ row-of) ≡ 0 = sym (bit-outside a (b .mark) (2 ^ row-of)) ∙ e in omega (arith, bit-pow-other a row-of ne)
+
+  left-free : (a : ℕ) → a < n → bit a marked ≡ 0 → getD (exchange i row-of middle) a 0 ≡ 2 ^ a
+  left-free = by-place (λ a. a < n → bit a marked ≡ 0 → getD (exchange i row-of middle) a 0 ≡ 2 ^ a) row-of
+      (λ ha e. getD-set-same (set middle i (getD middle row-of 0)) row-of (getD middle i 0) 0
+      (omega (arith, length-set middle i (getD middle row-of 0), length-set K i (2 ^ row-of), s .inverse .rows, row-lt)) ∙ middle-i)
+      (λ a ne ha e.
+      let m0 : bit a (b .mark) ≡ 0 = was-free a ne e in
+      let ni : a ≡ i → ⊥ = (λ q. let z : bit a (b .mark) ≡ 1 = subst (λ (x : ℕ). bit x (b .mark) ≡ 1) (sym q) hm in omega arith) in
+      getD-set-other (set middle i (getD middle row-of 0)) row-of a (getD middle i 0) 0 ne
+      ∙ getD-set-other middle i a (getD middle row-of 0) 0 ni ∙ getD-set-other K i a (2 ^ row-of) 0 ni ∙ s .free a ha m0)
+
+  -- K without k
+  abbrev pub left-rows : List ℕ
+  left-rows = exchange i row-of middle
+
+  -- the freed row is a row, and free
+  pub freed-row : row-of < n
+  freed-row = row-lt
+
+  pub freed-clear : bit row-of marked ≡ 0
+  freed-clear = bit-outside row-of (b .mark) (2 ^ row-of) ∙ omega (arith, bit-pow-same row-of, bit-lt row-of (b .mark))
+
+  pub withdraw-sound : Sound n left-rows (withdrawAt n i k b)
   unfolding withdrawAt
   withdraw-sound = record {
-    inverse = exchange-rows n i row-of middle _ (subst (λ (v : ℕ). Inverse n middle (colStep (getD (b .cols) i 0) v (b .cols))) (ap (λ (x : ℕ). bitXor x (2 ^ row-of)) hk)
-        (replace-row n K (b .cols) i (2 ^ row-of) (s .inverse) hi (pow-lt row-lt) (product-bit (b .cols) (2 ^ row-of) i ∙ dot-pow row-of (getD (b .cols) i 0) ∙ row-bit))) hi row-lt;
-    free = by-place (λ a. a < n → bit a (outside (b .mark) (2 ^ row-of)) ≡ 0 → getD (exchange i row-of middle) a 0 ≡ 2 ^ a) row-of
-        (λ ha e. getD-set-same (set middle i (getD middle row-of 0)) row-of (getD middle i 0) 0
-        (omega (arith, length-set middle i (getD middle row-of 0), length-set K i (2 ^ row-of), s .inverse .rows, row-lt)) ∙ middle-i)
-        others;
+    inverse = left-inverse;
+    free = left-free;
     mark-lt = outside-lt n (b .mark) (2 ^ row-of) (s .mark-lt) (pow-lt row-lt);
+    clear = clear-row n marked (exchange i row-of middle) columns (b .sols) left-inverse left-free row-of row-lt
+        freed-clear (λ a ne z. s .clear a (was-free a ne z));
   }
-    where
-      others : (a : ℕ) → (a ≡ row-of → ⊥) → a < n → bit a (outside (b .mark) (2 ^ row-of)) ≡ 0 → getD (exchange i row-of middle) a 0 ≡ 2 ^ a
-      others a ne ha e =
-          let m0 : bit a (b .mark) ≡ 0 = (let f : bit a (b .mark) - bit a (2 ^ row-of) ≡ 0 = sym (bit-outside a (b .mark) (2 ^ row-of)) ∙ e in omega (arith, bit-pow-other a row-of ne)) in
-          let ni : a ≡ i → ⊥ = (λ q. let z : bit a (b .mark) ≡ 1 = subst (λ (x : ℕ). bit x (b .mark) ≡ 1) (sym q) hm in omega arith) in
-          getD-set-other (set middle i (getD middle row-of 0)) row-of a (getD middle i 0) 0 ne
-          ∙ getD-set-other middle i a (getD middle row-of 0) 0 ni ∙ getD-set-other K i a (2 ^ row-of) 0 ni ∙ s .free a ha m0
 
   -- another row that has the bit is occupied
   row-occupied : (i ≡ row-of → ⊥) → bit row-of (b .mark) ≡ 1
@@ -126,6 +168,18 @@ module _ (n : ℕ) (K : List ℕ) (b : Bucket) (i k : ℕ) (s : Sound n K b) (hi
           let own : Perm (chosen (b .mark) K) (k ∷ c0) =
           subst (λ (x : ℕ). Perm (chosen (b .mark) K) (x ∷ c0)) hk ∣ chosen-drop K i (b .mark) 0 (omega (arith, s .inverse .rows)) hm ∣₁ in
           Perm·trans own (Perm·cons k (Perm·cons-inv {a = kj} (Perm·trans (Perm·symm right) left)))
+
+-- what a withdrawal does to the plans: the others' stay
+module _ (n : ℕ) (K : List ℕ) (b : Bucket) (i k : ℕ) (s : Sound n K b) (hi : i < n) (hk : getD K i 0 ≡ k) (hm : bit i (b .mark) ≡ 1) where
+  pub withdraw-others : (a : ℕ) → bit a (withdrawAt n i k b .mark) ≡ 1
+      → lookup (withdrawAt n i k b) (getD (left-rows n K b i k s hi hk hm) a 0) ≡ lookup b (getD (left-rows n K b i k s hi hk hm) a 0)
+  unfolding withdrawAt
+  withdraw-others a m =
+      let w = withdraw-sound n K b i k s hi hk hm in
+      let j : ℕ = trailingZeros n (getD (b .cols) i 0) in
+      let l : a < n = lt-of-not-le (λ h. let z : bit a (outside (b .mark) (2 ^ j)) ≡ 0 = bit-high n a (outside (b .mark) (2 ^ j)) (w .mark-lt) h in omega arith) in
+      let ne : j ≡ a → ⊥ = (λ e. let z : bit a (outside (b .mark) (2 ^ j)) ≡ 0 = subst (λ (x : ℕ). bit x (outside (b .mark) (2 ^ j)) ≡ 0) e (freed-clear n K b i k s hi hk hm) in omega arith) in
+      plan-kept n (left-rows n K b i k s hi hk hm) _ (b .sols) (w .inverse) j (freed-row n K b i k s hi hk hm) (rowIn (b .sols) j) a l ne
 
 -- ---- live
 
@@ -167,14 +221,14 @@ module _ (n : ℕ) (K : List ℕ) (b : Bucket) (i k plan : ℕ) (s : Sound n K b
   unfolding addAt
   add-plan =
       subst (λ (x : ℕ). product (solStep (getD (colStep (getD (b .cols) i 0) (bitXor k (2 ^ i)) (b .cols)) i 0) (bitXor (product (b .sols) x) plan) (b .sols)) x ≡ plan) at-i
-      (plan-set n (set K i k) (colStep (getD (b .cols) i 0) (bitXor k (2 ^ i)) (b .cols)) (b .sols) (add-sound n K b i k plan s hi hk hm hb .inverse) i plan hi hp)
+      (plan-set n (set K i k) (colStep (getD (b .cols) i 0) (bitXor k (2 ^ i)) (b .cols)) (b .sols) (add-sound n K b i k plan s hi hk hm hb .inverse) i hi plan hp)
 
   pub add-others : (a : ℕ) → a < n → (i ≡ a → ⊥) → lookup (addAt i k plan b) (getD K a 0) ≡ lookup b (getD K a 0)
   unfolding addAt
   add-others a ha ne =
-      subst₂ (λ (x y : ℕ). product (solStep (getD (colStep (getD (b .cols) i 0) (bitXor k (2 ^ i)) (b .cols)) i 0) (bitXor (product (b .sols) x) plan) (b .sols)) y ≡ product (b .sols) y)
-      at-i (getD-set-other K i a k 0 (λ e. ne (sym e)))
-      (plan-kept n (set K i k) (colStep (getD (b .cols) i 0) (bitXor k (2 ^ i)) (b .cols)) (b .sols) (add-sound n K b i k plan s hi hk hm hb .inverse) i plan hi hp a ha ne)
+      subst (λ (y : ℕ). product (solStep (getD (colStep (getD (b .cols) i 0) (bitXor k (2 ^ i)) (b .cols)) i 0) (bitXor (product (b .sols) k) plan) (b .sols)) y ≡ product (b .sols) y)
+      (getD-set-other K i a k 0 (λ e. ne (sym e)))
+      (plan-kept n (set K i k) (colStep (getD (b .cols) i 0) (bitXor k (2 ^ i)) (b .cols)) (b .sols) (add-sound n K b i k plan s hi hk hm hb .inverse) i hi _ a ha ne)
 
 -- ---- the whole add: the row that it takes, or the dependence
 

@@ -9,7 +9,7 @@ use lib.Bits.{bitXor, bitOr}
 use lib.Count.{trailingZeros}
 use lib.Dec.{ltb, eqb}
 use lib.ListN.{getD, replicate}
-use Rattle.gf2.specs.Vectors.{bit, outside, product, colStep, solStep, exchange, units, Inverse}
+use Rattle.gf2.specs.Vectors.{bit, outside, product, colStep, solStep, exchange, units, rowIn, Clear, Inverse}
 use Rattle.bucket.specs.declared.Bucket.{Bucket}
 use Rattle.bucket.specs.declared.Tried.{Tried}
 
@@ -82,15 +82,17 @@ unfoldable pub change : ℕ → ℕ → ℕ → Bucket → Tried
 change n k plan b = tried (live n k b) (changeAt (rowOf n k b) k plan b) b
 
 -- k leaves row i: j is the lowest set bit of u = column i; the step on the columns with v = k XOR 2 ^ j, then columns i and j are
--- exchanged and mark bit j is cleared; solutions stay
+-- exchanged and mark bit j is cleared. Document 02, order 6: the plan bits of row j, as held in the solutions, are XORed away along the
+-- new column j
 unfoldable pub withdrawAt : ℕ → ℕ → ℕ → Bucket → Bucket
 withdrawAt n i k b =
     let u : ℕ = getD (b .cols) i 0 in
     let j : ℕ = trailingZeros n u in
+    let cs : List ℕ = exchange i j (colStep u (bitXor k (2 ^ j)) (b .cols)) in
     record {
-      cols = exchange i j (colStep u (bitXor k (2 ^ j)) (b .cols));
+      cols = cs;
       mark = outside (b .mark) (2 ^ j);
-      sols = b .sols;
+      sols = solStep (getD cs j 0) (rowIn (b .sols) j) (b .sols);
       bound = b .bound;
     }
 
@@ -98,8 +100,10 @@ withdrawAt n i k b =
 unfoldable pub withdraw : ℕ → ℕ → Bucket → Tried
 withdraw n k b = tried (live n k b) (withdrawAt n (rowOf n k b) k b) b
 
--- what holds of a bucket whose matrix is K: its columns are K's inverse, and the free rows of K are units
+-- what holds of a bucket whose matrix is K: its columns are K's inverse, the free rows of K are units, and row j of Z, the matrix of the
+-- solutions, is 0 for each free row j (document 02, order 6)
 pub record Sound (n : ℕ) (K : List ℕ) (b : Bucket) : Type 0 where
   pub inverse : Inverse n K (b .cols)
   pub free : (j : ℕ) → j < n → bit j (b .mark) ≡ 0 → getD K j 0 ≡ 2 ^ j
   pub mark-lt : b .mark < 2 ^ n
+  pub clear : Clear (b .mark) (b .sols)

@@ -1,14 +1,15 @@
 // One bucket of document 01: 64 columns of the inverse of K, the mark word of occupied rows, 8 solution words and the bound.
 // Each step is an equation with a definition of specs/Bucket.antt, which follows document 01's "One bucket" sentence by sentence
 // at every number of rows and of solution words; proofs/Steps.antt has what the steps keep (K and its inverse, live vectors, plans),
-// proofs/Laws.antt an add and a withdrawal by product and row. The step on the columns gets a row and a product, and no vector.
+// proofs/Answers.antt what a bucket answers to any vector, proofs/Laws.antt an add and a withdrawal by product and row. The step on the
+// columns gets a row and a product, and no vector. A withdrawal is made on a bucket's words alone: bucket_words.
 // Cites gf2 (vectors), lists, bits and parities (the product). bucket_words, bucket_settle, model and table build on it.
 ghost use mathlib.Core.Path.{_≡_};
 ghost use Prim.Native.Nat.{_<_, _≤_, _^_};
 ghost use lib.Count.{trailingZeros};
 ghost use lib.ListN.{length, getD};
 ghost use Rattle.gf2.specs.Vectors.{dot, product, rowStep, solStep, exchange};
-ghost use Rattle.bucket.specs.Bucket.{emptyBucket, rowBy, rowOf, lookup, add, change, withdraw};
+ghost use Rattle.bucket.specs.Bucket.{emptyBucket, rowBy, rowOf, lookup, add, change};
 
 // The bucket by value. The columns travel as one array.
 pub struct Bucket {
@@ -213,33 +214,6 @@ impl Bucket {
                     mark: self.mark,
                     sols: solved,
                     bound: self.bound,
-                },
-            };
-        }
-        Tried {
-            done: false,
-            bucket: self,
-        }
-    }
-
-    // The bucket without k: the row freed is the lowest set bit of k's column; not done where k is not live.
-    pub fn withdraw(self, k: u64) -> Tried
-        ensures { λ r. do ⌜ r ≡ withdraw (← ⟦Bucket::ROWS⟧ .entry) k self ⌝ }
-    {
-        let i = self.row_of(k);
-        if i < Self::ROWS {
-            let cols = self.cols;
-            let mark = self.mark;
-            let j = lowest(cols[i]);
-            let next = col_step(j, bits::power(j), exchanged(i, j, cols)); // k's product is bit j once the columns are exchanged
-            let sols = self.sols;
-            return Tried {
-                done: true,
-                bucket: Self {
-                    cols: next,
-                    mark: mark ^ (mark & bits::power(j)),
-                    sols,
-                    bound: self.bound, // never raised, also where the bucket is empty now
                 },
             };
         }

@@ -2,7 +2,7 @@
 -- Assumes nothing.
 use Prim.Native.Nat.{ℕ, _^_, _<_}
 use native.Mathlib.Omega.{arith}
-use mathlib.Core.Path.{_≡_, refl, sym, ap, ap₂, _∙_, subst, subst⁻¹, subst₂}
+use mathlib.Core.Path.{_≡_, refl, sym, ap, ap₂, _∙_, subst, subst⁻¹}
 use mathlib.Core.Bool.{Bool, true, false, _||_, true≢false, Bool-set}
 use mathlib.Core.Logic.{⊎-elim, ∥∥₁-elim}
 use mathlib.Core.Option.{Option, none, some}
@@ -23,10 +23,11 @@ use Rattle.gf2.proofs.Chosen.{Row, chosen-none, elem→row}
 use Rattle.gf2.proofs.Lowest.{tz-pow}
 use Rattle.gf2.proofs.Loops.{length-solStep}
 use Rattle.gf2.proofs.Solutions.{plan-set, plan-kept}
+use Rattle.gf2.proofs.Clear.{clear-step}
 use Rattle.bucket.specs.declared.Bucket.{Bucket}
 use Rattle.bucket.specs.declared.Tried.{Tried}
 use Rattle.bucket.specs.Bucket.{Sound, emptyBucket, lookup, live, rowOf, tried, addAt, add, changeAt, change, withdrawAt, withdraw}
-use Rattle.bucket.proofs.Steps.{live-test, empty-sound, add-sound, add-live, add-plan, add-others, withdraw-sound, withdraw-live, Goes, add-goes, add-depends}
+use Rattle.bucket.proofs.Steps.{live-test, empty-sound, add-sound, add-live, add-plan, add-others, left-rows, withdraw-sound, withdraw-live, withdraw-others, Goes, add-goes, add-depends}
 use Rattle.bucket_settle.specs.Settle.{planOf}
 
 -- ---- members
@@ -196,16 +197,24 @@ module _ {n r : ℕ} {b : Bucket} {rows : List Entry} (h : Holds n r b rows) whe
     withdraw-is = ap₂ (λ (t : Bool) (i : ℕ). tried t (withdrawAt n i k b) b) is-live row-is
 
     withdraw-at : Holds n r (withdrawAt n at k b) (remove k rows)
-    unfolding withdrawAt
+    unfolding withdrawAt Row
     withdraw-at = record {
-      matrix = _;
+      matrix = left;
       sound = withdraw-sound n (h .matrix) b at k (h .sound) (row .1) (row .3) (row .2);
-      lives = Perm·cons-inv (Perm·trans (Perm·symm (withdraw-live n (h .matrix) b at k (h .sound) (row .1) (row .3) (row .2)))
-          (Perm·trans (h .lives) ∣ Permᴰ·map (λ (e : Entry). e .word) parts ∣₁));
-      plans = λ x m. h .plans x (rest x m);
-      wide = h .wide;
+      lives = lives-on;
+      plans = λ x m.
+          let r = elem→row (x .word) (withdrawAt n at k b .mark) left (subst⁻¹ T (elem-perm (x .word) lives-on) (mem-elem x (remove k rows) m)) in
+          subst (λ (v : ℕ). lookup (withdrawAt n at k b) v ≡ lookup b v) (r .3) (withdraw-others n (h .matrix) b at k (h .sound) (row .1) (row .3) (row .2) (r .0) (r .2)) ∙ h .plans x (rest x m);
+      wide = length-solStep _ _ (b .sols) ∙ h .wide;
       distinct = distinct-perm parts (h .distinct) .1;
     }
+      where
+        left : List ℕ
+        left = left-rows n (h .matrix) b at k (h .sound) (row .1) (row .3) (row .2)
+
+        lives-on : Perm (chosen (withdrawAt n at k b .mark) left) (words (remove k rows))
+        lives-on = Perm·cons-inv (Perm·trans (Perm·symm (withdraw-live n (h .matrix) b at k (h .sound) (row .1) (row .3) (row .2)))
+            (Perm·trans (h .lives) ∣ Permᴰ·map (λ (e : Entry). e .word) parts ∣₁))
 
     pub holds-withdraw : Holds n r (withdraw n k b .bucket) (remove k rows)
     holds-withdraw = subst⁻¹ (λ (c : Tried). Holds n r (c .bucket) (remove k rows)) withdraw-is withdraw-at
@@ -219,12 +228,17 @@ module _ {n r : ℕ} {b : Bucket} {rows : List Entry} (h : Holds n r b rows) whe
       unfolding changeAt
       change-at = record {
         matrix = h .matrix;
-        sound = record { inverse = h .sound .inverse; free = h .sound .free; mark-lt = h .sound .mark-lt };
+        sound = record {
+          inverse = h .sound .inverse;
+          free = h .sound .free;
+          mark-lt = h .sound .mark-lt;
+          clear = clear-step n (b .mark) (h .matrix) (b .cols) (b .sols) (h .sound .inverse) (h .sound .free) at _ (row .1) (row .2) (h .sound .clear);
+        };
         lives = Perm·trans (h .lives) ∣ Permᴰ·map (λ (e : Entry). e .word) parts ∣₁;
         plans = λ x m. ⊎-elim
             (λ (z : x ≡ record { word = k; plan = q }). subst⁻¹ (λ (y : Entry). product (solStep (getD (b .cols) at 0) (bitXor (lookup b k) q) (b .sols)) (y .word) ≡ y .plan) z
             (subst (λ (v : ℕ). product (solStep (getD (b .cols) at 0) (bitXor (lookup b v) q) (b .sols)) v ≡ q) (row .3)
-            (plan-set n (h .matrix) (b .cols) (b .sols) (h .sound .inverse) at q (row .1) fits)))
+            (plan-set n (h .matrix) (b .cols) (b .sols) (h .sound .inverse) at (row .1) q fits)))
             (λ r. other x r) (List·Memᴰ·cases-cons m);
         wide = length-solStep _ _ (b .sols) ∙ h .wide;
         distinct = distinct-perm parts (h .distinct);
@@ -237,8 +251,8 @@ module _ {n r : ℕ} {b : Bucket} {rows : List Entry} (h : Holds n r b rows) whe
           other x m =
               let r = row-of x (rest x m) in
               let ne : at ≡ r .0 → ⊥ = (λ z. find-none k (remove k rows) (distinct-perm parts (h .distinct) .0) x m (sym (row .3) ∙ ap (λ (j : ℕ). getD (h .matrix) j 0) z ∙ r .3)) in
-              subst₂ (λ (v u : ℕ). product (solStep (getD (b .cols) at 0) (bitXor (lookup b v) q) (b .sols)) u ≡ product (b .sols) u) (row .3) (r .3)
-              (plan-kept n (h .matrix) (b .cols) (b .sols) (h .sound .inverse) at q (row .1) fits (r .0) (r .1) ne)
+              subst (λ (u : ℕ). product (solStep (getD (b .cols) at 0) (bitXor (lookup b k) q) (b .sols)) u ≡ product (b .sols) u) (r .3)
+              (plan-kept n (h .matrix) (b .cols) (b .sols) (h .sound .inverse) at (row .1) _ (r .0) (r .1) ne)
               ∙ h .plans x (rest x m)
 
       change-is : change n k q b ≡ record { done = true; bucket = changeAt at k q b }

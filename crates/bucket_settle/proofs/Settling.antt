@@ -93,7 +93,7 @@ rows-ascending n b = marked-ascending (lookup b) (λ k. live n k b) 0 (2 ^ n)
 pub holds-bound : {n r : ℕ} {b : Bucket} {rows : List Entry} (t : ℕ) → Holds n r b rows → Holds n r (atBound t b) rows
 holds-bound t h = record {
   matrix = h .matrix;
-  sound = record { inverse = h .sound .inverse; free = h .sound .free; mark-lt = h .sound .mark-lt };
+  sound = record { inverse = h .sound .inverse; free = h .sound .free; mark-lt = h .sound .mark-lt; clear = h .sound .clear };
   lives = h .lives;
   plans = h .plans;
   wide = h .wide;

@@ -14,7 +14,8 @@ use Rattle.bucket.specs.declared.Bucket.{Bucket}
 use Rattle.bucket.specs.declared.Tried.{Tried}
 use Rattle.bucket.specs.Bucket.{Sound, largestBound, lookup, live, add, withdraw}
 
--- document 01's sound bucket: columns invertible, free rows of K units; r solution words; the bound at most the largest
+-- document 01's sound bucket: columns invertible, free rows of K units, those of Z 0 (document 02, order 6); r solution words; the bound at
+-- most the largest
 pub record SoundBucket (n r : ℕ) (b : Bucket) : Type 0 where
   pub matrix : List ℕ
   pub sound : Sound n matrix b

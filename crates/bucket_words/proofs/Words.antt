@@ -4,8 +4,8 @@ use mathlib.Core.Path.{_≡_, sym, ap, _∙_, subst}
 use mathlib.Core.List.{List, [], _∷_, _++_, append-assoc, append-nil}
 use Prim.Native.Nat.{ℕ, suc, _+_, _≤_, _<_}
 use native.Mathlib.Omega.{arith}
-use lib.ListN.{length, getD, take, drop, length-append, length-drop, length-replicate, take-append-drop}
-use lib.Seq.{length-take-le, drop-cons, drop-drop, take-at, getD-at, drop-append-add, getD-append-add}
+use lib.ListN.{length, getD, set, take, drop, length-append, length-drop, length-replicate, take-append-drop, drop-of-length-le}
+use lib.Seq.{length-take-le, drop-cons, drop-drop, take-at, getD-at, drop-append-add, getD-append-add, set-at}
 use Rattle.gf2.proofs.Inverse.{length-units}
 use Rattle.bucket.specs.declared.Bucket.{Bucket}
 use Rattle.bucket.specs.Bucket.{emptyBucket}
@@ -42,6 +42,15 @@ module _ (n r : ℕ) (b : Bucket) (h : Shaped n r b) where
 pub words-bucket : (n r : ℕ) (b : Bucket) → Shaped n r b → bucketFrom n r (wordsOf b) ≡ b
 words-bucket n r b h = ap (bucketFrom n r) (sym (append-nil (wordsOf b))) ∙ from-words n r b h []
 
+-- another bound
+pub set-bound : (n r : ℕ) (b : Bucket) → Shaped n r b → (x : ℕ) → set (wordsOf b) (n + 1 + r) x ≡ wordsOf (record { cols = b .cols; mark = b .mark; sols = b .sols; bound = x })
+unfolding wordsOf
+set-bound n r b h x =
+    let front : List ℕ = b .cols ++ b .mark ∷ [] in
+    let l : length (front ++ b .sols) ≡ n + 1 + r = simp length-append (omega arith) in
+    let e : wordsOf b ≡ (front ++ b .sols) ++ b .bound ∷ [] = simp append-assoc in
+    ap (λ (l : List ℕ). set l (n + 1 + r) x) e ∙ set-at (front ++ b .sols) (b .bound) [] x (n + 1 + r) l ∙ simp append-assoc
+
 -- what was loaded is what is stored
 pub words-from : (n r : ℕ) (xs : List ℕ) → bucketWords n r ≤ length xs → wordsOf (bucketFrom n r xs) ++ drop (bucketWords n r) xs ≡ xs
 unfolding wordsOf bucketFrom
@@ -56,6 +65,11 @@ words-from n r xs h =
   where
     at : (i j : ℕ) → j ≡ suc i → i < length xs → getD xs i 0 ∷ drop j xs ≡ drop i xs
     at i j e l = rw (e, drop-cons xs i 0 l)
+
+pub words-all : (n r : ℕ) (xs : List ℕ) → length xs ≡ bucketWords n r → wordsOf (bucketFrom n r xs) ≡ xs
+words-all n r xs h =
+    sym (append-nil (wordsOf (bucketFrom n r xs)))
+    ∙ ap (λ (l : List ℕ). wordsOf (bucketFrom n r xs) ++ l) (sym (drop-of-length-le xs {i = bucketWords n r} (omega (arith, h)))) ∙ words-from n r xs (omega (arith, h))
 
 pub from-shaped : (n r : ℕ) (xs : List ℕ) → bucketWords n r ≤ length xs → Shaped n r (bucketFrom n r xs)
 unfolding bucketFrom

@@ -5,7 +5,7 @@
 // Cites bucket, gf2, lists and bits; bucket_settle, table, table_layout and what works on tables build on it.
 use bucket::Bucket;
 ghost use mathlib.Core.Path.{_≡_};
-ghost use lib.ListN.{length};
+ghost use lib.ListN.{length, getD};
 ghost use Rattle.gf2.specs.Vectors.{product};
 ghost use Rattle.bucket.specs.Bucket.{add, withdraw};
 ghost use Rattle.bucket_words.specs.Words.{bucketFrom, wordsOf, Stepped};
@@ -56,6 +56,16 @@ pub fn load(part: &[u64]) -> Bucket
     }
 }
 
+// Columns, mark and solutions into a part of a table; the bound stays.
+pub(crate) fn store_step(part: &mut [u64], cols: &[u64], mark: u64, sols: &[u64])
+    requires { do ⌜ (length (now part) ≡ (← ⟦Bucket::WORDS⟧)) × ((length (now cols) ≡ (← ⟦Bucket::ROWS⟧)) × (length (now sols) ≡ (← ⟦Bucket::SOLUTIONS⟧))) ⌝ }
+    ensures { λ _. do ⌜ now (part .exit) ≡ wordsOf (record { cols = now (cols .entry); mark = mark; sols = now (sols .entry); bound = getD (now (part .entry)) (← ⟦Bucket::BOUND_AT⟧ .entry) 0 }) ⌝ }
+{
+    put(&mut part[0..Bucket::ROWS], cols);
+    part[Bucket::MARK_AT] = mark;
+    put(&mut part[Bucket::SOLUTIONS_AT..Bucket::BOUND_AT], sols);
+}
+
 // The words of a bucket into a part of a table.
 pub fn store(part: &mut [u64], b: Bucket)
     requires { do ⌜ length (now part) ≡ (← ⟦Bucket::WORDS⟧) ⌝ }
@@ -63,9 +73,7 @@ pub fn store(part: &mut [u64], b: Bucket)
 {
     let cols = b.cols;
     let sols = b.sols;
-    put(&mut part[0..Bucket::ROWS], &cols);
-    part[Bucket::MARK_AT] = b.mark;
-    put(&mut part[Bucket::SOLUTIONS_AT..Bucket::BOUND_AT], &sols);
+    store_step(part, &cols, b.mark, &sols);
     part[Bucket::BOUND_AT] = b.bound;
 }
 
@@ -81,27 +89,29 @@ pub fn add_by(part: &mut [u64], k: u64, p: u64, plan: u64) -> bool
         let sols = sols_in(&part[Bucket::SOLUTIONS_AT..Bucket::BOUND_AT]);
         let stepped = bucket::col_step(i, p, cols);
         let solved = bucket::sol_step(stepped[i], bucket::product_in(&sols, k) ^ plan, sols);
-        put(&mut part[0..Bucket::ROWS], &stepped);
-        part[Bucket::MARK_AT] = mark | bits::power(i);
-        put(&mut part[Bucket::SOLUTIONS_AT..Bucket::BOUND_AT], &solved);
+        store_step(part, &stepped, mark | bits::power(i), &solved);
         return true;
     }
     false
 }
 
-// The withdrawal of k from the bucket of a part of a table. False where k is not live: then nothing is written.
+// The withdrawal of k from the bucket of a part of a table: the row freed is the lowest set bit of k's column, and its plan bits are XORed
+// away along its new column. False where k is not live: then nothing is written.
 pub fn withdraw(part: &mut [u64], k: u64) -> bool
     requires { do ⌜ length (now part) ≡ (← ⟦Bucket::WORDS⟧) ⌝ }
     ensures { λ r. do ⌜ Stepped (← ⟦Bucket::ROWS⟧ .entry) (← ⟦Bucket::SOLUTIONS⟧ .entry) (withdraw (← ⟦Bucket::ROWS⟧ .entry) k) (now (part .entry)) r (now (part .exit)) ⌝ }
 {
     let mark = part[Bucket::MARK_AT];
     let cols = cols_in(&part[0..Bucket::ROWS]);
-    let i = bucket::row_by(mark, bucket::product(cols, k));
+    let p = bucket::product(cols, k);
+    let i = bucket::row_by(mark, p);
     if i < Bucket::ROWS {
         let j = bucket::lowest(cols[i]);
-        let next = bucket::col_step(j, bits::power(j), bucket::exchanged(i, j, cols)); // k's product is bit j once the columns are exchanged
-        put(&mut part[0..Bucket::ROWS], &next);
-        part[Bucket::MARK_AT] = mark ^ (mark & bits::power(j));
+        let freed = bits::power(j); // k's product once the columns are exchanged
+        let next = bucket::col_step(j, freed, bucket::exchanged(i, j, cols));
+        let sols = sols_in(&part[Bucket::SOLUTIONS_AT..Bucket::BOUND_AT]);
+        let cleared = bucket::sol_step(next[j], bucket::product_in(&sols, freed), sols);
+        store_step(part, &next, mark ^ (mark & freed), &cleared);
         return true;
     }
     false

@@ -5,10 +5,10 @@ use mathlib.Core.List.{List, [], _∷_}
 use Prim.Native.Nat.{ℕ, zero, suc, _+_, _*_, _/_, _%_, _^_, _<_}
 use native.Mathlib.Omega.{arith}
 use lib.Arith.{lt-one}
-use lib.Bits.{bitXor, xor-comm, xor-lt, xor-zero-r}
+use lib.Bits.{bitXor, differ, xor-comm, xor-lt}
 use lib.ListN.{length, getD, set}
 use Rattle.gf2.specs.Vectors.{bit, on, flipIf, dot, product, colStep, solStep, Inverse}
-use Rattle.gf2.proofs.Bit.{low2, xor-low, xor-half, xor-cat, xor-assoc, xor-cancel, half-lt, half-pow, even-pow, bit-pow-same, bit-pow-other, dot-lt}
+use Rattle.gf2.proofs.Bit.{low2, xor-low, xor-half, xor-cat, xor-assoc, xor-cancel, half-lt, half-pow, even-pow, bit-pow-same, bit-pow-other, dot-lt, differ-zero}
 use Rattle.gf2.proofs.Linear.{on-zero, on-differ, on-cat, on-lt, flip-on, product-bit, product-lt, dot-flip}
 
 pub product-solStep : (u d : ℕ) (ss : List ℕ) (x : ℕ) → d < 2 ^ length ss → product (solStep u d ss) x ≡ bitXor (product ss x) (on (dot x u) d)
@@ -18,6 +18,12 @@ product-solStep u d (s ∷ ss) x h =
     ap₂ (λ (p q : ℕ). p + 2 * q) (dot-flip x (d % 2) u s (low2 d)) (product-solStep u (d / 2) ss x (half-lt d (length ss) h))
     ∙ sym (ap (bitXor (dot x s + 2 * product ss x)) (ap (on (dot x u)) e ∙ on-cat (dot x u) (d % 2) (d / 2))
     ∙ xor-cat (dot x s) (on (dot x u) (d % 2)) (product ss x) (on (dot x u) (d / 2)) (dot-lt x s) (on-lt 1 (dot x u) (d % 2) (low2 d)))
+
+-- a step along a word that x does not see leaves x's product
+pub product-unseen : (u d : ℕ) (ss : List ℕ) (x : ℕ) → dot x u ≡ 0 → product (solStep u d ss) x ≡ product ss x
+product-unseen u d [] x h = refl
+product-unseen u d (s ∷ ss) x h =
+    ap₂ (λ (p q : ℕ). p + 2 * q) (dot-flip x (d % 2) u s (low2 d) ∙ ap (λ (e : ℕ). differ (dot x s) (on e (d % 2))) h ∙ differ-zero (dot x s)) (product-unseen u (d / 2) ss x h)
 
 -- ---- steps one after the other
 
@@ -39,25 +45,21 @@ solStep-pow u j [] = refl
 solStep-pow u zero (s ∷ ss) = ap (λ (l : List ℕ). bitXor s u ∷ l) (solStep-none u ss)
 solStep-pow u (suc j) (s ∷ ss) = ap₂ (λ (d e : ℕ). flipIf d u s ∷ solStep u e ss) (even-pow j) (half-pow j) ∙ ap (λ (l : List ℕ). s ∷ l) (solStep-pow u j ss)
 
--- after the solution step on row i's column, row i has the plan and the other rows have theirs: for add and change alike
-module _ (n : ℕ) (K cs ss : List ℕ) (inv : Inverse n K cs) (i plan : ℕ) (hi : i < n) (hp : plan < 2 ^ length ss) where
+-- a step along row i's column leaves the products of the other rows, for add, change and withdrawal alike
+module _ (n : ℕ) (K cs ss : List ℕ) (inv : Inverse n K cs) (i : ℕ) (hi : i < n) where
   dot-row : (a : ℕ) → a < n → dot (getD K a 0) (getD cs i 0) ≡ bit i (2 ^ a)
   dot-row a h = sym (product-bit cs (getD K a 0) i) ∙ ap (bit i) (inv .unit a h)
 
-  diff-lt : bitXor (product ss (getD K i 0)) plan < 2 ^ length ss
-  diff-lt = xor-lt (length ss) (product ss (getD K i 0)) plan (product-lt ss (getD K i 0)) hp
+  pub plan-kept : (d a : ℕ) → a < n → (i ≡ a → ⊥) → product (solStep (getD cs i 0) d ss) (getD K a 0) ≡ product ss (getD K a 0)
+  plan-kept d a h ne = product-unseen (getD cs i 0) d ss (getD K a 0) (dot-row a h ∙ bit-pow-other i a ne)
 
-  pub plan-set : product (solStep (getD cs i 0) (bitXor (product ss (getD K i 0)) plan) ss) (getD K i 0) ≡ plan
-  plan-set =
-      product-solStep (getD cs i 0) (bitXor (product ss (getD K i 0)) plan) ss (getD K i 0) diff-lt
-      ∙ ap (λ (d : ℕ). bitXor (product ss (getD K i 0)) (on d (bitXor (product ss (getD K i 0)) plan))) (dot-row i hi ∙ bit-pow-same i)
-      ∙ xor-cancel (product ss (getD K i 0)) plan
-
-  pub plan-kept : (a : ℕ) → a < n → (i ≡ a → ⊥) → product (solStep (getD cs i 0) (bitXor (product ss (getD K i 0)) plan) ss) (getD K a 0) ≡ product ss (getD K a 0)
-  plan-kept a h ne =
-      product-solStep (getD cs i 0) (bitXor (product ss (getD K i 0)) plan) ss (getD K a 0) diff-lt
-      ∙ ap (λ (d : ℕ). bitXor (product ss (getD K a 0)) (on d (bitXor (product ss (getD K i 0)) plan))) (dot-row a h ∙ bit-pow-other i a ne)
-      ∙ xor-zero-r (product ss (getD K a 0))
+  -- and by the old plan XOR the new one it gives row i the new one
+  pub plan-set : (plan : ℕ) → plan < 2 ^ length ss → product (solStep (getD cs i 0) (bitXor (product ss (getD K i 0)) plan) ss) (getD K i 0) ≡ plan
+  plan-set plan hp =
+      let old : ℕ = product ss (getD K i 0) in
+      product-solStep (getD cs i 0) (bitXor old plan) ss (getD K i 0) (xor-lt (length ss) old plan (product-lt ss (getD K i 0)) hp)
+      ∙ ap (λ (d : ℕ). bitXor old (on d (bitXor old plan))) (dot-row i hi ∙ bit-pow-same i)
+      ∙ xor-cancel old plan
 
 -- ---- the step on the columns, by the product of v alone
 

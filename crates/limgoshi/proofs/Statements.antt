@@ -12,7 +12,9 @@ use lib.ListN.{length, getD, take}
 use borrow.Author.Tests.{ltb-true, ltb-false, le-ltb}
 use Rattle.lists.specs.Entries.{planLimit, deskPlan, assignable, words, find}
 use Rattle.lists.specs.Totals.{planCount}
+use Rattle.gf2.specs.Vectors.{Clear}
 use Rattle.gf2.specs.Bound.{Largest}
+use Rattle.hash.specs.Mix.{mixOf, unmixOf}
 use Rattle.answer.specs.declared.Answer.{Answer}
 use Rattle.answer.specs.declared.Answer.the-variants.{Accepted, WrongLength, WrongByte, WrongBuckets, WrongTable, NotSound, Live, NotLive, Full, ShortOutput, WrongPlane, UnlikePlanes, WrongPatch, WrongSum, DeskPlanGiven, WrongKind}
 use Rattle.answer.specs.Numbers.{numberOf, valueOf}
@@ -25,13 +27,19 @@ use Rattle.identifier.specs.declared.Read.the-variants.{Word}
 use Rattle.identifier.proofs.Causes.{OfIdentifier, read-exactly}
 use Rattle.identifier.proofs.Words as Words
 use Rattle.identifier.proofs.Words.{read-case, kinds-differ}
+use Rattle.bucket.specs.declared.Bucket.{Bucket}
+use Rattle.bucket.specs.Bucket.{lookup}
+use Rattle.bucket.specs.Answers.{liveIn}
 use Rattle.model.specs.Levels.{firstLevel, secondLevel, passed, due}
 use Rattle.model.specs.Model.{baseLimit, Call, add, change, query, wouldLeave, base}
 use Rattle.model.specs.Request.{subject, wordFor, Request, ask}
 use Rattle.model.specs.Machine.{accepted, after, Alike}
 use Rattle.model.specs.History.{told}
 use Rattle.model.proofs.Others.{told-other}
-use Rattle.table.specs.Calls.{tableOf, shaped, FlatSound, openCall, queried, call, totalCall}
+use Rattle.table.specs.Table as T
+use Rattle.table.specs.Table.{nth, bucketOf}
+use Rattle.table.specs.Answers.{Answered}
+use Rattle.table.specs.Calls.{rows, solutions, tableOf, shaped, FlatSound, openCall, queried, call, totalCall}
 use Rattle.table.specs.History.{tables, Opened, acceptedCalls, LiveWith, flatState, Same}
 use Rattle.table.specs.Causes.{openCauses, openReturns, callCauses, callReturns, totalCauses, totalReturns}
 use Rattle.table.proofs.Statements as Table
@@ -216,6 +224,43 @@ module _ (i j : Token) (v w : ℕ) (read-i : readOf i ≡ Word v) (read-j : read
   -- and a call for the one may be left out of what the accepted calls tell of the other, so of what table, plane and post give it
   pub two-plans : (c : Call ℕ) → subject c ≡ v → (before later : List (Call ℕ)) → told w (before ++ (c ∷ later)) ≡ told w (before ++ later)
   two-plans c s before later = told-other w c later (λ e. two-words (sym s ∙ sym e)) before
+
+-- ---- lost cards, document 02, order 6: what a plane gives an identifier that is live no more, or never was
+
+-- "In every table row j of Z is 0 for each free row j" (`Clear`): in any sound table, so after any list of calls, of each bucket, first level and second
+pub free-rows : (t : List ℕ) → shaped t ≡ true → FlatSound t
+    → ((i : ℕ) → i < length (tableOf t .level1) → Clear (nth rows solutions (tableOf t .level1) i .mark) (nth rows solutions (tableOf t .level1) i .sols))
+    × ((i : ℕ) → i < length (tableOf t .level2) → Clear (nth rows solutions (tableOf t .level2) i .mark) (nth rows solutions (tableOf t .level2) i .sols))
+free-rows = Table.free-rows-clear
+
+module _ (t : List ℕ) (o : Opened t) (ps : List Request) (out : List ℕ) (n : ℕ) (e : writeCall (after tables t ps) out .answer ≡ Accepted n) (id : Token) (w : ℕ) (i : readOf id ≡ Word w) where
+  -- the bucket of the word at level 1, and at level 2 by w'
+  abbrev first : Bucket
+  first = bucketOf rows solutions mixOf (tableOf (after tables t ps) .level1) w
+
+  abbrev second : Bucket
+  second = bucketOf rows solutions mixOf (tableOf (after tables t ps) .level2) (secondOf w)
+
+  -- "A bucket then answers any vector with the XOR of the plans of the live vectors in its combination of K's rows" (`Answered`: the last accepted
+  -- plans of live words): where level 1 holds the word
+  pub answer-first : T.holds rows solutions mixOf (tableOf (after tables t ps) .level1) w ≡ true
+      → (lookupCall id (take n (writeCall (after tables t ps) out .output)) ≡ Accepted (lookup first w)) × Answered rows (λ v. told v (acceptedCalls t ps)) first w (lookup first w)
+  answer-first = Plane.plane-first t o ps out n e id w i
+
+  -- where level 2 does
+  pub answer-second : T.holds rows solutions mixOf (tableOf (after tables t ps) .level1) w ≡ false → T.holds rows solutions mixOf (tableOf (after tables t ps) .level2) (secondOf w) ≡ true
+      → (lookupCall id (take n (writeCall (after tables t ps) out .output)) ≡ Accepted (lookup second (secondOf w)))
+      × Answered rows (λ v. told (unmixOf (unmixOf v)) (acceptedCalls t ps)) second (secondOf w) (lookup second (secondOf w))
+  answer-second = Plane.plane-second t o ps out n e id w i
+
+  -- "withdrawn cards must leave no plan behind": 0 where no live word is in the combination (`liveIn`), as in a bucket without live words
+  pub lost-first : T.holds rows solutions mixOf (tableOf (after tables t ps) .level1) w ≡ true → liveIn first w ≡ 0
+      → lookupCall id (take n (writeCall (after tables t ps) out .output)) ≡ Accepted 0
+  lost-first = Plane.plane-first-none t o ps out n e id w i
+
+  pub lost-second : T.holds rows solutions mixOf (tableOf (after tables t ps) .level1) w ≡ false → T.holds rows solutions mixOf (tableOf (after tables t ps) .level2) (secondOf w) ≡ true
+      → liveIn second (secondOf w) ≡ 0 → lookupCall id (take n (writeCall (after tables t ps) out .output)) ≡ Accepted 0
+  lost-second = Plane.plane-second-none t o ps out n e id w i
 
 -- ---- patches, document 02, order 1: a post that has the plane after the calls ps and applies the patch to the plane after the calls qs, of the same
 -- opening (qs may begin with ps), has that plane and answers by it

@@ -31,3 +31,8 @@ pub every-at : {A : Type 0} (P : A → Type 0) (d : A) (xs : List A) → Every P
 every-at P d [] h i l = absurd (not-suc-le-zero l)
 every-at P d (x ∷ xs) h zero l = h .0
 every-at P d (x ∷ xs) h (suc i) l = every-at P d xs (h .1) i (le-of-suc-le-suc l)
+
+-- by all places, past the end too
+pub all-every : {A : Type 0} (P : A → Type 0) (d : A) (xs : List A) → ((i : ℕ) → P (getD xs i d)) → Every P xs
+all-every P d [] h = tt
+all-every P d (x ∷ xs) h = (h 0, all-every P d xs (λ i. h (suc i)))

@@ -1,16 +1,15 @@
 -- "Changing one plan costs at most 89 bytes, and 22 if the plan was that already": for any sound table and any accepted change.
 -- Assumes nothing.
-use Prim.Native.Nat.{ℕ, suc, suc-le-suc, _+_, _*_, _/_, _≤_, _<_}
-use native.Mathlib.Nat.{mod-lt, zero-lt-suc}
+use Prim.Native.Nat.{ℕ, _+_, _*_, _/_, _≤_, _<_}
+use native.Mathlib.Nat.{mod-lt}
 use native.Mathlib.Omega.{arith}
 use mathlib.Core.Path.{_≡_, refl, sym, ap, ap₂, _∙_}
 use mathlib.Core.Bool.{Bool, true, false, cond}
 use mathlib.Core.Option.{Option, none, some}
-use mathlib.Core.List.{List, [], _∷_, _++_, map}
+use mathlib.Core.List.{List, _++_, map}
 use lib.Bits.{xor-self}
 use lib.ListN.{length, getD, set, length-map}
 use lib.Seq.{set-append-left, map-set-same}
-use Rattle.lists.specs.Lists.{Every}
 use Rattle.lists.specs.Entries.{Entry, find, update, Ascending}
 use Rattle.lists.proofs.Tests.{cases, by-test}
 use Rattle.lists.proofs.Keep.{map-set}
@@ -25,28 +24,26 @@ use Rattle.identifier.specs.Place.{thresholds}
 use Rattle.identifier.specs.declared.Read.{Read}
 use Rattle.identifier.specs.declared.Read.the-variants.{Word, Refused}
 use Rattle.model.specs.Model.{change}
-use Rattle.model.specs.Request.{wordFor, Request, ask}
+use Rattle.model.specs.Request.{wordFor, Request}
 use Rattle.model.specs.Machine.{after}
 use Rattle.model.proofs.Requests.{Reads, reads}
 use Rattle.bucket.specs.declared.Bucket.{Bucket}
 use Rattle.bucket.specs.Bucket as B
-use Rattle.bucket_settle.specs.Settle.{SoundBucket, planOf}
+use Rattle.bucket_settle.specs.Settle.{planOf}
 use Rattle.table.specs.Table as C
 use Rattle.table.specs.Table.{Table}
 use Rattle.table.specs.Layout.{numbersOf}
 use Rattle.table.specs.Calls.{rows, solutions, tableOf, planIn, shaped, sound, FlatSound, Outcome, replaced, served, callRead, call}
 use Rattle.table.specs.History.{tables, Opened, flatState}
-use Rattle.table.proofs.Numbers.{back}
-use Rattle.table.proofs.Calls.{sound-shaped, call-match}
-use Rattle.table.proofs.Statements.{sound-exactly, causes-else, sound-stands, stands-sound, always-sound}
+use Rattle.table.proofs.Calls.{call-match, changed-back}
+use Rattle.table.proofs.Statements.{causes-else, sound-stands, stands-sound, always-sound}
 use Rattle.plane.specs.Record.{format1, PlaneBucket, endLength}
 use Rattle.plane.specs.Plane.{Plane, planeBytes}
 use Rattle.plane.specs.Fits.{Fits}
 use Rattle.plane.proofs.Round.{written-read}
 use Rattle.plane_write.specs.Write.{seenOf, planeOf}
-use Rattle.plane_write.proofs.Shown.{live-plan, Words, Narrow, Sols, narrow}
+use Rattle.plane_write.proofs.Shown.{live-plan}
 use Rattle.plane_write.proofs.Accepted.{fits}
-use Rattle.plane_write.proofs.Bounded.{Bounded, BoundedTable, read-back, changed-bounded, request-bounded, bounded-sols, after-sols}
 use Rattle.patch.specs.Base.{goneOf, newsOf}
 use Rattle.patch.specs.Record.{changeLength, goneLength, newLength}
 use Rattle.patch.specs.Wrong.{changesAt}
@@ -137,14 +134,6 @@ module _ (n r : ℕ) (S : ℕ → ℕ) (T : Table) (asc : Ascending (T .base)) (
 
 -- ---- the numbers of a table
 
-level-bounded : (bs : List Bucket) → ((i : ℕ) → i < length bs → SoundBucket rows solutions (C.nth rows solutions bs i)) → Every Narrow bs → Every (Bounded rows solutions) bs
-level-bounded [] s w = tt
-level-bounded (b ∷ bs) s w =
-    let k = s 0 (zero-lt-suc (length bs)) in (
-      record { shape = record { cols = k .sound .inverse .cols; sols = k .wide }; cols = k .sound .inverse .cols-lt; sols = w .0 },
-      level-bounded bs (λ i l. s (suc i) (suc-le-suc l)) (w .1),
-    )
-
 -- an accepted change: its word, of the plan q, is live in a sound table
 record Was (t : List ℕ) (id : Token) (p q : ℕ) : Type 0 where
   pub word : ℕ
@@ -170,7 +159,7 @@ was t id p q e = go (wordFor (change id p)) refl (reads (change id p)) e
         (λ _ f. absurd (omega (arith, ap numberOf f))))
         (λ _ f. absurd (omega (arith, ap numberOf f)))
 
-module _ (t : List ℕ) (flat : FlatSound t) (sols : Sols (tableOf t)) (id : Token) (p q : ℕ) (e : call t (change id p) .answer ≡ Accepted q) where
+module _ (t : List ℕ) (flat : FlatSound t) (id : Token) (p q : ℕ) (e : call t (change id p) .answer ≡ Accepted q) where
   -- the table after the change
   abbrev u : List ℕ
   u = call t (change id p) .table
@@ -188,11 +177,8 @@ module _ (t : List ℕ) (flat : FlatSound t) (sols : Sols (tableOf t)) (id : Tok
   unfolding served
   then = ap (λ (o : Outcome). o .table) (causes-else t (change id p) (h .word) (h .for) (h .shape) (h .tested) ∙ ap (replaced t (C.changedIn rows solutions mixOf T (h .word) p)) (h .live))
 
-  bounded : BoundedTable rows solutions T
-  bounded = record { level1 = level-bounded (T .level1) (flat .table .level1 .buckets) (sols .0); level2 = level-bounded (T .level2) (flat .table .level2 .buckets) (sols .1); fits = flat .table .fits; totalled = sound-shaped T (flat .table) .totalled }
-
   table-after : tableOf u ≡ U
-  table-after = ap tableOf then ∙ back rows solutions U (read-back rows solutions U (changed-bounded t bounded (h .word) p q))
+  table-after = ap tableOf then ∙ changed-back t (flatState t) (sound-stands t (h .shape) flat) id (h .word) p q (h .for) (h .live)
 
   -- the planes before and after
   abbrev P : Plane
@@ -202,12 +188,12 @@ module _ (t : List ℕ) (flat : FlatSound t) (sols : Sols (tableOf t)) (id : Tok
   Q = planeOf (tableOf u)
 
   fits-before : Fits format1 P
-  fits-before = fits t sols (h .shape) flat
+  fits-before = fits t (h .shape) flat
 
   fits-after : Fits format1 Q
   fits-after =
       let k = stands-sound u _ (call-match t (flatState t) (sound-stands t (h .shape) flat) (change id p) .stands) in
-      fits u (bounded-sols u (request-bounded t bounded (ask (change id p)))) (k .0) (k .2)
+      fits u (k .0) (k .2)
 
   -- the patch from the plane before to the plane after
   abbrev D : Patch
@@ -243,23 +229,20 @@ module _ (t : List ℕ) (flat : FlatSound t) (sols : Sols (tableOf t)) (id : Tok
 abbrev pub patchBetween : List ℕ → List ℕ → List ℕ
 patchBetween t u = patchBytes format1 (patchOf format1 (planeBytes format1 (planeOf (tableOf t))) (planeBytes format1 (planeOf (tableOf u))))
 
--- any table, whose numbers have 64 bits
-module _ (t : List ℕ) (wide : Words t) (id : Token) (p q : ℕ) (e : call t (change id p) .answer ≡ Accepted q) where
-  flat-sound : FlatSound t
-  flat-sound = let h = was t id p q e in sound-exactly t (h .shape) wide .0 (h .tested)
-
+-- any sound table
+module _ (t : List ℕ) (flat : FlatSound t) (id : Token) (p q : ℕ) (e : call t (change id p) .answer ≡ Accepted q) where
   -- "changing one plan costs at most 89 bytes"
   pub change-costs : length (patchBetween t (call t (change id p) .table)) ≤ 89
-  change-costs = at-most t flat-sound (narrow rows format1 t wide) id p q e
+  change-costs = at-most t flat id p q e
 
   -- "and 22 if the plan was that already"
   pub same-costs : p ≡ q → length (patchBetween t (call t (change id p) .table)) ≡ 22
-  same-costs = if-same t flat-sound (narrow rows format1 t wide) id p q e
+  same-costs = if-same t flat id p q e
 
 -- after any list of calls
 module _ (t : List ℕ) (o : Opened t) (ps : List Request) (id : Token) (p q : ℕ) (e : call (after tables t ps) (change id p) .answer ≡ Accepted q) where
   pub list-change-costs : length (patchBetween (after tables t ps) (call (after tables t ps) (change id p) .table)) ≤ 89
-  list-change-costs = at-most (after tables t ps) (always-sound t o ps .2) (after-sols t o ps) id p q e
+  list-change-costs = at-most (after tables t ps) (always-sound t o ps .2) id p q e
 
   pub list-same-costs : p ≡ q → length (patchBetween (after tables t ps) (call (after tables t ps) (change id p) .table)) ≡ 22
-  list-same-costs = if-same (after tables t ps) (always-sound t o ps .2) (after-sols t o ps) id p q e
+  list-same-costs = if-same (after tables t ps) (always-sound t o ps .2) id p q e

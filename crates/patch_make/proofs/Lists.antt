@@ -30,7 +30,6 @@ use Rattle.plane.proofs.Exact.{AllBytes}
 use Rattle.plane.proofs.Octets.{plane-octets}
 use Rattle.plane_write.specs.Write.{seenOf, planeOf, Written, putFront}
 use Rattle.plane_write.proofs.Accepted.{fits, shows}
-use Rattle.plane_write.proofs.Bounded.{after-sols}
 use Rattle.plane_write.proofs.Statements.{told-shown}
 use Rattle.patch.specs.Patch.{patchBytes, patchOf}
 use Rattle.patch.specs.Calls.{alike, makeCall, applyCall}
@@ -40,7 +39,7 @@ use Rattle.patch.proofs.Calls.{in-front, make-apply}
 
 module _ (t : List ℕ) (o : Opened t) where
   plane-fits : (ps : List Request) → Fits format1 (planeOf (tableOf (after tables t ps)))
-  plane-fits ps = let h = always-sound t o ps in fits (after tables t ps) (after-sols t o ps) (h .0) (h .2)
+  plane-fits ps = let h = always-sound t o ps in fits (after tables t ps) (h .0) (h .2)
 
   right : (ps : List Request) → wrongAt format1 (planeAfter t ps) ≡ Nowhere
   right ps = written-right format1 (planeOf (tableOf (after tables t ps))) (plane-fits ps)
@@ -85,4 +84,4 @@ module _ (t : List ℕ) (o : Opened t) where
 
   -- the plane gives every live identifier its word's last accepted plan
   pub plane-tells : (ps : List Request) (id : Token) (v p : ℕ) → readOf id ≡ Word v → told v (acceptedCalls t ps) ≡ some p → lookupCall id (planeAfter t ps) ≡ Accepted p
-  plane-tells ps id v p i h = let k = always-sound t o ps in shows (after tables t ps) (after-sols t o ps) (k .0) (k .2) id ∙ told-shown t o ps id v p i h
+  plane-tells ps id v p i h = let k = always-sound t o ps in shows (after tables t ps) (k .0) (k .2) id ∙ told-shown t o ps id v p i h

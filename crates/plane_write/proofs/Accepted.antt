@@ -4,7 +4,7 @@ use mathlib.Core.Path.{_≡_, refl, ap, _∙_}
 use mathlib.Core.Bool.{Bool, true, false, cond, _&&_}
 use mathlib.Core.List.{List}
 use mathlib.Core.Option.{some}
-use Prim.Native.Nat.{ℕ, _+_, _≤_}
+use Prim.Native.Nat.{ℕ, _+_, _≤_, _^_, _<_}
 use native.Mathlib.Omega.{arith}
 use borrow.Author.Tests.{leb-true}
 use lib.Dec.{leb, ltb, lit≤}
@@ -28,11 +28,11 @@ use Rattle.plane.specs.Fits.{Fits}
 use Rattle.plane_write.specs.Write.{seenOf, planeOf, putFront, Written, turnedDown, inFront, writeCall, shownTo}
 use Rattle.plane.proofs.Scan.{both}
 use Rattle.plane.proofs.Round.{plane-length, written-right, written-read}
-use Rattle.plane_write.proofs.Shown.{Words, Sols, narrow, plane-fits, shown}
+use Rattle.plane_write.proofs.Shown.{plane-fits, shown}
 
-module _ (t : List ℕ) (w : Sols (tableOf t)) (k : shaped t ≡ true) (h : FlatSound t) where
+module _ (t : List ℕ) (k : shaped t ≡ true) (h : FlatSound t) where
   pub fits : Fits format1 (planeOf (tableOf t))
-  fits = plane-fits rows format1 t w unmixOf (lit≤ tt) (shape-range rows solutions t k) (h .table)
+  fits = plane-fits rows format1 (lit≤ tt) t unmixOf (shape-range rows solutions t k) (h .table)
 
   -- the plane of a sound table, read again, gives for each identifier, live or not, the answer of the table's own XOR words or base list
   pub shows : (id : Token) → lookupCall id (planeBytes format1 (planeOf (tableOf t))) ≡ shownTo (tableOf t) (readOf id)
@@ -54,10 +54,10 @@ pub record Known (t : List ℕ) : Type 0 where
   pub fits : Fits format1 (planeOf (tableOf t))
   pub long : length (planeBytes format1 (planeOf (tableOf t))) ≡ planeLength format1 (getD t buckets1At 0 + getD t buckets2At 0) (getD t baseCountAt 0)
 
-pub known : (t : List ℕ) → Words t → shaped t ≡ true → sound t ≡ true → Known t
+pub known : (t : List ℕ) → ((i : ℕ) → getD t i 0 < 2 ^ 64) → shaped t ≡ true → sound t ≡ true → Known t
 known t w k q =
     let h : FlatSound t = sound-exactly t k w .0 q in
-    let f : Fits format1 (planeOf (tableOf t)) = fits t (narrow rows format1 t w) k h in
+    let f : Fits format1 (planeOf (tableOf t)) = fits t k h in
     let r = header-read t in
     let d = both (leb 1 (getD t buckets1At 0) && leb (getD t buckets1At 0) mostBuckets1) _ (shape-range rows solutions t k) in
     record {

@@ -3,6 +3,5 @@ pub mod Shown
 pub mod Put
 pub mod Through
 pub mod Accepted
-pub mod Bounded
 pub mod Causes
 pub mod Statements

@@ -5,23 +5,23 @@ use mathlib.Core.Path.{_≡_, refl, ap, _∙_}
 use mathlib.Core.Bool.{Bool, true, false, cond}
 use mathlib.Core.List.{List, [], _∷_, map}
 use mathlib.Core.Option.{Option, none, some}
-use Prim.Native.Nat.{ℕ, zero, suc, suc-le-suc, _+_, _/_, _^_, _≤_, _<_}
+use Prim.Native.Nat.{ℕ, suc, suc-le-suc, _/_, _^_, _≤_, _<_}
 use native.Mathlib.Nat.{mod-lt, zero-lt-suc, lt-of-lt-of-le}
-use lib.Seq.{getD-drop}
-use lib.ListN.{length, getD, take, drop, length-map}
+use native.Mathlib.Omega.{arith}
+use lib.ListN.{length, getD, length-map}
 use Rattle.lists.proofs.Keep.{getD-map-in}
 use Rattle.lists.proofs.Entries.{none≢some}
 use Rattle.lists.specs.Lists.{Every}
-use Rattle.lists.proofs.Every.{every-append, mem-every}
+use Rattle.lists.proofs.Every.{every-append, mem-every, all-every}
+use Rattle.gf2.proofs.Clear.{clear-le}
 use Rattle.hash.specs.Mix.{mixOf}
 use Rattle.identifier.specs.Place.{thresholds, secondOf, bucketAt}
 use Rattle.bucket.specs.declared.Bucket.{Bucket}
 use Rattle.bucket.specs.Bucket.{live, lookup}
-use Rattle.bucket_words.specs.Words.{bucketWords, bucketFrom}
 use Rattle.bucket_settle.specs.Settle.{SoundBucket, planOf}
 use Rattle.table.specs.Table as C
 use Rattle.table.specs.Table.{Table}
-use Rattle.table.specs.Layout.{buckets1At, buckets2At, inRange, levelFrom, bucketPlace, tableFrom}
+use Rattle.table.specs.Layout.{buckets1At, buckets2At, inRange, tableFrom}
 use Rattle.table.specs.Sound.{SoundTable}
 use Rattle.table.proofs.Numbers.{header-read}
 use Rattle.table.proofs.Sound.{base-given}
@@ -69,56 +69,26 @@ module _ (n r : ℕ) where
 
 -- ---- the plane of a sound table fits
 
--- each number is below 256 ^ 8
-abbrev pub Words : List ℕ → Type 0
-Words xs = (i : ℕ) → getD xs i 0 < 256 ^ wordBytes
-
-words-drop : (k : ℕ) (xs : List ℕ) → Words xs → Words (drop k xs)
-words-drop k xs h i = rw getD-drop (h (k + i))
-
-every-take : (k : ℕ) (xs : List ℕ) → Words xs → Every (Below wordBytes) (take k xs)
-every-take zero xs h = tt
-every-take (suc k) [] h = tt
-every-take (suc k) (x ∷ xs) h = (h 0, every-take k xs (λ i. h (suc i)))
-
--- the solution words of a bucket
-abbrev pub Narrow : Bucket → Type 0
-Narrow b = Every (Below wordBytes) (b .sols)
-
--- the solution words of a table
-abbrev pub Sols : Table → Type 0
-Sols T = Every Narrow (T .level1) × Every Narrow (T .level2)
-
 module _ (n : ℕ) (F : Format) where
   abbrev r : ℕ
   r = F .words
 
-  level-narrow : (m : ℕ) (xs : List ℕ) → Words xs → Every Narrow (levelFrom n r m xs)
-  unfolding bucketFrom
-  level-narrow zero xs h = tt
-  level-narrow (suc m) xs h = (every-take r (drop (n + 1) xs) (words-drop (n + 1) xs h), level-narrow m (drop (bucketWords n r) xs) (words-drop (bucketWords n r) xs h))
+  module _ (hn : 2 ^ n ≤ 256 ^ wordBytes) where
+    -- the solution words are not above the mark
+    level-fits : (bs : List Bucket) → ((i : ℕ) → i < length bs → SoundBucket n r (C.nth n r bs i)) → Every (FitsBucket F) (map seenOf bs)
+    level-fits [] s = tt
+    level-fits (b ∷ bs) s =
+        let b0 = s 0 (zero-lt-suc (length bs)) in
+        let low : (c : ℕ) → getD (b .sols) c 0 < 256 ^ wordBytes = (λ c. omega (arith, hn, clear-le (b .mark) (b .sols) (b0 .sound .clear) c, b0 .sound .mark-lt)) in
+        (record { low = b0 .low; wide = b0 .wide; words = all-every (Below wordBytes) 0 (b .sols) low }, level-fits bs (λ i l. s (suc i) (suc-le-suc l)))
 
-  level-fits : (bs : List Bucket) → ((i : ℕ) → i < length bs → SoundBucket n r (C.nth n r bs i)) → Every Narrow bs → Every (FitsBucket F) (map seenOf bs)
-  level-fits [] s w = tt
-  level-fits (b ∷ bs) s w =
-      let b0 = s 0 (zero-lt-suc (length bs)) in
-      (record { low = b0 .low; wide = b0 .wide; words = w .0 }, level-fits bs (λ i l. s (suc i) (suc-le-suc l)) (w .1))
-
-  pub narrow : (xs : List ℕ) → Words xs → Sols (tableFrom n r xs)
-  unfolding tableFrom
-  narrow xs w = (
-    level-narrow (getD xs buckets1At 0) (drop (bucketPlace n r 0) xs) (words-drop (bucketPlace n r 0) xs w),
-    level-narrow (getD xs buckets2At 0) (drop (bucketPlace n r (getD xs buckets1At 0)) xs) (words-drop (bucketPlace n r (getD xs buckets1At 0)) xs w),
-  )
-
-  pub plane-fits : (xs : List ℕ) → Sols (tableFrom n r xs) → (U : ℕ → ℕ) → 2 ^ n ≤ 256 ^ wordBytes → inRange (getD xs buckets1At 0) (getD xs buckets2At 0) ≡ true
-      → SoundTable n r mixOf U (tableFrom n r xs) → Fits F (planeOf (tableFrom n r xs))
-  plane-fits xs w U hn g h =
-      let t : Table = tableFrom n r xs in
-      record {
-        range = rw (length-map (t .level1) seenOf, length-map (t .level2) seenOf, header-read n r xs .0, header-read n r xs .1) g;
-        few = h .fits;
-        buckets = every-append (FitsBucket F) (map seenOf (t .level1)) (map seenOf (t .level2)) (level-fits (t .level1) (h .level1 .buckets) (w .0)) (level-fits (t .level2) (h .level2 .buckets) (w .1));
-        entries = mem-every FitsEntry (t .base) (λ e m. record { word = lt-of-lt-of-le (h .base-words e m .0) hn; plan = base-given n r mixOf U t h e m });
-        ascending = h .ascending;
-      }
+    pub plane-fits : (xs : List ℕ) (U : ℕ → ℕ) → inRange (getD xs buckets1At 0) (getD xs buckets2At 0) ≡ true → SoundTable n r mixOf U (tableFrom n r xs) → Fits F (planeOf (tableFrom n r xs))
+    plane-fits xs U g h =
+        let t : Table = tableFrom n r xs in
+        record {
+          range = rw (length-map (t .level1) seenOf, length-map (t .level2) seenOf, header-read n r xs .0, header-read n r xs .1) g;
+          few = h .fits;
+          buckets = every-append (FitsBucket F) (map seenOf (t .level1)) (map seenOf (t .level2)) (level-fits (t .level1) (h .level1 .buckets)) (level-fits (t .level2) (h .level2 .buckets));
+          entries = mem-every FitsEntry (t .base) (λ e m. record { word = lt-of-lt-of-le (h .base-words e m .0) hn; plan = base-given n r mixOf U t h e m });
+          ascending = h .ascending;
+        }

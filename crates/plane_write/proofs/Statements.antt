@@ -1,8 +1,8 @@
 -- The statements of document 01 about the plane, and of order 3 of document 02.
 -- Assumes nothing.
 use mathlib.Core.Logic.{_↔_}
-use mathlib.Core.Path.{_≡_, refl, sym, ap, _∙_}
-use mathlib.Core.Bool.{false}
+use mathlib.Core.Path.{_≡_, refl, sym, ap, ap₂, _∙_}
+use mathlib.Core.Bool.{true, false}
 use mathlib.Core.List.{List, [], _∷_}
 use mathlib.Core.Option.{none, some}
 use Prim.Native.Nat.{ℕ, _+_, _*_, _^_, _<_}
@@ -10,7 +10,7 @@ use native.Mathlib.Omega.{arith}
 use lib.ListN.{length, getD, take}
 use borrow.Author.Tests.{ltb-true}
 use Rattle.lists.specs.Entries.{deskPlan, find}
-use Rattle.hash.specs.Mix.{mixOf}
+use Rattle.hash.specs.Mix.{mixOf, unmixOf}
 use Rattle.answer.specs.declared.Answer.the-variants.{Accepted}
 use Rattle.answer.specs.Numbers.{numberOf, valueOf}
 use Rattle.answer.specs.Causes.{NoneMet, InOrder, Exactly}
@@ -20,25 +20,30 @@ use Rattle.identifier.specs.Causes.{wrongLength, wrongByte, idCauses}
 use Rattle.identifier.specs.Place.{secondOf}
 use Rattle.identifier.specs.declared.Read.the-variants.{Word}
 use Rattle.identifier.proofs.Causes.{read-word}
-use Rattle.identifier.proofs.Words.{word-lt}
+use Rattle.identifier.proofs.Words.{word-lt, second-lt}
+use Rattle.bucket.specs.declared.Bucket.{Bucket}
+use Rattle.bucket.specs.Bucket.{Sound, lookup, live}
+use Rattle.bucket.specs.Answers.{liveIn}
+use Rattle.bucket.proofs.Answers.{answers-none, solutions-settled}
 use Rattle.model.specs.Model.{baseLimit}
 use Rattle.model.specs.Request.{Request}
 use Rattle.model.specs.History.{told}
 use Rattle.model.specs.Machine.{accepted, after}
-use Rattle.table.specs.Table.{holds}
+use Rattle.table.specs.Table.{bucketOf, holds}
+use Rattle.table.specs.Answers.{Answered}
 use Rattle.table.specs.Layout.{mostBuckets1, mostBuckets2}
 use Rattle.table.specs.Calls.{rows, solutions, tableOf, planIn, FlatSound}
 use Rattle.table.specs.Causes.{wrongTable, notSound}
 use Rattle.table.specs.History.{tables, Opened, acceptedCalls}
-use Rattle.table.proofs.Statements.{sound-exactly, always-sound, plan, plan-given}
+use Rattle.table.proofs.Statements.{sound-exactly, always-sound, plan, plan-given, list-answers-first, list-answers-second}
 use Rattle.plane.specs.declared.Wrong.the-variants.{Nowhere, At}
-use Rattle.plane.specs.Record.{Format, format1}
+use Rattle.plane.specs.Record.{Format, format1, PlaneBucket}
 use Rattle.plane.specs.Plane.{Plane, planeBytes, planeLength, planeFrom, wrongAt}
 use Rattle.plane.specs.Lookup.{lookupCall}
 use Rattle.plane.specs.Fits.{Fits, OfPlane}
 use Rattle.plane.specs.Offset.{WrongOffset, RightPlane}
 use Rattle.plane.specs.Causes.{wrongPlane, lookupCauses, lookupReturns}
-use Rattle.plane_write.specs.Write.{planeOf, putFront, writeCall, shownTo}
+use Rattle.plane_write.specs.Write.{seenOf, planeOf, putFront, writeCall, shownTo}
 use Rattle.plane_write.specs.Causes.{lengthNeeded, shortOutput, writeCauses, writeReturns}
 use Rattle.plane.proofs.Round.{plane-length, written-right, written-read}
 use Rattle.plane.proofs.Exact.{AllBytes, read-written, read-fits}
@@ -46,8 +51,7 @@ use Rattle.plane.proofs.Offset as Offset
 use Rattle.plane.proofs.Causes as PlaneCauses
 use Rattle.plane_write.proofs.Causes as Causes
 use Rattle.plane_write.proofs.Accepted.{shows, was-shaped, was-sound, was-written}
-use Rattle.plane_write.proofs.Shown.{Words, Sols, narrow, live-shown}
-use Rattle.plane_write.proofs.Bounded.{after-sols}
+use Rattle.plane_write.proofs.Shown.{live-shown}
 
 -- ---- "The plane", in every format F
 
@@ -114,19 +118,19 @@ refused-keeps = Causes.refused-keeps
 
 -- ---- statement 2, the plane's half
 
-module _ (t out : List ℕ) (n : ℕ) (e : writeCall t out .answer ≡ Accepted n) where
-  gives : Sols (tableOf t) → FlatSound t → (id : Token) → lookupCall id (take n (writeCall t out .output)) ≡ shownTo (tableOf t) (readOf id)
-  gives s h id = ap (lookupCall id) (was-written t out n e) ∙ shows t s (was-shaped t out n e .0) h id
+module _ (t out : List ℕ) (n : ℕ) (e : writeCall t out .answer ≡ Accepted n) (h : FlatSound t) where
+  -- written from a sound table and read again, the plane gives for each identifier, live or not, the answer of the table's own XOR words or
+  -- base list
+  pub statement-2 : (id : Token) → lookupCall id (take n (writeCall t out .output)) ≡ shownTo (tableOf t) (readOf id)
+  statement-2 id = ap (lookupCall id) (was-written t out n e) ∙ shows t (was-shaped t out n e .0) h id
 
-  module _ (w : Words t) where
-    -- written from a table, whose numbers have 64 bits, and read again, the plane gives for each identifier, live or not, the answer of
-    -- the table's own XOR words or base list
-    pub statement-2 : (id : Token) → lookupCall id (take n (writeCall t out .output)) ≡ shownTo (tableOf t) (readOf id)
-    statement-2 = gives (narrow rows format1 t w) (sound-exactly t (was-shaped t out n e .0) w .0 (was-sound t out n e .0))
+  -- so a live identifier gets its word's plan
+  pub live-plan : (id : Token) (v p : ℕ) → readOf id ≡ Word v → planIn t v ≡ some p → lookupCall id (take n (writeCall t out .output)) ≡ Accepted p
+  live-plan id v p i l = statement-2 id ∙ ap (shownTo (tableOf t)) i ∙ ap Accepted (live-shown rows solutions (tableOf t) v p l)
 
-    -- so a live identifier gets its word's plan
-    pub live-plan : (id : Token) (v p : ℕ) → readOf id ≡ Word v → planIn t v ≡ some p → lookupCall id (take n (writeCall t out .output)) ≡ Accepted p
-    live-plan id v p i h = statement-2 id ∙ ap (shownTo (tableOf t)) i ∙ ap Accepted (live-shown rows solutions (tableOf t) v p h)
+-- and what is written was a sound table, if its numbers have 64 bits
+pub written-sound : (t out : List ℕ) (n : ℕ) → writeCall t out .answer ≡ Accepted n → ((i : ℕ) → getD t i 0 < 2 ^ 64) → FlatSound t
+written-sound t out n e w = sound-exactly t (was-shaped t out n e .0) w .0 (was-sound t out n e .0)
 
 -- the word that an identifier is read as has 64 bits
 read-small : (id : Token) (v : ℕ) → readOf id ≡ Word v → v < 2 ^ 64
@@ -140,7 +144,7 @@ told-shown t o ps id v p i h =
 
 module _ (t : List ℕ) (o : Opened t) (ps : List Request) (out : List ℕ) (n : ℕ) (e : writeCall (after tables t ps) out .answer ≡ Accepted n) where
   pub list-gives : (id : Token) → lookupCall id (take n (writeCall (after tables t ps) out .output)) ≡ shownTo (tableOf (after tables t ps)) (readOf id)
-  list-gives = gives (after tables t ps) out n e (after-sols t o ps) (always-sound t o ps .2)
+  list-gives = statement-2 (after tables t ps) out n e (always-sound t o ps .2)
 
   -- every live identifier gets its word's last accepted plan from the plane
   pub last-plan : (id : Token) (v p : ℕ) → readOf id ≡ Word v → told v (acceptedCalls t ps) ≡ some p → lookupCall id (take n (writeCall (after tables t ps) out .output)) ≡ Accepted p
@@ -159,6 +163,38 @@ module _ (t : List ℕ) (o : Opened t) (ps : List Request) (out : List ℕ) (n :
       → holds rows solutions mixOf (tableOf (after tables t ps) .level2) (secondOf v) ≡ false → find (secondOf v) (tableOf (after tables t ps) .base) ≡ none
       → lookupCall id (take n (writeCall (after tables t ps) out .output)) ≡ Accepted deskPlan
   plane-stranger id v i a b c = list-gives id ∙ ap (shownTo (tableOf (after tables t ps))) i ∙ rw (a, b, c)
+
+  -- document 02, order 6: an identifier, live or not, whose word v level 1 holds gets the XOR of the last accepted plans of the live words in
+  -- v's combination; 0 where there is none among them, so one that was withdrawn has left nothing
+  module _ (id : Token) (v : ℕ) (i : readOf id ≡ Word v) where
+    abbrev first : Bucket
+    first = bucketOf rows solutions mixOf (tableOf (after tables t ps) .level1) v
+
+    pub plane-first : holds rows solutions mixOf (tableOf (after tables t ps) .level1) v ≡ true
+        → (lookupCall id (take n (writeCall (after tables t ps) out .output)) ≡ Accepted (lookup first v)) × Answered rows (λ u. told u (acceptedCalls t ps)) first v (lookup first v)
+    plane-first a = (list-gives id ∙ ap (shownTo (tableOf (after tables t ps))) i ∙ rw a, list-answers-first t o ps v (read-small id v i))
+
+    pub plane-first-none : holds rows solutions mixOf (tableOf (after tables t ps) .level1) v ≡ true → liveIn first v ≡ 0
+        → lookupCall id (take n (writeCall (after tables t ps) out .output)) ≡ Accepted 0
+    plane-first-none a z = let p = plane-first a in p .0 ∙ ap Accepted (answers-none rows (p .1 .matrix) first (p .1 .sound) v (read-small id v i) z)
+
+    -- at level 2 by w', the word's vector there
+    abbrev other : Bucket
+    other = bucketOf rows solutions mixOf (tableOf (after tables t ps) .level2) (secondOf v)
+
+    pub plane-second : holds rows solutions mixOf (tableOf (after tables t ps) .level1) v ≡ false → holds rows solutions mixOf (tableOf (after tables t ps) .level2) (secondOf v) ≡ true
+        → (lookupCall id (take n (writeCall (after tables t ps) out .output)) ≡ Accepted (lookup other (secondOf v)))
+        × Answered rows (λ u. told (unmixOf (unmixOf u)) (acceptedCalls t ps)) other (secondOf v) (lookup other (secondOf v))
+    plane-second a b = (list-gives id ∙ ap (shownTo (tableOf (after tables t ps))) i ∙ rw (a, b), list-answers-second t o ps (secondOf v) (second-lt v))
+
+    pub plane-second-none : holds rows solutions mixOf (tableOf (after tables t ps) .level1) v ≡ false → holds rows solutions mixOf (tableOf (after tables t ps) .level2) (secondOf v) ≡ true
+        → liveIn other (secondOf v) ≡ 0 → lookupCall id (take n (writeCall (after tables t ps) out .output)) ≡ Accepted 0
+    plane-second-none a b z = let p = plane-second a b in p .0 ∙ ap Accepted (answers-none rows (p .1 .matrix) other (p .1 .sound) (secondOf v) (second-lt v) z)
+
+-- columns, mark, bound and the plans of its live vectors settle what a plane has of a bucket
+pub same-record : (n : ℕ) (K L : List ℕ) (a b : Bucket) → Sound n K a → Sound n L b → a .cols ≡ b .cols → a .mark ≡ b .mark → a .bound ≡ b .bound → length (a .sols) ≡ length (b .sols)
+    → ((k : ℕ) → k < 2 ^ n → live n k a ≡ true → lookup a k ≡ lookup b k) → seenOf a ≡ seenOf b
+same-record n K L a b s t c m e l p = ap₂ {C = PlaneBucket} (λ x ss. record { bound = x; sols = ss }) e (solutions-settled n K L a b s t c m l p)
 
 -- in a list of calls the writer meets no cause but 9
 pub list-writes : (t : List ℕ) → Opened t → (ps : List Request) (out : List ℕ)

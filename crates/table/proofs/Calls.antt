@@ -87,11 +87,15 @@ size-shape : (t : List ℕ) → inRange (getD t buckets1At 0) (getD t buckets2At
 unfolding shapeTest
 size-shape t h e = and-both (le-leb leading (length t) (omega (arith, e))) (and-both h (eq-eqb _ _ e))
 
+-- the shape of a table that stands for a state
+stands-shaped : (T : Table) (s : State) → Stands rows solutions mixOf T s → ShapedTable rows solutions T
+stands-shaped T s st = sound-shaped T (stands-sound rows solutions mixOf unmixOf keeps keepsU unmix-mix mix-unmix T s st)
+
 -- a table that stands for a state with bucket numbers in range, as numbers
 pub numbers-stand : (T : Table) (s : State) → Stands rows solutions mixOf T s → inRange (s .size .buckets1) (s .size .buckets2) ≡ true → FlatStands (numbersOf T) s
 unfolding numbersOf
 numbers-stand T s st h =
-    let g = sound-shaped T (stands-sound rows solutions mixOf unmixOf keeps keepsU unmix-mix mix-unmix T s st) in
+    let g = stands-shaped T s st in
     let k = laid rows solutions T g in
     record {
       shape = size-shape (numbersOf T) (ap₂ inRange (st .level1 .count) (st .level2 .count) ∙ h) (k .size);
@@ -176,6 +180,14 @@ module _ (t : List ℕ) (s : State) (h : FlatStands t s) where
     served-match (change i p) k = live-match (changedIn rows solutions mixOf T₀ w p) (update (record { word = w; plan = p }) (s .live)) (λ q f. change-stands rows solutions mixOf keeps one T₀ s (h .stands) w l p q (assignable-byte p k) k f)
     served-match (withdraw i) k = live-match (withdrawnFrom rows solutions mixOf T₀ w) (remove w (s .live)) (λ q f. withdraw-stands rows solutions mixOf keeps one T₀ s (h .stands) w l q f)
     served-match (query i) k = by-plan (queried t) (stepLive s (s .live)) (λ e. record { says = refl; stands = h }) (λ q e. record { says = refl; stands = h })
+
+  -- the numbers that an accepted change leaves give the table back
+  pub changed-back : (id : Token) (w p q : ℕ) → wordFor (change id p) ≡ Word w → planIn t w ≡ some q
+      → tableOf (numbersOf (changedIn rows solutions mixOf T₀ w p q)) ≡ changedIn rows solutions mixOf T₀ w p q
+  changed-back id w p q e k =
+      let l = word-small (change id p) w e in
+      let a = word-plan (change id p) w e in
+      back rows solutions _ (stands-shaped _ _ (change-stands rows solutions mixOf keeps one T₀ s (h .stands) w l p q (assignable-byte p a) a (sym (stands-look w l) ∙ k)))
 
   -- each call follows the model
   pub call-match : (c : Call Token) → Match (call t c) (serve s c)

@@ -8,4 +8,5 @@ pub mod Calls
 pub mod History
 pub mod Causes
 pub mod AtOnce
+pub mod Answers
 pub mod Statements

@@ -17,8 +17,10 @@ use Rattle.lists.specs.Totals.{planCount, totalsOf, sumOf}
 use Rattle.lists.proofs.Tests.{cond-true}
 use Rattle.lists.proofs.Keep.{keep-in, keep-out}
 use Rattle.lists.proofs.Entries.{find-mem, mem-find, keep-ascending}
+use Rattle.gf2.specs.Vectors.{Clear}
 use Rattle.gf2.specs.Bound.{Largest}
 use Rattle.hash.specs.Mix.{mixOf, unmixOf}
+use Rattle.hash.proofs.Inverse.{unmix-lt, mix-unmix}
 use Rattle.answer.specs.declared.Answer.{Answer}
 use Rattle.answer.specs.declared.Answer.the-variants.{Accepted, NotLive, Full}
 use Rattle.answer.specs.Numbers.{numberOf, valueOf}
@@ -30,6 +32,7 @@ use Rattle.identifier.specs.declared.Read.{Read}
 use Rattle.identifier.proofs.Causes.{OfIdentifier}
 use Rattle.identifier.specs.declared.Read.the-variants.{Word}
 use Rattle.bucket.specs.declared.Bucket.{Bucket}
+use Rattle.bucket.specs.Bucket.{lookup}
 use Rattle.bucket_words.specs.Words.{bucketWords, wordsOf, bucketFrom}
 use Rattle.model.specs.Levels.{firstLevel, secondLevel, passed, due}
 use Rattle.model.specs.Model.{State, Call, add, query, opened, wouldLeave, base}
@@ -40,17 +43,19 @@ use Rattle.model.proofs.Valid.{valid-opened}
 use Rattle.model.proofs.Calls.{count-after, told-after}
 use Rattle.model.proofs.Requests.{word-small, stands-for}
 use Rattle.model.proofs.Statements as Model
-use Rattle.table.specs.Table.{Table, totalNumbers, withFirst, withSecond, bounds, nth, addedTo}
+use Rattle.table.specs.Table.{Table, totalNumbers, withFirst, withSecond, bounds, nth, bucketOf, addedTo}
 use Rattle.table.specs.Layout.{buckets1At, buckets2At, baseCountAt, liveCountAt, numbersOf, tableFrom, bucketPlace, lengthOf, longest}
 use Rattle.table.specs.Content.{entriesOf}
 use Rattle.table.specs.AtOnce.{addedAtOnce}
 use Rattle.table.specs.Sound.{SoundTable}
+use Rattle.table.specs.Answers.{Answered}
 use Rattle.table.specs.Calls.{rows, solutions, tableOf, planIn, shaped, sound, FlatSound, openCall, queried, served, callRead, call, totalCall}
 use Rattle.table.specs.History.{request, tables, Opened, acceptedCalls, LiveWith, flatState, Same}
 use Rattle.table.specs.Causes.{openCauses, openReturns, wrongTable, notSound, wordCauses, callCauses, soundCauses, callReturns, totalCauses, totalReturns}
 use Rattle.table.proofs.Numbers as Numbers
 use Rattle.table.proofs.Numbers.{ShapedTable}
 use Rattle.lists.proofs.Totals as Totals
+use Rattle.table.proofs.Answers as Answers
 use Rattle.table.proofs.AtOnce as AtOnce
 use Rattle.table.proofs.Calls as Calls
 use Rattle.table.proofs.Calls.{FlatStands}
@@ -243,6 +248,21 @@ module _ (t : List ℕ) (k : shaped t ≡ true) (h : FlatSound t) where
       total-exact deskPlan (omega arith)
       ∙ ap Accepted (Totals.count-none deskPlan (flatState t .live) (λ e m q. let l = ltb-true (e .plan) deskPlan (sound-stands t k h .stands .given e m) in omega arith))
 
+  -- document 02, order 6, "In every table row j of Z is 0 for each free row j": of each bucket, first level and second
+  pub free-rows-clear : ((i : ℕ) → i < length (tableOf t .level1) → Clear (nth rows solutions (tableOf t .level1) i .mark) (nth rows solutions (tableOf t .level1) i .sols))
+      × ((i : ℕ) → i < length (tableOf t .level2) → Clear (nth rows solutions (tableOf t .level2) i .mark) (nth rows solutions (tableOf t .level2) i .sols))
+  free-rows-clear = (Answers.rows-clear rows solutions mixOf (tableOf t .level1) (h .table .level1), Answers.rows-clear rows solutions mixOf (tableOf t .level2) (h .table .level2))
+
+  -- "A bucket then answers any vector with the XOR of the plans of the live vectors in its combination of K's rows": first level, where a
+  -- vector is a word
+  pub answers-first : (v : ℕ) → v < 2 ^ 64 → Answered rows (planIn t) (bucketOf rows solutions mixOf (tableOf t .level1) v) v (lookup (bucketOf rows solutions mixOf (tableOf t .level1) v) v)
+  answers-first = Answers.answered-first rows solutions mixOf unmixOf (tableOf t) (h .table)
+
+  -- second level, where the word of the vector v is U(U(v)), U the inverse of S
+  pub answers-second : (v : ℕ) → v < 2 ^ 64
+      → Answered rows (λ v. planIn t (unmixOf (unmixOf v))) (bucketOf rows solutions mixOf (tableOf t .level2) v) v (lookup (bucketOf rows solutions mixOf (tableOf t .level2) v) v)
+  answers-second = Answers.answered-second rows solutions mixOf unmixOf (tableOf t) (h .table) (λ v l. ap mixOf (mix-unmix (unmixOf v) (unmix-lt v)) ∙ mix-unmix v l)
+
   query-plan : (i : Token) (w : ℕ) → wordFor (query i) ≡ Word w → call t (query i) ≡ queried t (find w (flatState t .live))
   unfolding served
   query-plan i w e = causes-else t (query i) w e k (stands-sound t _ (sound-stands t k h) .1) ∙ ap (queried t) (live-plans w (word-small (query i) w e))
@@ -347,6 +367,18 @@ module _ (t : List ℕ) (o : Opened t) (ps : List Request) where
       Calls.stands-look (after tables t ps) _ (History.after-stands t o ps) v l
       ∙ told-after firstLevel secondLevel model callsOf stands-for v (opened (o .size)) (valid-opened firstLevel secondLevel (o .size)) false 0 refl ps
       ∙ ap (told v) (History.same-calls t o ps)
+
+  -- document 02, order 6: after any list each bucket answers any vector with the XOR of the last accepted plans of the live words whose
+  -- vectors are in its combination; first level
+  pub list-answers-first : (v : ℕ) → v < 2 ^ 64 → let b = bucketOf rows solutions mixOf (tableOf (after tables t ps) .level1) v in
+      Answered rows (λ u. told u (acceptedCalls t ps)) b v (lookup b v)
+  list-answers-first v l = Answers.answered-as rows _ _ (λ u s. sym (plan u s)) (answers-first (after tables t ps) (always-sound .0) (always-sound .2) v l)
+
+  -- second level
+  pub list-answers-second : (v : ℕ) → v < 2 ^ 64 → let b = bucketOf rows solutions mixOf (tableOf (after tables t ps) .level2) v in
+      Answered rows (λ u. told (unmixOf (unmixOf u)) (acceptedCalls t ps)) b v (lookup b v)
+  list-answers-second v l =
+      Answers.answered-as rows _ _ (λ u s. sym (plan (unmixOf (unmixOf u)) (unmix-lt (unmixOf u)))) (answers-second (after tables t ps) (always-sound .0) (always-sound .2) v l)
 
   -- document 02, order 3: after any list no live word has the desk's plan
   pub plan-given : (v p : ℕ) → v < 2 ^ 64 → told v (acceptedCalls t ps) ≡ some p → assignable p ≡ true

@@ -20,8 +20,10 @@ use Rattle.lists.specs.Totals.{planCount, totalsOf}
 use Rattle.lists.proofs.Keep.{count-in, count-lt}
 use Rattle.lists.proofs.Entries.{assignable-byte, above-up}
 use Rattle.lists.proofs.Totals.{count-perm, count-append, count-map, count-none, none-counted, totals-length, totals-at, totals-ext}
+use Rattle.gf2.specs.Vectors.{outside}
 use Rattle.gf2.specs.Select.{elem, chosen}
 use Rattle.gf2.proofs.Chosen.{Row, elem→row}
+use Rattle.gf2.proofs.Clear.{words-clear, clear-words}
 use Rattle.bucket_rows.specs.declared.Rows.{Rows}
 use Rattle.bucket_rows.specs.Exact.{FoundFree}
 use Rattle.bucket_rows.specs.Elimination.{soundRows}
@@ -40,7 +42,7 @@ use Rattle.table.specs.Layout.{buckets1At, buckets2At, baseCountAt, tota
 use Rattle.table.specs.Content.{allRows, backOf, entriesOf}
 use Rattle.table.specs.Sound as D
 use Rattle.table.specs.Sound.{SoundLevel, SoundTable, FlatSound}
-use Rattle.table.specs.Test.{allOf, before, ascends, rowsIn, bucketTest, levelTest, rowsFound, totalsTest, row1, row2, row0, tableTest, soundTest}
+use Rattle.table.specs.Test.{allOf, before, ascends, rowsIn, clearTest, bucketTest, levelTest, rowsFound, totalsTest, row1, row2, row0, tableTest, soundTest}
 use Rattle.table.proofs.Level.{Given}
 use Rattle.table.proofs.Numbers.{length-levelFrom, room}
 use Rattle.table.proofs.Sound.{base-given, level-small}
@@ -65,15 +67,15 @@ elem-in : (p : ℕ → Bool) (xs : List ℕ) → ((x : ℕ) → T (elem x xs) �
 elem-in p [] h = refl
 elem-in p (y ∷ ys) h = and-both (h y (or-l (eqb y y) (elem y ys) (true→T (eq-eqb y y refl)))) (elem-in p ys (λ x m. h x (or-r (eqb x y) (elem x ys) m)))
 
--- and of the numbers at all places
-pub zeros-out : (xs : List ℕ) → allOf (λ x. eqb x 0) xs ≡ true → (i : ℕ) → getD xs i 0 ≡ 0
-zeros-out [] t i = refl
-zeros-out (x ∷ xs) t zero = eqb-true x 0 (and-one (eqb x 0) _ t)
-zeros-out (x ∷ xs) t (suc i) = zeros-out xs (and-two (eqb x 0) _ t) i
+-- and of the numbers at all places: f of each is 0
+pub zeros-out : (f : ℕ → ℕ) → f 0 ≡ 0 → (xs : List ℕ) → allOf (λ x. eqb (f x) 0) xs ≡ true → (i : ℕ) → f (getD xs i 0) ≡ 0
+zeros-out f e [] t i = e
+zeros-out f e (x ∷ xs) t zero = eqb-true (f x) 0 (and-one (eqb (f x) 0) _ t)
+zeros-out f e (x ∷ xs) t (suc i) = zeros-out f e xs (and-two (eqb (f x) 0) _ t) i
 
-pub zeros-in : (xs : List ℕ) → ((i : ℕ) → getD xs i 0 ≡ 0) → allOf (λ x. eqb x 0) xs ≡ true
-zeros-in [] h = refl
-zeros-in (x ∷ xs) h = and-both (eq-eqb x 0 (h 0)) (zeros-in xs (λ i. h (suc i)))
+pub zeros-in : (f : ℕ → ℕ) (xs : List ℕ) → ((i : ℕ) → f (getD xs i 0) ≡ 0) → allOf (λ x. eqb (f x) 0) xs ≡ true
+zeros-in f [] h = refl
+zeros-in f (x ∷ xs) h = and-both (eq-eqb (f x) 0 (h 0)) (zeros-in f xs (λ i. h (suc i)))
 
 ascends-out : (es : List Entry) → ascends es ≡ true → Ascending es
 ascends-out [] t = tt
@@ -118,12 +120,20 @@ bucket-out n r row b h t = go (decides-free n (b .mark) (b .cols) (h .shaped .co
     f : Rows
     f = soundRows n (b .mark) (b .cols)
 
+    v : (clearTest b && (f .ok && allOf row (rowsIn n b))) ≡ true
+    v = and-two (leb (b .bound) largestBound) _ t
+
     u : (f .ok && allOf row (rowsIn n b)) ≡ true
-    u = and-two (leb (b .bound) largestBound) _ t
+    u = and-two (clearTest b) _ v
 
     go : FoundFree n (b .mark) (b .cols) f → SoundBucket n r b × Each n row b
     go (inl k) =
-        let sound : Sound n (f .rows) b = record { inverse = k .1 .inverse; free = k .1 .free; mark-lt = h .mark-lt } in (
+        let sound : Sound n (f .rows) b = record {
+          inverse = k .1 .inverse;
+          free = k .1 .free;
+          mark-lt = h .mark-lt;
+          clear = words-clear (b .mark) (b .sols) (zeros-out (λ s. outside s (b .mark)) refl (b .sols) (and-one (clearTest b) _ v));
+        } in (
           record { matrix = f .rows; sound = sound; wide = h .shaped .sols; low = leb-true (b .bound) largestBound (and-one (leb (b .bound) largestBound) _ t) },
           λ v l e. elem-out (λ k. row (entry b k)) (chosen (b .mark) (f .rows)) (sym (all-listed row b (chosen (b .mark) (f .rows))) ∙ and-two (f .ok) _ u) v (sym (live-test n (f .rows) b sound v l) ∙ e),
         )
@@ -133,12 +143,13 @@ bucket-in : (n r : ℕ) (row : Entry → Bool) (b : Bucket) → SoundBucket n r 
 unfolding bucketTest Row
 bucket-in n r row b h each =
     and-both (le-leb (b .bound) largestBound (h .low))
+    (and-both (zeros-in (λ s. outside s (b .mark)) (b .sols) (clear-words (b .mark) (b .sols) (h .sound .clear)))
     (subst⁻¹ (λ (f : Rows). (f .ok && allOf row (listed b (chosen (b .mark) (f .rows)))) ≡ true)
     (found-is n (b .mark) (b .cols) (h .matrix) (record { inverse = h .sound .inverse; free = h .sound .free }))
     (all-listed row b (chosen (b .mark) (h .matrix)) ∙ elem-in (λ k. row (entry b k)) (chosen (b .mark) (h .matrix)) (λ v m.
     let q = elem→row v (b .mark) (h .matrix) m in
     let l : v < 2 ^ n = subst (λ (x : ℕ). x < 2 ^ n) (q .3) (h .sound .inverse .rows-lt (q .0)) in
-    each v l (live-test n (h .matrix) b (h .sound) v l ∙ T→true _ m))))
+    each v l (live-test n (h .matrix) b (h .sound) v l ∙ T→true _ m)))))
 
 -- ---- a level
 
@@ -337,9 +348,9 @@ module _ (n r : ℕ) where
                 (pairs-below (getD xs baseCountAt 0) _ (below-drop (bucketPlace n r (a + b)) xs bits))
                 (length-take-le totalNumbers (drop totalsAt xs) (omega (arith, length-drop totalsAt xs, size))) bytes
                 (and-one (tableTest n r S U (tableFrom n r xs)) _ t);
-            unused = zeros-out (unusedIn n r xs) (and-two (tableTest n r S U (tableFrom n r xs)) _ t);
+            unused = zeros-out (λ x. x) refl (unusedIn n r xs) (and-two (tableTest n r S U (tableFrom n r xs)) _ t);
           }
 
     pub sound-test : FlatSound n r S U xs → soundTest n r S U xs ≡ true
     unfolding soundTest
-    sound-test h = and-both (table-in n r S U (tableFrom n r xs) (h .table)) (zeros-in (unusedIn n r xs) (h .unused))
+    sound-test h = and-both (table-in n r S U (tableFrom n r xs) (h .table)) (zeros-in (λ x. x) (unusedIn n r xs) (h .unused))

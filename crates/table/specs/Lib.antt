@@ -8,3 +8,4 @@ pub mod Test
 pub mod Calls
 pub mod History
 pub mod Causes
+pub mod Answers

@@ -1,4 +1,4 @@
--- A sound table, as document 01 lists it, with the totals and the plans of document 02, orders 2 and 3. S is the mix, U its inverse, n the number of rows, r of solution words.
+-- A sound table, as document 01 lists it, with the totals, the plans and the cleared rows of document 02, orders 2, 3 and 6. S is the mix, U its inverse, n the number of rows, r of solution words.
 -- Assumes nothing.
 use Prim.Native.Nat.{ℕ, _+_, _^_, _≤_, _<_}
 use mathlib.Core.Path.{_≡_}
@@ -21,8 +21,8 @@ pub record Row (n r : ℕ) (bs : List Bucket) (i v : ℕ) : Type 0 where
   pub vector-lt : v < 2 ^ n
   pub is-live : live n v (nth n r bs i) ≡ true
 
--- each bucket of the level is sound (bound at most 8, columns invertible, free rows of K units), and each occupied row is held where its
--- place sends it: in this bucket, under its bound
+-- each bucket of the level is sound (bound at most 8, columns invertible, free rows of K units and those of Z 0), and each occupied row is
+-- held where its place sends it: in this bucket, under its bound
 pub record SoundLevel (n r : ℕ) (S : ℕ → ℕ) (bs : List Bucket) : Type 0 where
   pub some : 0 < length bs
   pub buckets : (i : ℕ) → i < length bs → SoundBucket n r (nth n r bs i)

@@ -1,5 +1,5 @@
 -- Document 01's tests of a table that is handed in, as they are computed: the shape (cause 4), and whether it is sound (cause 5; with
--- the totals and the plans of document 02, orders 2 and 3).
+-- the totals, the plans and the cleared rows of document 02, orders 2, 3 and 6).
 -- Assumes nothing.
 use Prim.Native.Nat.{ℕ, suc, _+_}
 use mathlib.Core.Bool.{Bool, true, not, _&&_}
@@ -9,6 +9,7 @@ use lib.ListN.{length, getD}
 use Rattle.lists.specs.Lists.{countFrom}
 use Rattle.lists.specs.Entries.{Entry, deskPlan, assignable}
 use Rattle.lists.specs.Totals.{planCount}
+use Rattle.gf2.specs.Vectors.{outside}
 use Rattle.gf2.specs.Select.{chosen}
 use Rattle.bucket_rows.specs.Elimination.{soundRows}
 use Rattle.bucket.specs.declared.Bucket.{Bucket}
@@ -45,9 +46,14 @@ ascends (e ∷ es) = before (e .word) es && ascends es
 abbrev pub rowsIn : ℕ → Bucket → List Entry
 rowsIn n b = listed b (chosen (b .mark) (soundRows n (b .mark) (b .cols) .rows))
 
--- a bucket: the bound is at most the largest, the columns are invertible, free rows are units, and each occupied row passes `row`
+-- no solution word has a bit outside the mark
+abbrev pub clearTest : Bucket → Bool
+clearTest b = allOf (λ s. eqb (outside s (b .mark)) 0) (b .sols)
+
+-- a bucket: the bound is at most the largest, free rows of the solutions are 0, the columns are invertible, free rows are units, and each
+-- occupied row passes `row`
 unfoldable pub bucketTest : ℕ → (Entry → Bool) → Bucket → Bool
-bucketTest n row b = leb (b .bound) largestBound && (soundRows n (b .mark) (b .cols) .ok && allOf row (rowsIn n b))
+bucketTest n row b = leb (b .bound) largestBound && (clearTest b && (soundRows n (b .mark) (b .cols) .ok && allOf row (rowsIn n b)))
 
 -- the buckets from number i on
 abbrev pub levelTest : ℕ → (ℕ → Bucket → Entry → Bool) → ℕ → List Bucket → Bool

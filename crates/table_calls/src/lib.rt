@@ -26,6 +26,7 @@ ghost use Rattle.table.specs.Table.{totalNumbers};
 ghost use Rattle.table.specs.Layout.{totalsAt, pairsFrom, basePairs, numbersOf};
 ghost use Rattle.table.specs.Calls.{rows, solutions, tableOf, planIn, shaped, served, call, totalCall};
 ghost use Rattle.table_calls.specs.Ready.{Ready, admitted};
+ghost use Rattle.table_calls.specs.declared.Edit.the-variants.{Change};
 ghost use Rattle.table_calls.specs.Edit.{onBucket, onBase, touched, leaving, recountedIn, editAllowed, Movable, asked};
 
 // The plan of v in a bucket, if it is live there.
@@ -77,23 +78,26 @@ pub(crate) fn leaving(edit: Edit) -> u64
     }
 }
 
-// A bucket after the edit of v, if v is live there.
-pub(crate) fn edited(b: Bucket, v: u64, edit: Edit) -> Bucket
-    ensures { λ r. ⌜ r ≡ onBucket edit v b ⌝ }
+// The bucket of a stretch of the table with another plan for v, if v is live there.
+pub(crate) fn change_bucket(part: &mut [u64], v: u64, plan: u64)
+    requires { do ⌜ length (now part) ≡ (← ⟦Bucket::WORDS⟧) ⌝ }
+    ensures { λ _. ⌜ now (part .exit) ≡ wordsOf (onBucket (Change plan) v (bucketFrom rows solutions (now (part .entry)))) ⌝ }
 {
-    match edit {
-        Edit::Change(plan) => b.change(v, plan).bucket,
-        Edit::Withdraw => b.withdraw(v).bucket,
-    }
+    let b = bucket_words::load(part).change(v, plan).bucket;
+    bucket_words::store(part, b);
 }
 
-// The bucket of a stretch of the table after it.
+// The bucket of a stretch of the table after the edit of v, if v is live there.
 pub(crate) fn edit_bucket(part: &mut [u64], v: u64, edit: Edit)
     requires { do ⌜ length (now part) ≡ (← ⟦Bucket::WORDS⟧) ⌝ }
     ensures { λ _. ⌜ now (part .exit) ≡ wordsOf (onBucket edit v (bucketFrom rows solutions (now (part .entry)))) ⌝ }
 {
-    let b = edited(bucket_words::load(part), v, edit);
-    bucket_words::store(part, b);
+    match edit {
+        Edit::Change(plan) => change_bucket(part, v, plan),
+        Edit::Withdraw => {
+            bucket_words::withdraw(part, v);
+        }
+    }
 }
 
 // The base list after it, if v has an entry. Returns how many entries there are.

@@ -39,7 +39,7 @@ use Rattle.model.specs.Model.{baseLimit}
 use Rattle.table.specs.Table.{Table, totalNumbers, thr, index}
 use Rattle.table.specs.Layout.{buckets1At, buckets2At, baseCountAt, liveCountAt, totalsAt, header, levelFrom, pairsFrom, bucketPlace, tableFrom, unusedIn}
 use Rattle.table.specs.Content.{occupied}
-use Rattle.table.specs.Test.{allOf, ascends, rowsIn, bucketTest, levelTest, rowsFound, totalsTest, row1, row2, soundTest}
+use Rattle.table.specs.Test.{allOf, ascends, rowsIn, clearTest, bucketTest, levelTest, rowsFound, totalsTest, row1, row2, soundTest}
 use Rattle.table.specs.Calls.{rows, solutions, tableOf, shaped, sound}
 use Rattle.table.proofs.Numbers.{header-read, total-read}
 use Rattle.table.proofs.Test.{all-out, zeros-out, zeros-in, totals-exactly}
@@ -123,12 +123,16 @@ module _ (n : ℕ) (row : Entry → Bool) (b : Bucket) (ts : List ℕ) where
   unfolding bucketOff
   bucket-over l = gate-off _ l
 
-  pub bucket-found : leb (b .bound) largestBound ≡ true → (found : Rows) → found ≡ soundRows n (b .mark) (b .cols) → {ok : Bool} → found .ok ≡ ok
+  pub bucket-unclear : leb (b .bound) largestBound ≡ true → clearTest b ≡ false → bucketOff n row b ts ≡ none
+  unfolding bucketOff
+  bucket-unclear l c = gate-on l (gate-off _ c)
+
+  pub bucket-found : leb (b .bound) largestBound ≡ true → clearTest b ≡ true → (found : Rows) → found ≡ soundRows n (b .mark) (b .cols) → {ok : Bool} → found .ok ≡ ok
       → bucketOff n row b ts ≡ gate ok (countOff row (listed b (chosen (b .mark) (found .rows))) ts)
   unfolding bucketOff
-  bucket-found l found e f =
-      gate-on l (ap (λ (r : Rows). gate (r .ok) (countOff row (listed b (chosen (b .mark) (r .rows))) ts)) (sym e)
-      ∙ ap (λ (x : Bool). gate x (countOff row (listed b (chosen (b .mark) (found .rows))) ts)) f)
+  bucket-found l c found e f =
+      gate-on l (gate-on c (ap (λ (r : Rows). gate (r .ok) (countOff row (listed b (chosen (b .mark) (r .rows))) ts)) (sym e)
+      ∙ ap (λ (x : Bool). gate x (countOff row (listed b (chosen (b .mark) (found .rows))) ts)) f))
 
 -- ---- tests that are passed first, and then every entry counted off
 
@@ -176,8 +180,9 @@ count-append (e ∷ es) fs ts =
 bucket-any : (n : ℕ) (row : Entry → Bool) (b : Bucket) (ts : List ℕ) → bucketOff n row b ts ≡ gate (bucketTest n row b) (countOff any (rowsIn n b) ts)
 unfolding bucketOff bucketTest
 bucket-any n row b ts =
-    ap (λ (o : Option (List ℕ)). gate (leb (b .bound) largestBound) (gate (soundRows n (b .mark) (b .cols) .ok) o)) (count-any row (rowsIn n b) ts)
-    ∙ ap (gate (leb (b .bound) largestBound)) (gate-both (soundRows n (b .mark) (b .cols) .ok) (allOf row (rowsIn n b)) _)
+    ap (λ (o : Option (List ℕ)). gate (leb (b .bound) largestBound) (gate (clearTest b) (gate (soundRows n (b .mark) (b .cols) .ok) o))) (count-any row (rowsIn n b) ts)
+    ∙ ap (λ (o : Option (List ℕ)). gate (leb (b .bound) largestBound) (gate (clearTest b) o)) (gate-both (soundRows n (b .mark) (b .cols) .ok) (allOf row (rowsIn n b)) _)
+    ∙ ap (gate (leb (b .bound) largestBound)) (gate-both (clearTest b) _ _)
     ∙ gate-both (leb (b .bound) largestBound) _ _
 
 level-any : (n : ℕ) (row : ℕ → Bucket → Entry → Bool) (i : ℕ) (bs : List Bucket) (ts : List ℕ) → levelOff n row i bs ts ≡ gate (levelTest n row i bs) (countOff any (rowsFound n bs) ts)
@@ -222,8 +227,8 @@ module _ (m : ℕ) where
   none-test ts h =
       let none = totals-exactly m ts [] h in
       bool-ext _ _
-      (λ t. true→T (none .1 (sym (zeros ts (zeros-out ts (T→true _ t))) ∙ ap (λ (k : ℕ). replicate k 0) h ∙ sym (totals-none m))))
-      (λ t. true→T (zeros-in ts (λ i. ap (λ (x : List ℕ). getD x i 0) (none .0 (T→true _ t) ∙ totals-none m) ∙ zero-at m i)))
+      (λ t. true→T (none .1 (sym (zeros ts (zeros-out (λ x. x) refl ts (T→true _ t))) ∙ ap (λ (k : ℕ). replicate k 0) h ∙ sym (totals-none m))))
+      (λ t. true→T (zeros-in (λ x. x) ts (λ i. ap (λ (x : List ℕ). getD x i 0) (none .0 (T→true _ t) ∙ totals-none m) ∙ zero-at m i)))
 
   pub counted-off : (es : List Entry) (ts : List ℕ) → length ts ≡ m → ((e : Entry) → List·Memᴰ e es → e .plan < m) → noneLeft (countOff any es ts) ≡ totalsTest m ts es
   counted-off [] ts h l = none-test ts h
@@ -533,10 +538,10 @@ module _ (xs : List ℕ) where
   ascends-end at (suc zero) h = refl
   ascends-end at (suc (suc k)) h = absurd (omega arith)
 
-  -- ---- numbers that are all 0
+  -- ---- numbers that all pass a test
 
-  pub zero-next : (at : ℕ) → at < length xs → allOf (λ x. eqb x 0) (drop at xs) ≡ (eqb (getD xs at 0) 0 && allOf (λ x. eqb x 0) (drop (at + 1) xs))
-  zero-next at h = rw (add-one, drop-cons xs at 0 h)
+  pub all-next : (p : ℕ → Bool) (at : ℕ) → at < length xs → allOf p (drop at xs) ≡ (p (getD xs at 0) && allOf p (drop (at + 1) xs))
+  all-next p at h = rw (add-one, drop-cons xs at 0 h)
 
-  pub zero-end : (at : ℕ) → length xs ≤ at → allOf (λ x. eqb x 0) (drop at xs) ≡ true
-  zero-end at h = ap (allOf (λ x. eqb x 0)) (drop-of-length-le xs h)
+  pub all-end : (p : ℕ → Bool) (at : ℕ) → length xs ≤ at → allOf p (drop at xs) ≡ true
+  all-end p at h = ap (allOf p) (drop-of-length-le xs h)

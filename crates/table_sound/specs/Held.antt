@@ -18,7 +18,7 @@ use Rattle.model.specs.Model.{baseLimit}
 use Rattle.table.specs.Table.{thr, index}
 use Rattle.table.specs.Layout.{buckets1At, buckets2At, baseCountAt, liveCountAt, totalsAt, header, levelFrom, pairsFrom, bucketPlace}
 use Rattle.table.specs.Content.{occupied}
-use Rattle.table.specs.Test.{passes1, row0, allOf, ascends, rowsIn}
+use Rattle.table.specs.Test.{passes1, row0, allOf, ascends, rowsIn, clearTest}
 use Rattle.table.specs.Calls.{rows, solutions, tableOf}
 
 -- at level 2: level 1 does not hold the word whose w' is v
@@ -68,7 +68,7 @@ countOff p (e ∷ es) ts = next (oneOff p e ts) (countOff p es)
 
 -- the occupied rows of a bucket, if it is sound and they pass
 unfoldable pub bucketOff : ℕ → (Entry → Bool) → Bucket → List ℕ → Option (List ℕ)
-bucketOff n row b ts = gate (leb (b .bound) largestBound) (gate (soundRows n (b .mark) (b .cols) .ok) (countOff row (rowsIn n b) ts))
+bucketOff n row b ts = gate (leb (b .bound) largestBound) (gate (clearTest b) (gate (soundRows n (b .mark) (b .cols) .ok) (countOff row (rowsIn n b) ts)))
 
 -- the buckets of a level from number i on
 abbrev pub levelOff : ℕ → (ℕ → Bucket → Entry → Bool) → ℕ → List Bucket → List ℕ → Option (List ℕ)

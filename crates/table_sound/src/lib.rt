@@ -1,6 +1,6 @@
 // Document 01's cause 5: the test whether a table of the right shape that is handed in is sound, for any contents, with the totals of
 // document 02, order 2: each row and base entry found is counted off a copy of them. That of the desk's plan must be 0, so an entry with that
-// plan (order 3) cannot be counted off. The test is an equation with those of the crate table
+// plan (order 3) cannot be counted off. Free rows of the solutions must be 0 (order 6). The test is an equation with those of the crate table
 // (specs/Test.antt, Calls.antt); specs/Held.antt is for the crate's own functions: what is left of the totals.
 // Cites table, bucket, bucket_rows (the rows of K), bucket_settle (`listed`: rows with their plans), identifier, hash and table_layout (the places); table_calls and plane_write build on it.
 use bucket::Bucket;
@@ -11,6 +11,7 @@ ghost use Prim.Native.Nat.{_+_, _*_, _<_, _≤_};
 ghost use lib.Dec.{eqb, ltb};
 ghost use lib.ListN.{length, getD, take, drop};
 ghost use Rattle.lists.specs.Totals.{oneLess};
+ghost use Rattle.gf2.specs.Vectors.{outside};
 ghost use Rattle.gf2.specs.Select.{chosen};
 ghost use Rattle.bucket.specs.Bucket.{lookup};
 ghost use Rattle.bucket_words.specs.Words.{bucketFrom};
@@ -111,6 +112,21 @@ pub(crate) fn rows_off(
     true
 }
 
+// No solution word has a bit outside the mark: the rows of the solutions that are free are 0.
+pub(crate) fn rows_clear(mark: u64, sols: [u64; Bucket::SOLUTIONS]) -> bool
+    ensures { λ r. ⌜ r ≡ allOf (λ s. eqb (outside s mark) 0) sols ⌝ }
+{
+    let mut i: usize = 0;
+    while i < Bucket::SOLUTIONS {
+        let s = sols[i];
+        if s ^ (s & mark) != 0 {
+            return false;
+        }
+        i += 1;
+    }
+    true
+}
+
 // The bucket at a place, number i of m, is sound, and its rows are counted off.
 pub(crate) fn bucket_off(
     t: &[u64],
@@ -125,6 +141,10 @@ pub(crate) fn bucket_off(
 {
     let b = table_layout::bucket_at(t, place);
     if Bucket::LARGEST_BOUND < b.bound {
+        return false;
+    }
+    let sols = b.sols;
+    if !rows_clear(b.mark, sols) {
         return false;
     }
     let cols = b.cols;

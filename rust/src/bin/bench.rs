@@ -169,6 +169,7 @@ fn buckets(rng: &mut Rng) {
             rust_part = part;
         },
     );
+    assert_eq!(ours_part, rust_part);
     compare(
         "withdraw, 32 vectors to an empty bucket",
         32,
@@ -177,6 +178,7 @@ fn buckets(rng: &mut Rng) {
             for &k in &vectors {
                 black_box(ours::bucket_withdraw(&mut part, k));
             }
+            ours_part = part;
         },
         || {
             let mut part = half.clone();
@@ -186,9 +188,12 @@ fn buckets(rng: &mut Rng) {
                     store(&mut part, &b);
                 }
             }
+            rust_part = part;
         },
     );
-    assert_eq!(ours_part, rust_part);
+    // No plan is left behind.
+    assert_eq!(ours_part, empty());
+    assert_eq!(rust_part, empty());
     for (name, count) in [("full", 64), ("half full", 32), ("empty", 0)] {
         let parts: Vec<Vec<u64>> = (0..80).map(|_| filled(rng, count).0).collect();
         compare(

@@ -25,13 +25,18 @@ fn added_by_vector(bucket: &Bucket, k: u64, plan: u8, row: usize) -> Bucket {
     added
 }
 
-/// `k` of row `row` taken out: the step by a vector, then the exchange.
+/// `k` of row `row` taken out: the step by a vector, then the exchange, then the
+/// plan bits of the freed row, as they were, XORed away along its column.
 fn withdrawn_by_vector(bucket: &Bucket, k: u64, row: usize) -> Bucket {
     let mut withdrawn = bucket.clone();
     let lowest = bucket.cols[row].trailing_zeros() as usize;
     withdrawn.cols = stepped_by_vector(bucket.cols, k ^ 1 << lowest, row);
     withdrawn.cols.swap(row, lowest);
     withdrawn.mark &= !(1 << lowest);
+    let bits = bucket.lookup(1 << lowest);
+    for c in (0..PLAN_BITS).filter(|c| bits >> c & 1 == 1) {
+        withdrawn.sols[c] ^= withdrawn.cols[lowest];
+    }
     withdrawn
 }
 
@@ -147,9 +152,10 @@ fn adds_equal_those_by_vector() {
 
 #[test]
 fn withdrawals_equal_those_by_vector() {
-    // From each row, and to each row.
+    // From each row, and to each row; the freed row clear already, and not.
     let (mut from, mut to) = ([0; WIDTH], [0; WIDTH]);
     let mut exchanged = 0;
+    let mut cleared = [0; 2];
     for (bucket, _) in buckets(54, 2000) {
         let Some(rows) = bucket.rows() else {
             continue;
@@ -167,8 +173,11 @@ fn withdrawals_equal_those_by_vector() {
             from[row] += 1;
             to[lowest] += 1;
             exchanged += u32::from(row != lowest);
+            cleared[usize::from(bucket.lookup(1 << lowest) != 0)] += 1;
+            // Of sound buckets every free row is clear, before and after.
+            assert!(withdrawn.is_clear() || !bucket.is_clear());
         }
     }
-    let each = |times: &[u32; WIDTH]| times.iter().all(|&times| times > 0);
-    assert!(each(&from) && each(&to) && exchanged > 0);
+    let each = |times: &[u32]| times.iter().all(|&times| times > 0);
+    assert!(each(&from) && each(&to) && exchanged > 0 && each(&cleared));
 }

@@ -188,6 +188,7 @@ impl SlowBucket {
     }
 
     /// Bit j of column i is 1 exactly when K with e_j in row i is invertible.
+    /// Row j of Z, which is what e_j gives, becomes 0.
     pub fn withdraw(&mut self, k: u64) {
         let i = self.row(k).unwrap();
         let j = (0..64)
@@ -200,6 +201,8 @@ impl SlowBucket {
         if i != j {
             self.occupied[i] = true;
         }
+        self.set_plan(j, 0);
+        assert!((0..64).all(|row| self.occupied[row] || self.z[row] == 0));
     }
 
     /// What leaves, by the words of the requirement, one step at a time.
@@ -694,7 +697,10 @@ fn is_sound(table: &[u64], b1: usize, b2: usize) -> bool {
     let Some(rows) = all_rows(&buckets) else {
         return false;
     };
-    if !free_rows_are_units(&buckets, &rows) || !base_in_order(&base, table[2] as usize) {
+    if !free_rows_are_units(&buckets, &rows) || !free_rows_are_clear(&buckets) {
+        return false;
+    }
+    if !base_in_order(&base, table[2] as usize) {
         return false;
     }
     let found = words_in(table, &rows);
@@ -709,6 +715,14 @@ fn free_rows_are_units(buckets: &[&[u64]], rows: &[Vec<u64>]) -> bool {
     buckets.iter().zip(rows).all(|(bucket, rows)| {
         let mut free = (0..64).filter(|r| bucket[64] >> r & 1 == 0);
         free.all(|r| rows[r] == 1 << r)
+    })
+}
+
+/// Row r of Z is bit r of each solution word: 0 for each free row r.
+fn free_rows_are_clear(buckets: &[&[u64]]) -> bool {
+    buckets.iter().all(|bucket| {
+        let mut free = (0..64).filter(|r| bucket[64] >> r & 1 == 0);
+        free.all(|r| bucket[65..73].iter().all(|word| word >> r & 1 == 0))
     })
 }
 

@@ -8,7 +8,7 @@ use lib.ListN.{length, drop}
 use borrow.Author.Tests.{eq-eqb, ne-eqb}
 use borrow.Author.Needs.{needs}
 use Rattle.table.specs.Test.{allOf}
-use Rattle.table_sound.proofs.Held.{go-on, zero-next, zero-end}
+use Rattle.table_sound.proofs.Held.{go-on, all-next, all-end}
 use Rattle.table_sound.proofs.zero_from.Statement.{statement}
 use Rattle.table_sound.proofs.zero_from.Tie as tie
 
@@ -30,7 +30,7 @@ shared-slice-read-if1 c = search needs
 returns : tie.Need-returns Inv-loop μ-loop
 returns c =
     let b = c .before .before .before in
-    go-on _ (zero-next (b .before .args .t .now) (b .loop .i) (c .before .before .loop-test .taken)) (ne-eqb _ _ (c .if1 .taken)) (b .loop .inv .1)
+    go-on _ (all-next (b .before .args .t .now) (λ x. eqb x 0) (b .loop .i) (c .before .before .loop-test .taken)) (ne-eqb _ _ (c .if1 .taken)) (b .loop .inv .1)
 
 add-i : tie.Need-add-i Inv-loop μ-loop
 add-i c = search needs
@@ -41,12 +41,12 @@ loop-less c = omega arith
 loop-again : tie.Need-loop-again Inv-loop μ-loop
 loop-again c =
     let b = c .before .before .before in
-    (omega arith, go-on _ (zero-next (b .before .args .t .now) (b .loop .i) (c .before .before .loop-test .taken)) (eq-eqb _ _ (c .if1 .left)) (b .loop .inv .1))
+    (omega arith, go-on _ (all-next (b .before .args .t .now) (λ x. eqb x 0) (b .loop .i) (c .before .before .loop-test .taken)) (eq-eqb _ _ (c .if1 .left)) (b .loop .inv .1))
 
 returns-2 : tie.Need-returns-2 Inv-loop μ-loop
 returns-2 c =
     let b = c .before in
-    sym (zero-end (b .before .args .t .now) (b .loop .i) (c .loop-test .left)) ∙ b .loop .inv .1
+    sym (all-end (b .before .args .t .now) (λ x. eqb x 0) (b .loop .i) (c .loop-test .left)) ∙ b .loop .inv .1
 
 pub zero-from-spec : {M : Type 1} → statement M
 zero-from-spec =

@@ -13,6 +13,7 @@ mod records;
 mod strangers;
 mod tables;
 mod totals;
+mod withdrawn;
 mod words;
 
 use reference::rng::Rng;
@@ -41,9 +42,13 @@ fn main() {
     kinds::seven(&mut rng, 400 * times);
     strangers::given(&mut rng, 400 * times);
     strangers::tables(&mut rng, long);
-    strangers::free_rows(&mut rng, 100 * times);
+    strangers::by_buckets(&mut rng, 100 * times);
     strangers::lookups(&mut rng, 2_000 * times);
     strangers::planes(&mut rng, 1_000 * times);
+    withdrawn::lost();
+    withdrawn::histories(&mut rng, 200 * times);
+    withdrawn::free_rows(&mut rng, 300 * times);
+    withdrawn::earlier(&mut rng, 300 * times);
     planes::planes(&mut rng, 400 * times);
     planes::edges(&mut rng);
     tables::histories(&mut rng, if long { 200 } else { 8 });

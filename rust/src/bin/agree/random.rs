@@ -1,6 +1,7 @@
 //! Random kinds, identifiers and plans, and tables, sound and damaged.
 
 use crate::totals::Wrong;
+use crate::withdrawn::Unclear;
 use reference::rng::Rng;
 use reference::table::{self, Shape, BASE_COUNT, BASE_MAX, HEADER, LEADING, TOTALS};
 use reference::{identifier, Answer};
@@ -234,7 +235,7 @@ fn some_bucket(rng: &mut Rng, t: &[u64]) -> usize {
 
 /// A change that a table from elsewhere may have, small or large.
 pub fn damage(rng: &mut Rng, t: &mut Vec<u64>) {
-    match rng.below(16) {
+    match rng.below(17) {
         0 => {
             t.pop();
         }
@@ -303,6 +304,11 @@ pub fn damage(rng: &mut Rng, t: &mut Vec<u64>) {
             if rng.one_in(2) {
                 recount(t);
             }
+        }
+        15 => {
+            let unclear: &Unclear = rng.pick(&Unclear::ALL);
+            let index = rng.below(t[0] + t[1]) as usize;
+            unclear.make(rng, t, index);
         }
         _ => {
             let at = rng.below(t.len() as u64) as usize;

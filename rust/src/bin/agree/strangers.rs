@@ -3,13 +3,13 @@
 
 use crate::compare::{differ, same, same_all, Seen};
 use crate::random::{
-    any_card, card, cards, damage, different_cards, given_plan, known_card, places, recount, rows,
+    any_card, card, cards, damage, different_cards, given_plan, known_card, places, recount,
     set_plan, some_shape, some_table, Card, Place,
 };
 use crate::records::{some_words, Content};
 use crate::totals::{ask, refuse, some_numbers};
 use reference::rng::Rng;
-use reference::table::{self, Shape, LIVE_COUNT};
+use reference::table::{self, Shape, Spot, LIVE_COUNT};
 use reference::{identifier, ours, plane, Answer};
 
 /// What adds and changes to plan 255 were answered, and what with plan 254 in its place.
@@ -193,20 +193,22 @@ pub fn tables(rng: &mut Rng, long: bool) {
     right.print("queries with plan 254 instead", &[0, 7]);
 }
 
-/// Every free row with plan 255, which is nobody's: the table stays sound, takes words, and its plane is written and read.
-pub fn free_rows(rng: &mut Rng, cases: u64) {
+/// Tables whose live words have the plans 15 and 240 alone: sound, though their buckets answer 255, the XOR of the two, to some who are not
+/// live. They take words, and their planes are written and read.
+pub fn by_buckets(rng: &mut Rng, cases: u64) {
     let (mut called, mut read) = (Seen::none(), Seen::none());
     let mut desk = 0;
     for _ in 0..cases {
         let cards = cards(rng, 100);
         let mut t = some_table(rng, &cards);
-        for place in rows(&t, false) {
-            set_plan(&mut t, place, 255);
+        for place in places(&t) {
+            set_plan(&mut t, place, *rng.pick(&[15, 240]));
         }
+        recount(&mut t);
         let mut ours_t = t.clone();
         for _ in 0..10 {
             let Card { kind, id } = &known_card(rng, &cards);
-            let plan = given_plan(rng);
+            let plan = *rng.pick(&[15, 240]);
             let ours = ours::add(&mut ours_t, *kind, id, plan);
             called.same("add", id, ours, table::add(&mut t, *kind, id, plan));
             same_all("table", id, &ours_t, &t);
@@ -229,17 +231,21 @@ pub fn free_rows(rng: &mut Rng, cases: u64) {
             let answer = plane::lookup(card.kind, &card.id, bytes);
             let ours = ours::lookup(card.kind, &card.id, bytes);
             read.same("lookup", card, ours, answer);
-            desk += u64::from(answer.value == 255);
+            let word = card.word().expect("a card");
+            let shape = Shape::of(&t).expect("a table");
+            let by_bucket = shape.spot(&t, word) != Spot::Base;
+            desk += u64::from(by_bucket && answer.value == 255);
         }
     }
     called.print(
-        &format!("calls on {cases} tables whose free rows have plan 255"),
+        &format!("calls on {cases} tables whose words have the plans 15 and 240"),
         &[0, 6, 7],
     );
-    read.print(
-        &format!("lookups in their planes, 255 by {desk} of them"),
-        &[0],
-    );
+    let what = format!("lookups in their planes, 255 by a bucket {desk} times");
+    if desk == 0 {
+        differ(&what, cases, "never occurred");
+    }
+    read.print(&what, &[0]);
 }
 
 /// The plan that a plane of this content gives a word, and whether a bucket gives it.
