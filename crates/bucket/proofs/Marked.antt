@@ -1,4 +1,5 @@
--- M1 to M11 of document 01, M6 as document 02, order 6 has it: one computed check of the definitions: whole buckets of 64 rows and 8 solution words.
+-- M1 to M11 of document 01, M6 with the solutions of document 02, order 6, in one computed check of the definitions: whole buckets of 64
+-- rows and 8 solution words.
 -- Assumes nothing.
 use mathlib.Core.Bool.{Bool, true, false, not, _&&_}
 use mathlib.Core.List.{List, [], _∷_, _++_}

@@ -1,7 +1,8 @@
-// A bucket as its words in a part of a table: columns, mark, solutions, bound, as load and store find and leave them there; an add and a
+// A bucket as its words in a part of a table: columns, mark, solutions, bound, as load and store find and leave them there; an add and the
 // withdrawal, which read and write what they change of it and no more.
 // Definitions: specs/Words.antt, at every number of rows and of solution words. Laws: proofs/Words.antt (there and back),
-// proofs/Parts.antt (what each of store's writes leaves) and proofs/OnWords.antt (the words after an add, after a withdrawal).
+// proofs/Parts.antt (what each write of columns, mark and solutions leaves) and proofs/OnWords.antt (the bucket after an add, after a
+// withdrawal).
 // Cites bucket, gf2, lists and bits; bucket_settle, table, table_layout and what works on tables build on it.
 use bucket::Bucket;
 ghost use mathlib.Core.Path.{_≡_};
