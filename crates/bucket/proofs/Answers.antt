@@ -2,27 +2,29 @@
 -- gets. Document 02, order 6, at every width and number of solution words.
 -- Assumes nothing.
 use mathlib.Core.Path.{_≡_, refl, sym, ap, _∙_, subst, subst⁻¹}
-use mathlib.Core.Bool.{true}
+use mathlib.Core.Bool.{Bool, true}
 use mathlib.Core.List.{List, map}
 use Prim.Native.Nat.{ℕ, zero, suc, _^_, _<_, min}
 use native.Mathlib.Nat.{lt-of-not-le}
 use native.Mathlib.Omega.{arith}
-use lib.Bits.{bitAnd, and-zero-r}
+use lib.Bits.{bitXor, bitAnd, and-zero-r, xor-lt}
+use lib.Count.{trailingZeros}
 use lib.ListN.{length, getD, replicate, length-replicate}
 use lib.Seq.{ext-getD}
 use Rattle.lists.proofs.Tests.{T→true}
-use Rattle.gf2.specs.Vectors.{bit, product, combine, units, Inverse}
+use Rattle.gf2.specs.Vectors.{bit, outside, product, combine, colStep, solStep, exchange, units, rowIn, Inverse}
 use Rattle.gf2.proofs.Bit.{bit-zero, bit-lt, bit-high, bit-and}
-use Rattle.gf2.proofs.Linear.{combine-zero, combine-pow}
+use Rattle.gf2.proofs.Linear.{product-lt, combine-zero, combine-pow}
+use Rattle.gf2.proofs.Lowest.{tz-bit}
 use Rattle.gf2.proofs.Inverse.{unique, empty, length-units, getD-units}
 use Rattle.gf2.proofs.Transpose.{transpose}
 use Rattle.gf2.proofs.Chosen.{row→elem}
-use Rattle.gf2.proofs.Clear.{clear-le, clear-combined, combine-alike, words-alike}
+use Rattle.gf2.proofs.Clear.{clear-le, leaving-column, step-forgotten, clear-combined, combine-alike, words-alike}
 use Rattle.bucket.specs.declared.Bucket.{Bucket}
 use Rattle.bucket.specs.declared.Tried.{Tried}
-use Rattle.bucket.specs.Bucket.{Sound, lookup, live, rowOf, withdrawAt, withdraw}
+use Rattle.bucket.specs.Bucket.{Sound, lookup, live, rowOf, tried, changeAt, change, withdrawAt, withdraw}
 use Rattle.bucket.specs.Answers.{liveIn, combined, Forgotten}
-use Rattle.bucket.proofs.Laws.{row-product, row-lt, row-marked, withdraw-done}
+use Rattle.bucket.proofs.Laws.{column-lowest, row-product, row-lt, row-marked, withdraw-done}
 use Rattle.bucket.proofs.Steps.{live-test, left-rows, withdraw-sound, withdraw-live, withdraw-others}
 
 module _ (n : ℕ) (K : List ℕ) (b : Bucket) (s : Sound n K b) where
@@ -72,6 +74,38 @@ emptied n r K b s e m =
     zeros (suc r) (suc a) = zeros r a
 
 -- ---- a vector that was withdrawn
+
+-- the plan that it had makes no difference: given another one first, it leaves the same bucket
+module _ (n : ℕ) (b : Bucket) (k q : ℕ) (h : length (b .cols) ≡ n) (f : (i : ℕ) → getD (b .cols) i 0 < 2 ^ n) (l : live n k b ≡ true) (hq : q < 2 ^ length (b .sols)) where
+  abbrev row : ℕ
+  row = rowOf n k b
+
+  abbrev freed : ℕ
+  freed = trailingZeros n (getD (b .cols) row 0)
+
+  freed-lt : freed < n
+  freed-lt = column-lowest n (b .cols) row k (row-product n k b l) (f row)
+
+  old-column : getD (exchange row freed (colStep (getD (b .cols) row 0) (bitXor k (2 ^ freed)) (b .cols))) freed 0 ≡ getD (b .cols) row 0
+  old-column = leaving-column n row freed k (b .cols) h freed-lt (row-product n k b l) (tz-bit n (getD (b .cols) row 0) freed-lt)
+
+  forgotten-at : withdrawAt n row k (changeAt row k q b) ≡ withdrawAt n row k b
+  unfolding withdrawAt changeAt
+  forgotten-at =
+      let u : ℕ = getD (b .cols) row 0 in
+      let d : ℕ = bitXor (lookup b k) q in
+      let cs : List ℕ = exchange row freed (colStep u (bitXor k (2 ^ freed)) (b .cols)) in
+      ap (λ (ss : List ℕ). record { cols = cs; mark = outside (b .mark) (2 ^ freed); sols = ss; bound = b .bound })
+      (ap (λ (x : ℕ). solStep x (rowIn (solStep u d (b .sols)) freed) (solStep u d (b .sols))) old-column
+      ∙ step-forgotten u freed d (b .sols) (tz-bit n u freed-lt) (xor-lt (length (b .sols)) (lookup b k) q (product-lt (b .sols) k) hq)
+      ∙ ap (λ (x : ℕ). solStep x (rowIn (b .sols) freed) (b .sols)) (sym old-column))
+
+  pub plan-forgotten : withdraw n k (change n k q b .bucket) .bucket ≡ withdraw n k b .bucket
+  unfolding change withdraw live rowOf changeAt
+  plan-forgotten =
+      ap (λ (t : Bool). withdraw n k (tried t (changeAt row k q b) b .bucket) .bucket) l
+      ∙ ap (λ (t : Bool). tried t (withdrawAt n row k (changeAt row k q b)) (changeAt row k q b) .bucket) l
+      ∙ forgotten-at ∙ ap (λ (t : Bool). tried t (withdrawAt n row k b) b .bucket) (sym l)
 
 module _ (n : ℕ) (K : List ℕ) (b : Bucket) (s : Sound n K b) (k : ℕ) (hk : k < 2 ^ n) where
   -- k leaves row i

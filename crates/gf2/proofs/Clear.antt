@@ -6,15 +6,17 @@ use mathlib.Core.List.{List, [], _∷_, map}
 use Prim.Native.Nat.{ℕ, zero, suc, _-_, _/_, _%_, _^_, _≤_, _<_, min}
 use native.Mathlib.Decide.{decLt}
 use native.Mathlib.Omega.{arith}
-use lib.Bits.{bitXor, bitAnd, xor-self, and-le-r}
-use lib.ListN.{length, getD, replicate}
+use lib.Bits.{bitXor, bitAnd, differ, xor-self, and-le-r}
+use lib.ListN.{length, getD, set, replicate, length-set}
 use lib.Pow.{pow-lt}
-use lib.Seq.{ext-getD}
-use Rattle.gf2.specs.Vectors.{bit, on, outside, dot, product, combine, solStep, rowIn, Clear, Inverse}
-use Rattle.gf2.proofs.Bit.{two, by-place, bit-zero, bit-low, bit-suc, bit-lt, bit-ext, bit-below, bit-high, xor-out, bit-pow-same, bit-pow-other, bit-pow-swap, and-low, and-half, bit-and, dot-pow}
+use lib.Seq.{ext-getD, getD-set-same}
+use Rattle.gf2.specs.Vectors.{bit, on, flipIf, outside, dot, product, combine, colStep, solStep, exchange, rowIn, Clear, Inverse}
+use Rattle.gf2.proofs.Bit.{two, by-place, bit-zero, bit-low, bit-suc, bit-lt, bit-ext, bit-below, bit-high, xor-out, bit-pow-same, bit-pow-other, bit-pow-swap, and-low, and-half, bit-and, dot-pow, dot-xor-l}
 use Rattle.gf2.proofs.Linear.{on-zero, product-xor, product-zero, product-bit, product-lt}
 use Rattle.gf2.proofs.Lowest.{bit-outside}
-use Rattle.gf2.proofs.Solutions.{product-solStep, product-unseen}
+use Rattle.gf2.proofs.Solutions.{product-solStep, product-unseen, solStep-xor}
+use Rattle.gf2.proofs.Inverse.{length-colStep}
+use Rattle.gf2.proofs.RowStep.{colStep-getD}
 
 -- bit c of row j is bit j of word c
 pub row-bit : (ss : List ℕ) (j c : ℕ) → bit c (rowIn ss j) ≡ bit j (getD ss c 0)
@@ -72,6 +74,24 @@ module _ (n mark : ℕ) (K cs ss : List ℕ) (inv : Inverse n K cs) (free : (j :
   clear-row j hj m h = by-place (λ a. bit a mark ≡ 0 → rowIn (solStep (getD cs j 0) (rowIn ss j) ss) a ≡ 0) j
       (λ z. product-solStep (getD cs j 0) (rowIn ss j) ss (2 ^ j) (product-lt ss (2 ^ j)) ∙ ap (λ (d : ℕ). bitXor (rowIn ss j) (on d (rowIn ss j))) (own-bit j hj j z ∙ bit-pow-same j) ∙ xor-self (rowIn ss j))
       (λ a ne z. product-unseen (getD cs j 0) (rowIn ss j) ss (2 ^ a) (own-bit j hj a z ∙ bit-pow-other a j ne) ∙ h a ne z)
+
+-- ---- a row that is freed
+
+-- its new column is the column of the vector that leaves
+pub leaving-column : (n i j k : ℕ) (cs : List ℕ) → length cs ≡ n → j < n → product cs k ≡ 2 ^ i → bit j (getD cs i 0) ≡ 1
+    → getD (exchange i j (colStep (getD cs i 0) (bitXor k (2 ^ j)) cs)) j 0 ≡ getD cs i 0
+leaving-column n i j k cs h hj p b =
+    let u : ℕ = getD cs i 0 in
+    let l : List ℕ = colStep u (bitXor k (2 ^ j)) cs in
+    let even : dot (bitXor k (2 ^ j)) u ≡ 0 = dot-xor-l k (2 ^ j) u ∙ ap₂ differ (sym (product-bit cs k i) ∙ ap (bit i) p ∙ bit-pow-same i) (dot-pow j u ∙ b) in
+    getD-set-same (set l i (getD l j 0)) j (getD l i 0) 0 (omega (arith, length-set l i (getD l j 0), length-colStep u (bitXor k (2 ^ j)) cs))
+    ∙ colStep-getD u (bitXor k (2 ^ j)) cs i ∙ ap (λ (d : ℕ). flipIf d u u) even
+
+-- what an earlier step along that column did is undone where the row is cleared
+pub step-forgotten : (u j d : ℕ) (ss : List ℕ) → bit j u ≡ 1 → d < 2 ^ length ss → solStep u (rowIn (solStep u d ss) j) (solStep u d ss) ≡ solStep u (rowIn ss j) ss
+step-forgotten u j d ss b h =
+    let row : rowIn (solStep u d ss) j ≡ bitXor (rowIn ss j) d = product-solStep u d ss (2 ^ j) h ∙ ap (λ (e : ℕ). bitXor (rowIn ss j) (on e d)) (dot-pow j u ∙ b) in
+    solStep-xor u (rowIn (solStep u d ss) j) d ss ∙ ap (λ (x : ℕ). solStep u x ss) (ap (λ (x : ℕ). bitXor x d) row ∙ xor-out (rowIn ss j) d)
 
 -- ---- what the words give to any vector
 

@@ -29,7 +29,7 @@ rowStep-colStep u k i (c ∷ cs) =
 -- ---- two columns exchanged first
 
 module _ (u v : ℕ) where
-  colStep-getD : (cs : List ℕ) (a : ℕ) → getD (colStep u v cs) a 0 ≡ flipIf (dot v (getD cs a 0)) u (getD cs a 0)
+  pub colStep-getD : (cs : List ℕ) (a : ℕ) → getD (colStep u v cs) a 0 ≡ flipIf (dot v (getD cs a 0)) u (getD cs a 0)
   colStep-getD [] a = ap (λ (d : ℕ). flipIf d u 0) (sym (dot-zero-r v))
   colStep-getD (c ∷ cs) zero = refl
   colStep-getD (c ∷ cs) (suc a) = colStep-getD cs a

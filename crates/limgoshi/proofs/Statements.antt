@@ -31,7 +31,7 @@ use Rattle.bucket.specs.declared.Bucket.{Bucket}
 use Rattle.bucket.specs.Bucket.{lookup}
 use Rattle.bucket.specs.Answers.{liveIn}
 use Rattle.model.specs.Levels.{firstLevel, secondLevel, passed, due}
-use Rattle.model.specs.Model.{baseLimit, Call, add, change, query, wouldLeave, base}
+use Rattle.model.specs.Model.{baseLimit, Call, add, change, withdraw, query, wouldLeave, base}
 use Rattle.model.specs.Request.{subject, wordFor, Request, ask}
 use Rattle.model.specs.Machine.{accepted, after, Alike}
 use Rattle.model.specs.History.{told}
@@ -39,7 +39,7 @@ use Rattle.model.proofs.Others.{told-other}
 use Rattle.table.specs.Table as T
 use Rattle.table.specs.Table.{nth, bucketOf}
 use Rattle.table.specs.Answers.{Answered}
-use Rattle.table.specs.Calls.{rows, solutions, tableOf, shaped, FlatSound, openCall, queried, call, totalCall}
+use Rattle.table.specs.Calls.{rows, solutions, tableOf, planIn, shaped, FlatSound, openCall, queried, call, totalCall}
 use Rattle.table.specs.History.{tables, Opened, acceptedCalls, LiveWith, flatState, Same}
 use Rattle.table.specs.Causes.{openCauses, openReturns, callCauses, callReturns, totalCauses, totalReturns}
 use Rattle.table.proofs.Statements as Table
@@ -227,6 +227,12 @@ module _ (i j : Token) (v w : ℕ) (read-i : readOf i ≡ Word v) (read-j : read
 
 -- ---- lost cards, document 02, order 6: what a plane gives an identifier that is live no more, or never was
 
+-- "withdrawn cards must leave no plan behind": whatever plan an identifier had, its withdrawal leaves the same table, number for number, so the same
+-- planes from then on; in any sound table in which its word is live, with the plan q, for any plan p that may be given
+pub lost-plan : (t : List ℕ) → shaped t ≡ true → FlatSound t → (id : Token) (w p q : ℕ) → readOf id ≡ Word w → assignable p ≡ true → planIn t w ≡ some q
+    → call (call t (change id p) .table) (withdraw id) .table ≡ call t (withdraw id) .table
+lost-plan = Table.plan-forgotten
+
 -- "In every table row j of Z is 0 for each free row j" (`Clear`): in any sound table, so after any list of calls, of each bucket, first level and second
 pub free-rows : (t : List ℕ) → shaped t ≡ true → FlatSound t
     → ((i : ℕ) → i < length (tableOf t .level1) → Clear (nth rows solutions (tableOf t .level1) i .mark) (nth rows solutions (tableOf t .level1) i .sols))
@@ -253,7 +259,7 @@ module _ (t : List ℕ) (o : Opened t) (ps : List Request) (out : List ℕ) (n :
       × Answered rows (λ v. told (unmixOf (unmixOf v)) (acceptedCalls t ps)) second (secondOf w) (lookup second (secondOf w))
   answer-second = Plane.plane-second t o ps out n e id w i
 
-  -- "withdrawn cards must leave no plan behind": 0 where no live word is in the combination (`liveIn`), as in a bucket without live words
+  -- so 0 where no live word is in the combination (`liveIn`), as in a bucket without live words
   pub lost-first : T.holds rows solutions mixOf (tableOf (after tables t ps) .level1) w ≡ true → liveIn first w ≡ 0
       → lookupCall id (take n (writeCall (after tables t ps) out .output)) ≡ Accepted 0
   lost-first = Plane.plane-first-none t o ps out n e id w i

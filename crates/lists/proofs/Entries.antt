@@ -246,6 +246,15 @@ update-other e (x ∷ xs) v n =
 
 -- ---- entries: what is removed, and what is updated
 
+-- an entry that goes, whatever it became first
+pub remove-update : (e : Entry) (xs : List Entry) → remove (e .word) (update e xs) ≡ remove (e .word) xs
+remove-update e [] = refl
+remove-update e (x ∷ xs) =
+    cases (eqb (e .word) (x .word))
+    (λ t. ap (remove (e .word)) (cond-true (e ∷ xs) (x ∷ update e xs) t) ∙ cond-true xs (e ∷ remove (e .word) xs) (eq-eqb (e .word) (e .word) refl) ∙ sym (cond-true xs (x ∷ remove (e .word) xs) t))
+    (λ f. ap (remove (e .word)) (cond-false (e ∷ xs) (x ∷ update e xs) f) ∙ cond-false (update e xs) (x ∷ remove (e .word) (update e xs)) f
+    ∙ ap (λ (l : List Entry). x ∷ l) (remove-update e xs) ∙ sym (cond-false xs (x ∷ remove (e .word) xs) f))
+
 pub remove-perm : (k p : ℕ) (xs : List Entry) → find k xs ≡ some p → List·Permᴰ xs (record { word = k; plan = p } ∷ remove k xs)
 remove-perm k p [] e = absurd (none≢some e)
 remove-perm k p (x ∷ xs) e =

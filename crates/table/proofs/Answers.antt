@@ -1,22 +1,28 @@
--- What the buckets of a sound table answer to any vector: the XOR of plans of live words. Document 02, order 6, at every number of rows and
--- of solution words; S is the mix, U its inverse.
+-- What the buckets of a sound table answer to any vector: the XOR of plans of live words; and that a word that was withdrawn leaves nothing
+-- of its plan. Document 02, order 6, at every number of rows and of solution words; S is the mix, U its inverse.
 -- Assumes nothing.
-use Prim.Native.Nat.{ℕ, _/_, _^_, _<_}
+use Prim.Native.Nat.{ℕ, _-_, _/_, _^_, _<_}
 use native.Mathlib.Nat.{mod-lt}
-use mathlib.Core.Path.{_≡_, ap, _∙_, subst, subst⁻¹}
-use mathlib.Core.Bool.{true}
+use mathlib.Core.Path.{_≡_, refl, sym, ap, ap₂, _∙_, subst⁻¹}
+use mathlib.Core.Bool.{Bool, true, false}
 use mathlib.Core.Option.{Option, none, some}
 use mathlib.Core.List.{List}
-use lib.ListN.{length, getD}
+use lib.Dec.{ltb}
+use lib.ListN.{length, getD, set, length-set}
+use lib.Seq.{getD-set-same, set-set}
 use borrow.Author.Tests.{lt-ltb}
-use Rattle.lists.proofs.Tests.{cond-true, cond-false}
+use Rattle.lists.specs.Entries.{Entry}
+use Rattle.lists.specs.Totals.{oneMore, oneLess}
+use Rattle.lists.proofs.Tests.{cases, cond-true, cond-false}
+use Rattle.lists.proofs.Entries.{none≢some, remove-update}
+use Rattle.lists.proofs.Totals.{less-more}
 use Rattle.gf2.specs.Vectors.{Clear}
 use Rattle.identifier.specs.Place.{thresholds}
 use Rattle.bucket.specs.declared.Bucket.{Bucket}
-use Rattle.bucket.specs.Bucket.{lookup}
-use Rattle.bucket.proofs.Answers.{answers-combined, row-live}
+use Rattle.bucket.specs.Bucket.{emptyBucket, lookup, live, rowOf, tried, changeAt, change, withdraw}
+use Rattle.bucket.proofs.Answers.{answers-combined, row-live, plan-forgotten}
 use Rattle.bucket_settle.specs.Settle.{planOf}
-use Rattle.table.specs.Table.{Table, thr, index, second, nth, bucketOf, holds, planIn}
+use Rattle.table.specs.Table.{Table, withFirst, withSecond, withBase, withCount, withTotals, thr, index, second, put, nth, bucketOf, holds, planIn, changedIn, withdrawnFrom}
 use Rattle.table.specs.Sound.{Row, SoundLevel, SoundTable}
 use Rattle.table.specs.Answers.{Answered}
 
@@ -73,3 +79,84 @@ module _ (n r : ℕ) (S U : ℕ → ℕ) (T : Table) (h : SoundTable n r S U T) 
       let e = back v (q .vector-lt) in
       cond-false _ _ (h .passed i v q) ∙ cond-true _ _ (ap (holds n r S (T .level2)) e ∙ row-held n r S (T .level2) (h .level2) i v q)
       ∙ ap (λ (x : ℕ). planOf n x (bucketOf n r S (T .level2) x)) e ∙ row-plan n r S (T .level2) (h .level2) i v q)
+
+-- ---- a word that was withdrawn: the plan that it had makes no difference
+
+live-of : (n v q : ℕ) (b : Bucket) → planOf n v b ≡ some q → live n v b ≡ true
+live-of n v q b e = cases (live n v b) (λ t. t) (λ f. absurd (none≢some (sym (cond-false (some (lookup b v)) none f) ∙ e)))
+
+module _ (n r : ℕ) (S : ℕ → ℕ) (bs : List Bucket) (h : SoundLevel n r S bs) (v p q : ℕ) (hp : p < 2 ^ r) (e : planOf n v (bucketOf n r S bs v) ≡ some q) where
+  abbrev here : Bucket
+  here = bucketOf n r S bs v
+
+  -- the level with another plan for v
+  abbrev changed : List Bucket
+  changed = put S bs v (change n v p here .bucket)
+
+  same-index : index S (length changed) v ≡ index S (length bs) v
+  same-index = ap (λ (m : ℕ). index S m v) (length-set bs (index S (length bs) v) (change n v p here .bucket))
+
+  changed-here : bucketOf n r S changed v ≡ change n v p here .bucket
+  changed-here =
+      ap (nth n r changed) same-index ∙ getD-set-same bs (index S (length bs) v) (change n v p here .bucket) (emptyBucket n r) (index-lt n r S bs h v)
+
+  same-bound : change n v p here .bucket .bound ≡ here .bound
+  unfolding change changeAt
+  same-bound = go (live n v here)
+    where
+      go : (t : Bool) → tried t (changeAt (rowOf n v here) v p here) here .bucket .bound ≡ here .bound
+      go true = refl
+      go false = refl
+
+  still-held : holds n r S changed v ≡ holds n r S bs v
+  still-held = ap (λ (b : Bucket). ltb (thr S v) (b .bound)) changed-here ∙ ap (ltb (thr S v)) same-bound
+
+  level-forgotten : put S changed v (withdraw n v (bucketOf n r S changed v) .bucket) ≡ put S bs v (withdraw n v here .bucket)
+  level-forgotten =
+      let s = h .buckets (index S (length bs) v) (index-lt n r S bs h v) in
+      let same : withdraw n v (bucketOf n r S changed v) .bucket ≡ withdraw n v here .bucket =
+      ap (λ (b : Bucket). withdraw n v b .bucket) changed-here
+      ∙ plan-forgotten n here v p (s .sound .inverse .cols) (s .sound .inverse .cols-lt) (live-of n v q here e) (subst⁻¹ (λ (m : ℕ). p < 2 ^ m) (s .wide) hp) in
+      ap₂ (λ (i : ℕ) (b : Bucket). set changed i b) same-index same
+      ∙ set-set bs (index S (length bs) v) (change n v p here .bucket) (withdraw n v here .bucket)
+
+module _ (n r : ℕ) (S U : ℕ → ℕ) (T : Table) (h : SoundTable n r S U T) (w p q : ℕ) (hp : p < 2 ^ r) (e : planIn n r S T w ≡ some q) where
+  abbrev v : ℕ
+  v = second S w
+
+  -- the totals of the table with another plan for w, and of both without w
+  abbrev moved : List ℕ
+  moved = oneMore p (oneLess q (T .totals))
+
+  pub table-forgotten : withdrawnFrom n r S (changedIn n r S T w p q) w p ≡ withdrawnFrom n r S T w q
+  table-forgotten =
+      cases (holds n r S (T .level1) w)
+      (λ a.
+      let f = sym (cond-true _ _ a) ∙ e in
+      ap (λ (X : Table). withdrawnFrom n r S (withTotals X moved) w p) (cond-true _ _ a)
+      ∙ ap finished (cond-true _ _ (still-held n r S (T .level1) (h .level1) w p q hp f ∙ a))
+      ∙ ap₂ (λ (bs : List Bucket) (ts : List ℕ). withTotals (withCount (withFirst T bs) (T .count - 1)) ts) (level-forgotten n r S (T .level1) (h .level1) w p q hp f) totals-back
+      ∙ ap gone (sym (cond-true _ _ a)))
+      (λ a.
+      let g = sym (cond-false _ _ a) ∙ e in
+      cases (holds n r S (T .level2) v)
+      (λ c.
+      let f = sym (cond-true _ _ c) ∙ g in
+      ap (λ (X : Table). withdrawnFrom n r S (withTotals X moved) w p) (cond-false _ _ a ∙ cond-true _ _ c)
+      ∙ ap finished (cond-false _ _ a ∙ cond-true _ _ (still-held n r S (T .level2) (h .level2) v p q hp f ∙ c))
+      ∙ ap₂ (λ (bs : List Bucket) (ts : List ℕ). withTotals (withCount (withSecond T bs) (T .count - 1)) ts) (level-forgotten n r S (T .level2) (h .level2) v p q hp f) totals-back
+      ∙ ap gone (sym (cond-false _ _ a ∙ cond-true _ _ c)))
+      (λ c.
+      ap (λ (X : Table). withdrawnFrom n r S (withTotals X moved) w p) (cond-false _ _ a ∙ cond-false _ _ c)
+      ∙ ap finished (cond-false _ _ a ∙ cond-false _ _ c)
+      ∙ ap₂ (λ (es : List Entry) (ts : List ℕ). withTotals (withCount (withBase T es) (T .count - 1)) ts) (remove-update (record { word = v; plan = p }) (T .base)) totals-back
+      ∙ ap gone (sym (cond-false _ _ a ∙ cond-false _ _ c))))
+    where
+      totals-back : oneLess p moved ≡ oneLess q (T .totals)
+      totals-back = less-more p (oneLess q (T .totals))
+
+      finished : Table → Table
+      finished X = withTotals (withCount X (T .count - 1)) (oneLess p moved)
+
+      gone : Table → Table
+      gone X = withTotals (withCount X (T .count - 1)) (oneLess q (T .totals))

@@ -13,7 +13,7 @@ use borrow.Author.Tests.{eqb-true, eq-eqb, leb-true, le-leb, ltb-false}
 use Rattle.lists.specs.Entries.{Entry, assignable, find, update, remove}
 use Rattle.lists.specs.Totals.{planCount}
 use Rattle.lists.proofs.Tests.{cond-true, and-one, and-two, and-both}
-use Rattle.lists.proofs.Entries.{assignable-byte}
+use Rattle.lists.proofs.Entries.{assignable-byte, update-found}
 use Rattle.lists.proofs.Totals.{totals-length, totals-at}
 use Rattle.hash.specs.Mix.{mixOf, unmixOf}
 use Rattle.hash.proofs.Inverse.{mix-lt, unmix-lt, unmix-mix, mix-unmix}
@@ -181,13 +181,29 @@ module _ (t : List ℕ) (s : State) (h : FlatStands t s) where
     served-match (withdraw i) k = live-match (withdrawnFrom rows solutions mixOf T₀ w) (remove w (s .live)) (λ q f. withdraw-stands rows solutions mixOf keeps one T₀ s (h .stands) w l q f)
     served-match (query i) k = by-plan (queried t) (stepLive s (s .live)) (λ e. record { says = refl; stands = h }) (λ q e. record { says = refl; stands = h })
 
-  -- the numbers that an accepted change leaves give the table back
-  pub changed-back : (id : Token) (w p q : ℕ) → wordFor (change id p) ≡ Word w → planIn t w ≡ some q
-      → tableOf (numbersOf (changedIn rows solutions mixOf T₀ w p q)) ≡ changedIn rows solutions mixOf T₀ w p q
-  changed-back id w p q e k =
-      let l = word-small (change id p) w e in
-      let a = word-plan (change id p) w e in
-      back rows solutions _ (stands-shaped _ _ (change-stands rows solutions mixOf keeps one T₀ s (h .stands) w l p q (assignable-byte p a) a (sym (stands-look w l) ∙ k)))
+  -- the table that an accepted change leaves
+  module _ (id : Token) (w p q : ℕ) (e : wordFor (change id p) ≡ Word w) (k : planIn t w ≡ some q) where
+    abbrev changed : Table
+    changed = changedIn rows solutions mixOf T₀ w p q
+
+    found : find w (s .live) ≡ some q
+    found = sym (stands-look w (word-small (change id p) w e)) ∙ k
+
+    changed-stands : Stands rows solutions mixOf changed (withLive s (update (record { word = w; plan = p }) (s .live)))
+    changed-stands =
+        let a = word-plan (change id p) w e in
+        change-stands rows solutions mixOf keeps one T₀ s (h .stands) w (word-small (change id p) w e) p q (assignable-byte p a) a found
+
+    -- its numbers give it back
+    pub changed-back : tableOf (numbersOf changed) ≡ changed
+    changed-back = back rows solutions changed (stands-shaped changed _ changed-stands)
+
+    pub changed-flat : FlatStands (numbersOf changed) (withLive s (update (record { word = w; plan = p }) (s .live)))
+    changed-flat = numbers-stand changed _ changed-stands range
+
+    -- the word has the plan
+    pub changed-found : find w (update (record { word = w; plan = p }) (s .live)) ≡ some p
+    changed-found = update-found (record { word = w; plan = p }) q (s .live) found
 
   -- each call follows the model
   pub call-match : (c : Call Token) → Match (call t c) (serve s c)

@@ -16,7 +16,7 @@ use Rattle.lists.specs.Entries.{Entry, planLimit, deskPlan, assignable, words, 
 use Rattle.lists.specs.Totals.{planCount, totalsOf, sumOf}
 use Rattle.lists.proofs.Tests.{cond-true}
 use Rattle.lists.proofs.Keep.{keep-in, keep-out}
-use Rattle.lists.proofs.Entries.{find-mem, mem-find, keep-ascending}
+use Rattle.lists.proofs.Entries.{assignable-byte, find-mem, mem-find, keep-ascending}
 use Rattle.gf2.specs.Vectors.{Clear}
 use Rattle.gf2.specs.Bound.{Largest}
 use Rattle.hash.specs.Mix.{mixOf, unmixOf}
@@ -35,21 +35,21 @@ use Rattle.bucket.specs.declared.Bucket.{Bucket}
 use Rattle.bucket.specs.Bucket.{lookup}
 use Rattle.bucket_words.specs.Words.{bucketWords, wordsOf, bucketFrom}
 use Rattle.model.specs.Levels.{firstLevel, secondLevel, passed, due}
-use Rattle.model.specs.Model.{State, Call, add, query, opened, wouldLeave, base}
-use Rattle.model.specs.Request.{subject, planAllowed, wordFor, askOf, serveRead, Request, callsOf}
+use Rattle.model.specs.Model.{State, Call, add, change, withdraw, query, opened, wouldLeave, base}
+use Rattle.model.specs.Request.{subject, planAllowed, withPlan, wordFor, askOf, serveRead, Request, callsOf}
 use Rattle.model.specs.Machine.{accepted, after, answers, Alike, Refines}
 use Rattle.model.specs.History.{model, addsIn, withdrawalsIn, told}
 use Rattle.model.proofs.Valid.{valid-opened}
 use Rattle.model.proofs.Calls.{count-after, told-after}
 use Rattle.model.proofs.Requests.{word-small, stands-for}
 use Rattle.model.proofs.Statements as Model
-use Rattle.table.specs.Table.{Table, totalNumbers, withFirst, withSecond, bounds, nth, bucketOf, addedTo}
+use Rattle.table.specs.Table.{Table, totalNumbers, withFirst, withSecond, bounds, nth, bucketOf, changedIn, withdrawnFrom, addedTo}
 use Rattle.table.specs.Layout.{buckets1At, buckets2At, baseCountAt, liveCountAt, numbersOf, tableFrom, bucketPlace, lengthOf, longest}
 use Rattle.table.specs.Content.{entriesOf}
 use Rattle.table.specs.AtOnce.{addedAtOnce}
 use Rattle.table.specs.Sound.{SoundTable}
 use Rattle.table.specs.Answers.{Answered}
-use Rattle.table.specs.Calls.{rows, solutions, tableOf, planIn, shaped, sound, FlatSound, openCall, queried, served, callRead, call, totalCall}
+use Rattle.table.specs.Calls.{rows, solutions, tableOf, planIn, shaped, sound, FlatSound, Outcome, openCall, replaced, queried, served, callRead, call, totalCall}
 use Rattle.table.specs.History.{request, tables, Opened, acceptedCalls, LiveWith, flatState, Same}
 use Rattle.table.specs.Causes.{openCauses, openReturns, wrongTable, notSound, wordCauses, callCauses, soundCauses, callReturns, totalCauses, totalReturns}
 use Rattle.table.proofs.Numbers as Numbers
@@ -209,6 +209,27 @@ pub served-sound : (t : List ℕ) → shaped t ≡ true → FlatSound t → (w :
 served-sound t k h w l c f =
     let m = Calls.served-match t (flatState t) (sound-stands t k h) w l c f in
     (m .stands .shape, Calls.stands-flat (served t (askOf w c) .table) _ (m .stands))
+
+-- document 02, order 6, "withdrawn cards must leave no plan behind": whatever plan an identifier had, its withdrawal leaves the same numbers,
+-- every one; for any sound table in which it is live, with the plan q, and any plan p that may be given
+pub plan-forgotten : (t : List ℕ) → shaped t ≡ true → FlatSound t → (id : Token) (w p q : ℕ) → readOf id ≡ Word w → assignable p ≡ true → planIn t w ≡ some q
+    → call (call t (change id p) .table) (withdraw id) .table ≡ call t (withdraw id) .table
+unfolding served
+plan-forgotten t k h id w p q i a f =
+    let s = sound-stands t k h in
+    let for : wordFor (change id p) ≡ Word w = ap (withPlan (assignable p)) i ∙ cond-true _ _ a in
+    let leave : wordFor (withdraw id) ≡ Word w = ap (withPlan true) i in
+    let T : Table = tableOf t in
+    let C : Table = changedIn rows solutions mixOf T w p q in
+    let u : List ℕ = numbersOf C in
+    let st = Calls.changed-flat t (flatState t) s id w p q for f in
+    let sd = stands-sound u _ st in
+    let plan : planIn u w ≡ some p = Calls.stands-look u _ st w (word-small (change id p) w for) ∙ Calls.changed-found t (flatState t) s id w p q for f in
+    ap (λ (o : Outcome). call (o .table) (withdraw id) .table) (causes-else t (change id p) w for k (stands-sound t _ s .1) ∙ ap (replaced t (changedIn rows solutions mixOf T w p)) f)
+    ∙ ap (λ (o : Outcome). o .table) (causes-else u (withdraw id) w leave (sd .0) (sd .1) ∙ ap (replaced u (withdrawnFrom rows solutions mixOf (tableOf u) w)) plan)
+    ∙ ap (λ (X : Table). numbersOf (withdrawnFrom rows solutions mixOf X w p)) (Calls.changed-back t (flatState t) s id w p q for f)
+    ∙ ap numbersOf (Answers.table-forgotten rows solutions mixOf unmixOf T (h .table) w p q (assignable-byte p a) f)
+    ∙ sym (ap (λ (o : Outcome). o .table) (causes-else t (withdraw id) w leave k (stands-sound t _ s .1) ∙ ap (replaced t (withdrawnFrom rows solutions mixOf T w)) f))
 
 -- ---- sound tables, also those handed in from elsewhere
 

@@ -65,14 +65,20 @@ impl History {
         }
     }
 
-    /// The withdrawal of a live card, which had this plan.
+    /// The withdrawal of a live card, which had this plan. Had it another one, the table afterwards is the same.
     fn withdraw(&mut self, card: &Card, plan: u8) {
         let word = card.word().expect("a card");
+        let (mut other_t, other) = (self.ours_t.clone(), (plan + 1) % 255);
+        let ours = ours::change(&mut other_t, card.kind, &card.id, other);
+        same("changed", card, ours, Answer::accepted(plan.into()));
+        let ours = ours::withdraw(&mut other_t, card.kind, &card.id);
+        same("other plan", card, ours, Answer::accepted(other.into()));
         let ours = ours::withdraw(&mut self.ours_t, card.kind, &card.id);
         let answer = self.shape.withdraw(&mut self.t, word);
         self.called.same("withdraw", card, ours, answer.into());
         same("former plan", card, ours, Answer::accepted(plan.into()));
         same_all("table", card, &self.ours_t, &self.t);
+        same_all("table of the other plan", card, &other_t, &self.ours_t);
         self.plans.remove(&word);
     }
 
