@@ -119,10 +119,11 @@ pub(crate) fn rows_clear(mark: u64, sols: [u64; Bucket::SOLUTIONS]) -> bool
     let mut i: usize = 0;
     while i < Bucket::SOLUTIONS {
         let s = sols[i];
-        if s ^ (s & mark) != 0 {
+        if s ^ (s & mark) == 0 {
+            i += 1;
+        } else {
             return false;
         }
-        i += 1;
     }
     true
 }

@@ -37,12 +37,6 @@ mul-s c = search needs
 array-read-s : tie.Need-array-read-s Inv-loop μ-loop
 array-read-s c = search needs
 
-returns : tie.Need-returns Inv-loop μ-loop
-returns c =
-    let b = c .before .before in
-    let a = b .before .args in
-    go-on _ (all-next (a .t2) (none-out (a .mark)) (b .loop .i) (subst⁻¹ (λ (l : ℕ). b .loop .i < l) (sized (b .before)) (c .before .loop-test .taken))) (ne-eqb _ _ (c .if1 .taken)) (b .loop .inv .1)
-
 add-i : tie.Need-add-i Inv-loop μ-loop
 add-i c = search needs
 
@@ -53,7 +47,13 @@ loop-again : tie.Need-loop-again Inv-loop μ-loop
 loop-again c =
     let b = c .before .before in
     let a = b .before .args in
-    (omega arith, go-on _ (all-next (a .t2) (none-out (a .mark)) (b .loop .i) (subst⁻¹ (λ (l : ℕ). b .loop .i < l) (sized (b .before)) (c .before .loop-test .taken))) (eq-eqb _ _ (c .if1 .left)) (b .loop .inv .1))
+    (omega arith, go-on _ (all-next (a .t2) (none-out (a .mark)) (b .loop .i) (subst⁻¹ (λ (l : ℕ). b .loop .i < l) (sized (b .before)) (c .before .loop-test .taken))) (eq-eqb _ _ (c .if1 .taken)) (b .loop .inv .1))
+
+returns : tie.Need-returns Inv-loop μ-loop
+returns c =
+    let b = c .before .before in
+    let a = b .before .args in
+    go-on _ (all-next (a .t2) (none-out (a .mark)) (b .loop .i) (subst⁻¹ (λ (l : ℕ). b .loop .i < l) (sized (b .before)) (c .before .loop-test .taken))) (ne-eqb _ _ (c .if1 .left)) (b .loop .inv .1)
 
 returns-2 : tie.Need-returns-2 Inv-loop μ-loop
 returns-2 c =
@@ -70,8 +70,8 @@ rows-clear-spec =
     loop-holds
     mul-s
     array-read-s
-    returns
     add-i
     loop-less
     loop-again
+    returns
     returns-2)
