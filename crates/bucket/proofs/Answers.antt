@@ -4,16 +4,16 @@
 use mathlib.Core.Path.{_≡_, refl, sym, ap, _∙_, subst, subst⁻¹}
 use mathlib.Core.Bool.{Bool, true}
 use mathlib.Core.List.{List, map}
-use Prim.Native.Nat.{ℕ, zero, suc, _^_, _<_, min}
-use native.Mathlib.Nat.{lt-of-not-le}
+use Prim.Native.Nat.{ℕ, _^_, _<_}
 use native.Mathlib.Omega.{arith}
 use lib.Bits.{bitXor, bitAnd, and-zero-r, xor-lt}
 use lib.Count.{trailingZeros}
-use lib.ListN.{length, getD, replicate, length-replicate}
+use lib.ListN.{length, getD, replicate}
 use lib.Seq.{ext-getD}
 use Rattle.lists.proofs.Tests.{T→true}
+use Rattle.lists.proofs.Parts.{zeros}
 use Rattle.gf2.specs.Vectors.{bit, outside, product, combine, colStep, solStep, exchange, units, rowIn, Inverse}
-use Rattle.gf2.proofs.Bit.{bit-zero, bit-lt, bit-high, bit-and}
+use Rattle.gf2.proofs.Bit.{bit-zero, bit-set-lt, bit-and-r}
 use Rattle.gf2.proofs.Linear.{product-lt, combine-zero, combine-pow}
 use Rattle.gf2.proofs.Lowest.{tz-bit}
 use Rattle.gf2.proofs.Inverse.{unique, empty, length-units, getD-units}
@@ -40,14 +40,11 @@ module _ (n : ℕ) (K : List ℕ) (b : Bucket) (s : Sound n K b) where
   pub alone-none : b .mark ≡ 0 → (k : ℕ) → liveIn b k ≡ 0
   alone-none m k = ap (bitAnd (product (b .cols) k)) m ∙ and-zero-r (product (b .cols) k)
 
-  occupied-lt : (i : ℕ) → bit i (b .mark) ≡ 1 → i < n
-  occupied-lt i m = lt-of-not-le (λ h. let z : bit i (b .mark) ≡ 0 = bit-high n i (b .mark) (s .mark-lt) h in omega arith)
-
   -- an occupied row is a live vector
   pub row-live : (i : ℕ) → bit i (b .mark) ≡ 1 → live n (getD K i 0) b ≡ true
   row-live i m =
       live-test n K b s (getD K i 0) (s .inverse .rows-lt i)
-      ∙ T→true _ (row→elem (b .mark) K i (subst⁻¹ (λ (l : ℕ). i < l) (s .inverse .rows) (occupied-lt i m)) m)
+      ∙ T→true _ (row→elem (b .mark) K i (subst⁻¹ (λ (l : ℕ). i < l) (s .inverse .rows) (bit-set-lt n i (b .mark) (s .mark-lt) m)) m)
 
 -- columns, mark and the plans of the live vectors settle the solution words
 pub solutions-settled : (n : ℕ) (K L : List ℕ) (a b : Bucket) → Sound n K a → Sound n L b → a .cols ≡ b .cols → a .mark ≡ b .mark → length (a .sols) ≡ length (b .sols)
@@ -63,15 +60,8 @@ emptied n r K b s e m =
     let hj : j < n = subst (λ (x : ℕ). j < x) (s .inverse .rows) l in
     s .free j hj (ap (bit j) m ∙ bit-zero j) ∙ sym (getD-units n j hj)) in
     let c : b .cols ≡ units n = unique n (b .cols) (units n) (units n) (subst (Inverse n (b .cols)) k (transpose n K (b .cols) (s .inverse))) (empty n) in
-    let z : b .sols ≡ replicate r 0 = ext-getD 0 (b .sols) (replicate r 0) (e ∙ sym (length-replicate r 0)) (λ a l.
-    let y : getD (b .sols) a 0 ≡ 0 = omega (arith, clear-le (b .mark) (b .sols) (s .clear) a) in
-    y ∙ sym (zeros r a)) in
+    let z : b .sols ≡ replicate r 0 = sym (zeros (b .sols) (λ a. omega (arith, clear-le (b .mark) (b .sols) (s .clear) a))) ∙ ap (λ (l : ℕ). replicate l 0) e in
     λ i. record { cols = c i; mark = m i; sols = z i; bound = b .bound }
-  where
-    zeros : (r a : ℕ) → getD {A = ℕ} (replicate r 0) a 0 ≡ 0
-    zeros zero a = refl
-    zeros (suc r) zero = refl
-    zeros (suc r) (suc a) = zeros r a
 
 -- ---- a vector that was withdrawn
 
@@ -123,7 +113,7 @@ module _ (n : ℕ) (K : List ℕ) (b : Bucket) (s : Sound n K b) (k : ℕ) (hk :
         plans = kept;
         answer = answers-combined n _ _ w k hk
             ∙ combine-alike (lookup (withdrawAt n i k b)) (lookup b) (left-rows n K b i k s hi e m) (bitAnd p q)
-            (λ a z. kept a (let y : min (bit a p) (bit a q) ≡ 1 = sym (bit-and a p q) ∙ z in omega (arith, bit-lt a q)));
+            (λ a z. kept a (bit-and-r a p q z));
         none = answers-none n _ _ w k hk;
       }
 

@@ -6,7 +6,6 @@ use mathlib.Core.Path.{_≡_, sym, ap, ap₂, _∙_, subst, subst₂}
 use mathlib.Core.Bool.{Bool, true, false, not, _&&_}
 use mathlib.Core.List.{List, _∷_, Perm, Perm·symm, Perm·trans, Perm·cons, Perm·cons-inv, List·Permᴰ}
 use Prim.Native.Nat.{ℕ, _-_, _^_, _<_, max}
-use native.Mathlib.Nat.{lt-of-not-le}
 use native.Mathlib.Decide.{ℕ-discrete}
 use native.Mathlib.Omega.{arith}
 use lib.Pow.{pow-pos, pow-lt}
@@ -18,7 +17,7 @@ use lib.Seq.{getD-set-same, getD-set-other, set-set}
 use Rattle.lists.proofs.Tests.{bool-ext, and-l, and-r, and-i, eq-T, T→true, nT→false}
 use Rattle.gf2.specs.Vectors.{bit, outside, product, combine, colStep, solStep, exchange, rowIn, Inverse, units}
 use Rattle.gf2.specs.Select.{elem, sums, chosen, Within}
-use Rattle.gf2.proofs.Bit.{by-place, bit-zero, bit-lt, bit-pow-same, bit-pow-other, bit-high, dot-pow}
+use Rattle.gf2.proofs.Bit.{by-place, bit-zero, bit-lt, bit-pow-same, bit-pow-other, bit-set-lt, dot-pow}
 use Rattle.gf2.proofs.Linear.{product-bit, product-lt, combine-pow}
 use Rattle.gf2.proofs.Inverse.{replace-row, exchange-rows, empty, getD-units, exchange-same}
 use Rattle.gf2.proofs.Lowest.{bit-or, bit-outside, outside-lt, tz-bit, tz-lt, tz-pow}
@@ -177,7 +176,7 @@ module _ (n : ℕ) (K : List ℕ) (b : Bucket) (i k : ℕ) (s : Sound n K b) (hi
   withdraw-others a m =
       let w = withdraw-sound n K b i k s hi hk hm in
       let j : ℕ = trailingZeros n (getD (b .cols) i 0) in
-      let l : a < n = lt-of-not-le (λ h. let z : bit a (outside (b .mark) (2 ^ j)) ≡ 0 = bit-high n a (outside (b .mark) (2 ^ j)) (w .mark-lt) h in omega arith) in
+      let l : a < n = bit-set-lt n a (outside (b .mark) (2 ^ j)) (w .mark-lt) m in
       let ne : j ≡ a → ⊥ = (λ e. let z : bit a (outside (b .mark) (2 ^ j)) ≡ 0 = subst (λ (x : ℕ). bit x (outside (b .mark) (2 ^ j)) ≡ 0) e (freed-clear n K b i k s hi hk hm) in omega arith) in
       plan-kept n (left-rows n K b i k s hi hk hm) _ (b .sols) (w .inverse) j (freed-row n K b i k s hi hk hm) (rowIn (b .sols) j) a l ne
 
@@ -199,7 +198,7 @@ live-test n K b s k hk = bool-ext (eqb p (2 ^ i) && eqb (bit i (b .mark)) 1) (el
         let e : p ≡ 2 ^ i = eqb→eq p (2 ^ i) (and-l (eqb p (2 ^ i)) (eqb (bit i (b .mark)) 1) t) in
         let m : bit i (b .mark) ≡ 1 = eqb→eq (bit i (b .mark)) 1 (and-r (eqb p (2 ^ i)) (eqb (bit i (b .mark)) 1) t) in
         let row : getD K i 0 ≡ k = sym (combine-pow K i) ∙ ap (combine K) (sym e) ∙ s .inverse .back k hk in
-        let l : i < n = lt-of-not-le (λ h. let z : bit i (b .mark) ≡ 0 = bit-high n i (b .mark) (s .mark-lt) h in omega arith) in
+        let l : i < n = bit-set-lt n i (b .mark) (s .mark-lt) m in
         subst (λ (x : ℕ). T (elem x (chosen (b .mark) K))) row (row→elem (b .mark) K i (subst (λ (w : ℕ). i < w) (sym (s .inverse .rows)) l) m)
 
     fro : T (elem k (chosen (b .mark) K)) → T (eqb p (2 ^ i) && eqb (bit i (b .mark)) 1)

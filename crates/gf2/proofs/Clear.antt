@@ -7,11 +7,12 @@ use Prim.Native.Nat.{ℕ, zero, suc, _-_, _/_, _%_, _^_, _≤_, _<_, min}
 use native.Mathlib.Decide.{decLt}
 use native.Mathlib.Omega.{arith}
 use lib.Bits.{bitXor, bitAnd, differ, xor-self, and-le-r}
-use lib.ListN.{length, getD, set, replicate, length-set}
+use lib.ListN.{length, getD, set, replicate, length-set, List·getD-eq-default, List·getD-map}
 use lib.Pow.{pow-lt}
 use lib.Seq.{ext-getD, getD-set-same}
+use Rattle.lists.proofs.Parts.{zero-at}
 use Rattle.gf2.specs.Vectors.{bit, on, flipIf, outside, dot, product, combine, colStep, solStep, exchange, rowIn, Clear, Inverse}
-use Rattle.gf2.proofs.Bit.{two, by-place, bit-zero, bit-low, bit-suc, bit-lt, bit-ext, bit-below, bit-high, xor-out, bit-pow-same, bit-pow-other, bit-pow-swap, and-low, and-half, bit-and, dot-pow, dot-xor-l}
+use Rattle.gf2.proofs.Bit.{two, by-place, bit-zero, bit-low, bit-suc, bit-lt, bit-ext, bit-below, bit-high, xor-out, bit-pow-same, bit-pow-other, bit-pow-swap, and-low, and-half, bit-and-r, dot-pow, dot-xor-l}
 use Rattle.gf2.proofs.Linear.{on-zero, product-xor, product-zero, product-bit, product-lt}
 use Rattle.gf2.proofs.Lowest.{bit-outside}
 use Rattle.gf2.proofs.Solutions.{product-solStep, product-unseen, solStep-xor}
@@ -46,12 +47,7 @@ clear-le mark ss h c =
 
 -- words that are 0
 pub clear-zeros : (r : ℕ) → Clear 0 (replicate r 0)
-clear-zeros r = words-clear 0 (replicate r 0) (none r)
-  where
-    none : (r c : ℕ) → outside (getD (replicate r 0) c 0) 0 ≡ 0
-    none zero c = refl
-    none (suc r) zero = refl
-    none (suc r) (suc c) = none r c
+clear-zeros r = words-clear 0 (replicate r 0) (λ c. ap (λ (x : ℕ). outside x 0) (zero-at r c))
 
 module _ (n mark : ℕ) (K cs ss : List ℕ) (inv : Inverse n K cs) (free : (j : ℕ) → j < n → bit j mark ≡ 0 → getD K j 0 ≡ 2 ^ j) where
   -- ---- a step along a column
@@ -125,35 +121,26 @@ combine-alike f g (k ∷ K) p h =
     (two (λ d. p % 2 ≡ d → on d (f k) ≡ on d (g k)) (λ z. refl) (λ z. h 0 (bit-low p ∙ z)) (p % 2) (omega arith) refl)
     (combine-alike f g K (p / 2) (λ i z. h (suc i) (bit-suc i p ∙ z)))
 
-getD-map-zero : (f : ℕ → ℕ) → f 0 ≡ 0 → (K : List ℕ) (i : ℕ) → getD (map f K) i 0 ≡ f (getD K i 0)
-getD-map-zero f e [] i = sym e
-getD-map-zero f e (k ∷ K) zero = refl
-getD-map-zero f e (k ∷ K) (suc i) = getD-map-zero f e K i
-
 module _ (n mark : ℕ) (K cs : List ℕ) (inv : Inverse n K cs) (free : (j : ℕ) → j < n → bit j mark ≡ 0 → getD K j 0 ≡ 2 ^ j) (hm : mark < 2 ^ n) where
   -- the XOR of the products of the marked rows in k's combination
   pub clear-combined : (ss : List ℕ) → Clear mark ss → (k : ℕ) → k < 2 ^ n → product ss k ≡ combine (map (product ss) K) (bitAnd (product cs k) mark)
   clear-combined ss h k hk =
       ap (product ss) (sym (inv .back k hk)) ∙ product-combine ss K (product cs k)
-      ∙ combine-named mark (map (product ss) K) (product cs k) (λ i z. getD-map-zero (product ss) (product-zero ss) K i ∙ row-zero i z)
+      ∙ combine-named mark (map (product ss) K) (product cs k)
+      (λ i z. subst (λ (d : ℕ). getD (map (product ss) K) i d ≡ product ss (getD K i 0)) (product-zero ss) (List·getD-map (product ss) K i 0) ∙ row-zero i z)
     where
       row-zero : (i : ℕ) → bit i mark ≡ 0 → product ss (getD K i 0) ≡ 0
       row-zero i z = elim (decLt i n) [
         | yes l ↦ ap (product ss) (free i l z) ∙ h i z
-        | no g ↦ ap (product ss) (past K i (subst (λ (m : ℕ). i < m → ⊥) (sym (inv .rows)) g)) ∙ product-zero ss
+        | no g ↦ ap (product ss) (List·getD-eq-default K 0 (let e = inv .rows in omega arith)) ∙ product-zero ss
       ]
-        where
-          past : (xs : List ℕ) (i : ℕ) → (i < length xs → ⊥) → getD xs i 0 ≡ 0
-          past [] i g = refl
-          past (x ∷ xs) zero g = absurd (g (omega arith))
-          past (x ∷ xs) (suc i) g = past xs i (λ l. g (omega arith))
 
   module _ (ss ts : List ℕ) (hs : Clear mark ss) (ht : Clear mark ts) (same : (i : ℕ) → bit i mark ≡ 1 → product ss (getD K i 0) ≡ product ts (getD K i 0)) where
     -- the products of the marked rows settle that of any vector
     pub combined-alike : (k : ℕ) → k < 2 ^ n → product ss k ≡ product ts k
     combined-alike k hk =
         clear-combined ss hs k hk
-        ∙ combine-alike (product ss) (product ts) K (bitAnd (product cs k) mark) (λ i z. same i (let y : min (bit i (product cs k)) (bit i mark) ≡ 1 = sym (bit-and i (product cs k) mark) ∙ z in omega (arith, bit-lt i mark)))
+        ∙ combine-alike (product ss) (product ts) K (bitAnd (product cs k) mark) (λ i z. same i (bit-and-r i (product cs k) mark z))
         ∙ sym (clear-combined ts ht k hk)
 
     -- so they settle the words
