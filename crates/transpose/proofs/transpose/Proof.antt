@@ -1,0 +1,58 @@
+-- `transpose::transpose` meets its contract: six steps, and the words of the last result fit.
+-- Assumes nothing.
+use mathlib.Core.Path.{_≡_}
+use mir.Syntax.{w64}
+use mir.Val.{Fits}
+use Prim.Native.Nat.{ℕ}
+use lib.ListN.{length, getD}
+use Rattle.transpose.proofs.Transposed.{transposed-is}
+use Rattle.transpose.proofs.Shuffling.{six-steps}
+use borrow.Author.Needs.{needs}
+use Rattle.transpose.proofs.transpose.Statement.{statement}
+use Rattle.transpose.proofs.transpose.Tie as tie
+
+shuffle-requires : tie.Need-shuffle-requires
+shuffle-requires c κs = search needs
+
+shuffle-requires-2 : tie.Need-shuffle-requires-2
+shuffle-requires-2 c κs = search needs
+
+shuffle-requires-3 : tie.Need-shuffle-requires-3
+shuffle-requires-3 c κs = search needs
+
+shuffle-requires-4 : tie.Need-shuffle-requires-4
+shuffle-requires-4 c κs = search needs
+
+shuffle-requires-5 : tie.Need-shuffle-requires-5
+shuffle-requires-5 c κs = search needs
+
+shuffle-requires-6 : tie.Need-shuffle-requires-6
+shuffle-requires-6 c κs = search needs
+
+returns : tie.Need-returns
+returns c =
+    let s₁ = c .before .before .before .before .before .shuffle in
+    let s₂ = c .before .before .before .before .shuffle2 in
+    let s₃ = c .before .before .before .shuffle3 in
+    let s₄ = c .before .before .shuffle4 in
+    let s₅ = c .before .shuffle5 in
+    let s₆ = c .shuffle6 in
+    let start = c .before .before .before .before .before .before in
+    let ws = start .args .words in
+    let lw : length ws ≡ 64 = search (needs, start .good) in
+    let lr : length (s₆ .result) ≡ 64 = search needs in
+    let fits : (i : ℕ) → Fits w64 (getD (s₆ .result) i 0) = λ i. search needs in
+    transposed-is 64 64 ws (s₆ .result) lw lr (λ i. fits i .fits)
+    (six-steps ws (s₁ .result) (s₂ .result) (s₃ .result) (s₄ .result) (s₅ .result) (s₆ .result) (s₁ .ensures) (s₂ .ensures) (s₃ .ensures) (s₄ .ensures) (s₅ .ensures) (s₆ .ensures))
+
+pub transpose-spec : {M : Type 1} → statement M
+transpose-spec =
+    tie.close
+    (tie.spec
+    shuffle-requires
+    shuffle-requires-2
+    shuffle-requires-3
+    shuffle-requires-4
+    shuffle-requires-5
+    shuffle-requires-6
+    returns)

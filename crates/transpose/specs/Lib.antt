@@ -1,0 +1,3 @@
+-- The definitions that the contracts of the crate cite.
+pub mod Transposed
+pub mod Shuffle
