@@ -1,0 +1,119 @@
+-- `bucket_blocks::guess_rows` meets its contract. The loop's invariant: the left words are the products of the right ones.
+-- Assumes nothing.
+use mathlib.Core.Path.{_≡_, refl, sym, ap, _∙_, subst}
+use mir.Syntax.{w64}
+use mir.Val.{Fits}
+use Prim.Native.Nat.{_-_, _≤_}
+use native.Mathlib.Omega.{arith}
+use lib.ListN.{length}
+use Rattle.gf2.specs.Vectors.{product}
+use Rattle.gf2.proofs.Linear.{product-xor}
+use Rattle.bucket_blocks.specs.Pairs.{Tied}
+use Rattle.bucket_blocks.proofs.Tied.{pairs-begin, read-guessed, none-guessed}
+use borrow.Author.Needs.{needs}
+use Rattle.bucket_blocks.proofs.guess_rows.Statement.{statement}
+use Rattle.bucket_blocks.proofs.guess_rows.Tie as tie
+
+abbrev Inv-loop : tie.InvT-loop
+Inv-loop cols mark start ws₀ window₀ p₀ b₀ ws window p b = (length ws ≡ 176) × (length window ≡ 32) × Tied (product cols) ws × Tied (product cols) window
+
+abbrev μ-loop : tie.MeasureT-loop
+μ-loop cols mark start ws₀ window₀ p₀ b₀ ws window p b = 16 - b
+
+transpose-requires : tie.Need-transpose-requires Inv-loop μ-loop
+transpose-requires c κs = search needs
+
+pairs-of-requires : tie.Need-pairs-of-requires Inv-loop μ-loop
+pairs-of-requires c κs = search needs
+
+slice-aggregate-window-of : tie.Need-slice-aggregate-window-of Inv-loop μ-loop
+slice-aggregate-window-of c = search needs
+
+window-of-requires : tie.Need-window-of-requires Inv-loop μ-loop
+window-of-requires c κs = search needs
+
+loop-holds : tie.Need-loop-holds Inv-loop μ-loop
+loop-holds c = 
+    let g = c .before .before .before .before .before in
+    let s = c .before .before .before .pairs-of in
+    let n : length (g .args .cols) ≡ 64 = search needs in
+    let m : Fits w64 (g .args .mark) = search needs in
+    let t = pairs-begin 64 (g .args .mark) (g .args .cols) (c .before .before .before .before .transpose .result) (s .result .words) n (m .fits) (g .pre) (c .before .before .before .before .transpose .ensures) (s .ensures .1) in
+    (search needs, search needs, t, c .window-of .ensures (product (g .args .cols)) (product-xor (g .args .cols)) (t, tt) .0)
+
+slice-aggregate-block : tie.Need-slice-aggregate-block Inv-loop μ-loop
+slice-aggregate-block c = search needs
+
+slice-aggregate-block-2 : tie.Need-slice-aggregate-block-2 Inv-loop μ-loop
+slice-aggregate-block-2 c = search needs
+
+mul-block : tie.Need-mul-block Inv-loop μ-loop
+mul-block c = search needs
+
+block-requires : tie.Need-block-requires Inv-loop μ-loop
+block-requires c κs = (omega arith, c .before .before .before .before .before .before .before .pairs-of .ensures .0, c .before .before .before .loop .inv .0, c .before .before .before .loop .inv .1)
+
+add-b : tie.Need-add-b Inv-loop μ-loop
+add-b c = search needs
+
+loop-less : tie.Need-loop-less Inv-loop μ-loop
+loop-less c = search needs
+
+loop-again : tie.Need-loop-again Inv-loop μ-loop
+loop-again c = 
+    let e = c .before .before .block .ensures in
+    let cs = c .before .before .before .before .before .before .before .before .before .before .before .before .args .cols in
+    let i = c .before .before .before .before .before .before .loop .inv in
+    let t = e .2 (product cs) (product-xor cs) (i .2, (i .3, tt)) in
+    (e .0, e .1, t .0, t .1 .0)
+
+slice-aggregate-rows-in : tie.Need-slice-aggregate-rows-in Inv-loop μ-loop
+slice-aggregate-rows-in c = search needs
+
+rows-in-requires : tie.Need-rows-in-requires Inv-loop μ-loop
+rows-in-requires c κs = (c .before .before .before .before .before .before .before .before .pairs-of .ensures .0, c .before .before .before .before .loop .inv .0)
+
+returns : tie.Need-returns Inv-loop μ-loop
+returns c = 
+    let g = c .before .before .before .before .before .before .before .before .before .before .before in
+    let n : length (g .args .cols) ≡ 64 = search (needs, g .good) in
+    let m : Fits w64 (g .args .mark) = search (needs, g .good) in
+    read-guessed 64 (g .args .mark) (g .args .cols) (c .before .before .before .before .before .loop .ws) (c .rows-in .result) n (m .fits) (g .pre) (c .before .before .before .before .before .loop .inv .2) (c .rows-in .ensures)
+
+slice-aggregate-dependence : tie.Need-slice-aggregate-dependence Inv-loop μ-loop
+slice-aggregate-dependence c = search needs
+
+dependence-requires : tie.Need-dependence-requires Inv-loop μ-loop
+dependence-requires c κs = c .before .before .before .before .loop .inv .1
+
+returns-2 : tie.Need-returns-2 Inv-loop μ-loop
+returns-2 c = 
+    let cs = c .before .before .before .before .before .before .before .before .before .before .before .args .cols in
+    let y = c .dependence in
+    let f : Fits w64 (y .result) = search needs in
+    none-guessed 64 cs (y .result) (f .fits) (sym (y .ensures (product cs) (product-xor cs) (c .before .before .before .before .before .loop .inv .3, tt) .0 0))
+
+pub guess-rows-spec : {M : Type 1} → statement M
+guess-rows-spec =
+    tie.close
+    (tie.spec
+    Inv-loop
+    μ-loop
+    transpose-requires
+    pairs-of-requires
+    slice-aggregate-window-of
+    window-of-requires
+    loop-holds
+    slice-aggregate-block
+    slice-aggregate-block-2
+    mul-block
+    block-requires
+    add-b
+    loop-less
+    loop-again
+    slice-aggregate-rows-in
+    rows-in-requires
+    returns
+    slice-aggregate-dependence
+    dependence-requires
+    returns-2)

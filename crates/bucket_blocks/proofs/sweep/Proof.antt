@@ -1,0 +1,161 @@
+-- `bucket_blocks::sweep` meets its contract. The loop keeps what is tied.
+-- Assumes nothing.
+use mathlib.Core.Path.{_≡_, refl, sym, ap, _∙_, subst}
+use mathlib.Core.List.{[], _∷_}
+use Prim.Native.Nat.{_+_, _-_, _*_, _<_}
+use native.Mathlib.Omega.{arith}
+use lib.ListN.{length}
+use Rattle.bucket_blocks.specs.Pairs.{Tied, Keeps}
+use Rattle.bucket_blocks.proofs.Tied.{length-put, tied-add, tied-put}
+use borrow.Author.Needs.{needs}
+use Rattle.bucket_blocks.proofs.sweep.Statement.{statement}
+use Rattle.bucket_blocks.proofs.sweep.Tie as tie
+
+abbrev Inv-loop : tie.InvT-loop
+Inv-loop ws₀ low high c have from to a₀ ws a = (length ws ≡ length ws₀) × Keeps (low ∷ high ∷ ws₀ ∷ []) (ws ∷ [])
+
+abbrev μ-loop : tie.MeasureT-loop
+μ-loop ws₀ low high c have from to a₀ ws a = to - a
+
+loop-holds : tie.Need-loop-holds Inv-loop μ-loop
+loop-holds c = (refl, λ f lf t. (t .1 .1 .0, tt))
+
+mul-x : tie.Need-mul-x Inv-loop μ-loop
+mul-x c = search needs
+
+mul-x-2 : tie.Need-mul-x-2 Inv-loop μ-loop
+mul-x-2 c = search needs
+
+slice-read-x : tie.Need-slice-read-x Inv-loop μ-loop
+slice-read-x c = search needs
+
+mul-y : tie.Need-mul-y Inv-loop μ-loop
+mul-y c = search needs
+
+add-y : tie.Need-add-y Inv-loop μ-loop
+add-y c = search needs
+
+mul-y-2 : tie.Need-mul-y-2 Inv-loop μ-loop
+mul-y-2 c = search needs
+
+slice-read-y : tie.Need-slice-read-y Inv-loop μ-loop
+slice-read-y c = search needs
+
+shr-index-in : tie.Need-shr-index-in Inv-loop μ-loop
+shr-index-in c = search needs
+
+index-in-requires : tie.Need-index-in-requires Inv-loop μ-loop
+index-in-requires c κs = search needs
+
+shr-index-in-2 : tie.Need-shr-index-in-2 Inv-loop μ-loop
+shr-index-in-2 c = search needs
+
+index-in-requires-2 : tie.Need-index-in-requires-2 Inv-loop μ-loop
+index-in-requires-2 c κs = search needs
+
+mul-u : tie.Need-mul-u Inv-loop μ-loop
+mul-u c = search needs
+
+mul-u-2 : tie.Need-mul-u-2 Inv-loop μ-loop
+mul-u-2 c = search needs
+
+shared-slice-read-u : tie.Need-shared-slice-read-u Inv-loop μ-loop
+shared-slice-read-u c = search needs
+
+mul-u-3 : tie.Need-mul-u-3 Inv-loop μ-loop
+mul-u-3 c = search needs
+
+mul-u-4 : tie.Need-mul-u-4 Inv-loop μ-loop
+mul-u-4 c = search needs
+
+shared-slice-read-u-2 : tie.Need-shared-slice-read-u-2 Inv-loop μ-loop
+shared-slice-read-u-2 c = search needs
+
+mul-v : tie.Need-mul-v Inv-loop μ-loop
+mul-v c = search needs
+
+add-v : tie.Need-add-v Inv-loop μ-loop
+add-v c = search needs
+
+mul-v-2 : tie.Need-mul-v-2 Inv-loop μ-loop
+mul-v-2 c = search needs
+
+shared-slice-read-v : tie.Need-shared-slice-read-v Inv-loop μ-loop
+shared-slice-read-v c = search needs
+
+mul-v-3 : tie.Need-mul-v-3 Inv-loop μ-loop
+mul-v-3 c = search needs
+
+add-v-2 : tie.Need-add-v-2 Inv-loop μ-loop
+add-v-2 c = search needs
+
+mul-v-4 : tie.Need-mul-v-4 Inv-loop μ-loop
+mul-v-4 c = search needs
+
+shared-slice-read-v-2 : tie.Need-shared-slice-read-v-2 Inv-loop μ-loop
+shared-slice-read-v-2 c = search needs
+
+put-requires : tie.Need-put-requires Inv-loop μ-loop
+put-requires c κs = search needs
+
+add-a : tie.Need-add-a Inv-loop μ-loop
+add-a c = search needs
+
+loop-less : tie.Need-loop-less Inv-loop μ-loop
+loop-less c = search needs
+
+loop-again : tie.Need-loop-again Inv-loop μ-loop
+loop-again c =
+    let b = c .before .before .before .before .before .before .before .before .before .before .before .before .before in
+    let p = c .before .before .put in
+    let h : 2 * b .loop .a + 1 < length (b .loop .ws) = omega arith in (
+      ap length (p .ensures) ∙ length-put (b .loop .a) _ _ (b .loop .ws) ∙ b .loop .inv .0,
+      λ f lf t.
+          let w = b .loop .inv .1 f lf t .0 in
+          (subst (Tied f) (sym (p .ensures)) (tied-put f (b .loop .ws) (b .loop .a) _ _ h (tied-add f lf (tied-add f lf (w (b .loop .a)) (t .0 _)) (t .1 .0 _)) w), tt),
+    )
+
+same-length : tie.Need-same-length Inv-loop μ-loop
+same-length c = c .before .loop .inv .0
+
+returns : tie.Need-returns Inv-loop μ-loop
+returns c = c .before .loop .inv
+
+pub sweep-spec : {M : Type 1} → statement M
+sweep-spec =
+    tie.close
+    (tie.spec
+    Inv-loop
+    μ-loop
+    loop-holds
+    mul-x
+    mul-x-2
+    slice-read-x
+    mul-y
+    add-y
+    mul-y-2
+    slice-read-y
+    shr-index-in
+    index-in-requires
+    shr-index-in-2
+    index-in-requires-2
+    mul-u
+    mul-u-2
+    shared-slice-read-u
+    mul-u-3
+    mul-u-4
+    shared-slice-read-u-2
+    mul-v
+    add-v
+    mul-v-2
+    shared-slice-read-v
+    mul-v-3
+    add-v-2
+    mul-v-4
+    shared-slice-read-v-2
+    put-requires
+    add-a
+    loop-less
+    loop-again
+    same-length
+    returns)
