@@ -10,14 +10,16 @@ use native.Mathlib.Omega.{arith}
 use lib.Pow.{pow-lt}
 use lib.ListN.{length, getD}
 use lib.Seq.{ext-getD}
-use Rattle.gf2.specs.Vectors.{bit, product, units, Inverse}
+use Rattle.gf2.specs.Vectors.{bit, product, combine, units, Inverse}
 use Rattle.gf2.proofs.Bit.{bit-zero, bit-high, bit-ext, bit-pow-swap, dot-pow}
-use Rattle.gf2.proofs.Linear.{product-bit}
+use Rattle.gf2.proofs.Linear.{product-bit, combine-zero}
 use Rattle.gf2.proofs.Inverse.{unique, row-is, empty, length-units, getD-units}
+use Rattle.bucket_blocks.specs.declared.Guess.{Guess}
+use Rattle.bucket_blocks.specs.Pairs.{Guessed}
 use Rattle.bucket_rows.specs.declared.Rows.{Rows}
 use Rattle.bucket_rows.specs.Exact.{FreeRows, Rowed, FoundFree}
 use Rattle.bucket_rows.specs.Elimination.{placed, answer, eliminated, freeCols, onlyIf, soundRows}
-use Rattle.bucket_rows.proofs.Found.{Found, decides}
+use Rattle.bucket_rows.proofs.Found.{Found, decides, units-found}
 use Rattle.bucket_rows.proofs.Free.{FreeBits, cols→bits, bits→cols}
 
 -- ---- the bits of the columns, and the rows
@@ -79,3 +81,12 @@ sound-yes n mark cs r e q = rw (e, q)
 pub sound-no : (n mark : ℕ) (cs : List ℕ) → freeCols 0 mark cs ≡ false → _≡_ {A = Rows} (record { ok = false; rows = cs }) (soundRows n mark cs)
 unfolding soundRows
 sound-no n mark cs e = rw e
+
+-- a guess that tells something tells that
+pub sound-guess : (n mark : ℕ) (cs : List ℕ) (g : Guess) → length cs ≡ n → ((i : ℕ) → getD cs i 0 < 2 ^ n) → ((i : ℕ) → getD (g .rows) i 0 < 2 ^ n)
+    → freeCols 0 mark cs ≡ true → g .known ≡ true → Guessed n cs g → _≡_ {A = Rows} (record { ok = g .ok; rows = g .rows }) (soundRows n mark cs)
+sound-guess n mark cs g hl hc hr e k (inl t) =
+    (λ i. record { ok = t .1 i; rows = g .rows }) ∙ sound-yes n mark cs (record { ok = true; rows = g .rows }) e (units-found n cs hl hc (g .rows) (t .2) (λ i h. hr i) (t .3))
+sound-guess n mark cs g hl hc hr e k (inr (inl t)) =
+    (λ i. record { ok = t .1 i; rows = t .2 i }) ∙ sym (none-is n mark cs hl hc (λ K w. t .3 .2 (sym (w .inverse .back (t .3 .0) (t .3 .1)) ∙ ap (combine K) (t .3 .3) ∙ combine-zero K)))
+sound-guess n mark cs g hl hc hr e k (inr (inr t)) = absurd (true≢false (sym k ∙ t .0))

@@ -18,17 +18,17 @@ use lib.Seq.{take-suc, take-all, ext-getD, getD-set-same, getD-set-other}
 use Rattle.lists.proofs.Tests.{and-r, eq-T}
 use Rattle.lists.proofs.Parts.{take-sub}
 use Rattle.lists.proofs.Keep.{sub-same, perm-length}
-use Rattle.gf2.specs.Vectors.{bit, on, flipIf, outside, product, colStep, solStep, units, Inverse}
+use Rattle.gf2.specs.Vectors.{bit, on, flipIf, outside, product, combine, colStep, solStep, units, Inverse}
 use Rattle.gf2.specs.Select.{elem, sums, indep, chosen}
 use Rattle.gf2.proofs.Bit.{by-place, bit-lt, bit-pow-same, xor-cancel}
-use Rattle.gf2.proofs.Linear.{flip-on, product-xor, product-bit, product-lt}
+use Rattle.gf2.proofs.Linear.{flip-on, product-xor, product-bit, product-lt, combine-pow}
 use Rattle.gf2.proofs.Inverse.{replace-row, product-units, empty}
 use Rattle.gf2.proofs.Lowest.{bit-or, bit-outside, outside-lt, tz-pow}
 use Rattle.gf2.proofs.Chosen.{chosen-none, chosen-sub, chosen-add}
 use Rattle.gf2.proofs.Solutions.{colStep-product, product-colStep}
 use Rattle.gf2.proofs.Select.{indep-cons, indep-subᴰ, indep-permᴰ, sums-permᴰ}
 use Rattle.gf2.proofs.Depend.{depends-test}
-use Rattle.gf2.proofs.Invert.{columns-indep, invertible, rows-read}
+use Rattle.gf2.proofs.Invert.{units-indep, invertible, rows-read}
 use Rattle.bucket_rows.specs.declared.Rows.{Rows}
 use Rattle.bucket_rows.specs.Elimination.{clearFrom, pick, Work, rowAt, stepAt, after, placed, ordered, answer, eliminated}
 use Rattle.bucket_rows.proofs.Laws.{length-clearFrom, clearFrom-before, clearFrom-at, length-ordered, getD-ordered, pick-bit, pick-none}
@@ -36,6 +36,10 @@ use Rattle.bucket_rows.proofs.Laws.{length-clearFrom, clearFrom-before,
 -- what is to be known of an answer: the rows are found exactly where there are any
 abbrev pub Found : ℕ → List ℕ → Rows → Type 0
 Found n cs r = ((r .ok ≡ true) × Inverse n (r .rows) cs) ⊎ ((r .ok ≡ false) × ((K : List ℕ) → Inverse n K cs → ⊥))
+
+-- the products of the rows with the columns are the units
+abbrev Units : ℕ → List ℕ → List ℕ → Type 0
+Units n K cs = (i : ℕ) → i < n → product cs (getD K i 0) ≡ 2 ^ i
 
 -- ---- what holds after j columns
 
@@ -163,10 +167,10 @@ module _ (n : ℕ) (cs : List ℕ) (hl : length cs ≡ n) (hc : (i : ℕ) → ge
       perm = perm-after;
     }
 
-  -- a column without a row is a sum of columns before it: no matrix has these columns in its inverse
-  refuse : (j : ℕ) (s : Work) → Good n cs j s → j < n → (rowAt n j s < n → ⊥) → (K : List ℕ) → Inverse n K cs → ⊥
+  -- a column without a row is a sum of columns before it: no rows have the units as products
+  refuse : (j : ℕ) (s : Work) → Good n cs j s → j < n → (rowAt n j s < n → ⊥) → (K : List ℕ) → Units n K cs → ⊥
   unfolding rowAt
-  refuse j s g hj none K inv = T-not (elem c (sums before)) (and-r (indep before) _ (subst T (indep-cons c before) apart)) sum
+  refuse j s g hj none K un = T-not (elem c (sums before)) (and-r (indep before) _ (subst T (indep-cons c before) apart)) sum
     where
       c : ℕ
       c = getD cs j 0
@@ -191,7 +195,7 @@ module _ (n : ℕ) (cs : List ℕ) (hl : length cs ≡ n) (hc : (i : ℕ) → ge
       apart : T (indep (c ∷ before))
       apart =
           subst T (sym (indep-permᴰ (List·Permᴰ·append-comm (c ∷ []) before)))
-          (subst (λ (l : List ℕ). T (indep l)) (take-suc cs j 0 (omega (arith, hl))) (indep-subᴰ (take-sub (suc j) cs) (columns-indep n K cs inv)))
+          (subst (λ (l : List ℕ). T (indep l)) (take-suc cs j 0 (omega (arith, hl))) (indep-subᴰ (take-sub (suc j) cs) (units-indep n K cs hl un)))
 
   finish : (s : Work) → Good n cs n s → Inverse n (ordered n (s .duals) (s .prods)) cs
   finish s g = subst (λ (l : List ℕ). Inverse n l cs) same (k .1)
@@ -228,7 +232,7 @@ module _ (n : ℕ) (cs : List ℕ) (hl : length cs ≡ n) (hc : (i : ℕ) → ge
           ∙ sym (getD-ordered n (s .duals) (s .prods) i (subst (λ (y : ℕ). i < y) (sym (g .prods-length)) l)))
 
   abbrev Run : ℕ → Type 0
-  Run j = ((placed n cs j ≡ true) × Good n cs j (after n cs j)) ⊎ ((placed n cs j ≡ false) × ((K : List ℕ) → Inverse n K cs → ⊥))
+  Run j = ((placed n cs j ≡ true) × Good n cs j (after n cs j)) ⊎ ((placed n cs j ≡ false) × ((K : List ℕ) → Units n K cs → ⊥))
 
   more : (j : ℕ) → j < n → Run j → Dec (rowAt n j (after n cs j) < n) → Run (suc j)
   unfolding placed after rowAt
@@ -249,4 +253,20 @@ module _ (n : ℕ) (cs : List ℕ) (hl : length cs ≡ n) (hc : (i : ℕ) → ge
     where
       go : Run n → Found n cs (answer (placed n cs n) (ordered n (after n cs n .duals) (after n cs n .prods)) cs)
       go (inl t) = rw (t .0) (inl (refl, finish (after n cs n) (t .1)))
-      go (inr t) = rw (t .0) (inr (refl, t .1))
+      go (inr t) = rw (t .0) (inr (refl, λ K inv. t .1 K (inv .unit)))
+
+  -- rows whose products are the units are the rows
+  pub units-found : (K : List ℕ) → length K ≡ n → ((i : ℕ) → i < n → getD K i 0 < 2 ^ n) → Units n K cs → _≡_ {A = Rows} (record { ok = true; rows = K }) (eliminated n cs)
+  unfolding eliminated
+  units-found K hk hb un = go (run n (le-refl n))
+    where
+      same : (R : List ℕ) → Inverse n R cs → K ≡ R
+      same R inv =
+          ext-getD 0 K R (hk ∙ sym (inv .rows))
+          (λ i h.
+          let l : i < n = subst (λ (m : ℕ). i < m) hk h in
+          sym (inv .back (getD K i 0) (hb i l)) ∙ ap (combine R) (un i l) ∙ combine-pow R i)
+
+      go : Run n → _≡_ {A = Rows} (record { ok = true; rows = K }) (answer (placed n cs n) (ordered n (after n cs n .duals) (after n cs n .prods)) cs)
+      go (inl t) = rw (t .0, same _ (finish (after n cs n) (t .1)))
+      go (inr t) = absurd (t .1 K un)

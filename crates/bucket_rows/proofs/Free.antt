@@ -16,6 +16,7 @@ use Rattle.lists.proofs.Tests.{and-one, and-two, and-both}
 use Rattle.gf2.specs.Vectors.{bit, outside}
 use Rattle.gf2.proofs.Bit.{bit-lt, bit-ext}
 use Rattle.gf2.proofs.Lowest.{bit-outside}
+use Rattle.bucket_blocks.specs.Pairs.{OwnOutside}
 use Rattle.bucket_rows.specs.Elimination.{freeCols}
 
 -- outside the mark each of n numbers has its own bit alone
@@ -54,10 +55,13 @@ free-all i mark (c ∷ cs) f =
     (free-all (suc i) mark cs (λ a h. let y : suc i + a ≡ i + suc a = omega arith in rw y (f (suc a) (omega arith))))
 
 module _ (n mark : ℕ) (cs : List ℕ) (hl : length cs ≡ n) where
-  pub cols→bits : freeCols 0 mark cs ≡ true → FreeBits n mark cs
-  cols→bits e a z k h =
+  pub cols→own : freeCols 0 mark cs ≡ true → OwnOutside n mark cs
+  cols→own e k h =
       let y : 0 + k ≡ k = omega arith in
-      outside→bit (getD cs k 0) (2 ^ k) mark (rw y at (free-at 0 mark cs k (subst (λ (l : ℕ). k < l) (sym hl) h) e)) a z
+      rw y at (free-at 0 mark cs k (subst (λ (l : ℕ). k < l) (sym hl) h) e)
+
+  pub cols→bits : freeCols 0 mark cs ≡ true → FreeBits n mark cs
+  cols→bits e a z k h = outside→bit (getD cs k 0) (2 ^ k) mark (cols→own e k h) a z
 
   pub bits→cols : FreeBits n mark cs → freeCols 0 mark cs ≡ true
   bits→cols f =

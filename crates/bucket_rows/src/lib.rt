@@ -147,6 +147,14 @@ pub fn rows_of(cols: [u64; WIDTH], mark: u64) -> Rows
                 rows: cols,
             };
         }
+        let guess = bucket_blocks::guess_rows(cols, mark);
+        if guess.known {
+            let rows = guess.rows;
+            return Rows {
+                ok: guess.ok,
+                rows: rows,
+            };
+        }
         return eliminate(cols, mark);
     }
     Rows {

@@ -33,7 +33,7 @@ window-of-requires : tie.Need-window-of-requires Inv-loop μ-loop
 window-of-requires c κs = search needs
 
 loop-holds : tie.Need-loop-holds Inv-loop μ-loop
-loop-holds c = 
+loop-holds c =
     let g = c .before .before .before .before .before in
     let s = c .before .before .before .pairs-of in
     let n : length (g .args .cols) ≡ 64 = search needs in
@@ -60,7 +60,7 @@ loop-less : tie.Need-loop-less Inv-loop μ-loop
 loop-less c = search needs
 
 loop-again : tie.Need-loop-again Inv-loop μ-loop
-loop-again c = 
+loop-again c =
     let e = c .before .before .block .ensures in
     let cs = c .before .before .before .before .before .before .before .before .before .before .before .before .args .cols in
     let i = c .before .before .before .before .before .before .loop .inv in
@@ -74,7 +74,7 @@ rows-in-requires : tie.Need-rows-in-requires Inv-loop μ-loop
 rows-in-requires c κs = (c .before .before .before .before .before .before .before .before .pairs-of .ensures .0, c .before .before .before .before .loop .inv .0)
 
 returns : tie.Need-returns Inv-loop μ-loop
-returns c = 
+returns c =
     let g = c .before .before .before .before .before .before .before .before .before .before .before in
     let n : length (g .args .cols) ≡ 64 = search (needs, g .good) in
     let m : Fits w64 (g .args .mark) = search (needs, g .good) in
@@ -87,7 +87,7 @@ dependence-requires : tie.Need-dependence-requires Inv-loop μ-loop
 dependence-requires c κs = c .before .before .before .before .loop .inv .1
 
 returns-2 : tie.Need-returns-2 Inv-loop μ-loop
-returns-2 c = 
+returns-2 c =
     let cs = c .before .before .before .before .before .before .before .before .before .before .before .args .cols in
     let y = c .dependence in
     let f : Fits w64 (y .result) = search needs in
