@@ -95,13 +95,14 @@ fn sweep(ws: &mut [u64], low: &[u64], high: &[u64], c: usize, have: u64, from: u
 {
     let mut a = from;
     while a < to {
-        let x = ws[2 * a];
-        let y = ws[2 * a + 1];
-        let i = index_in(x >> c, have % 16);
-        let h = index_in((x >> c) >> 4, have / 16);
-        let u = x ^ low[2 * i] ^ high[2 * h];
-        let v = y ^ low[2 * i + 1] ^ high[2 * h + 1];
-        put(ws, a, u, v);
+        let x = ws[2 * a] >> c;
+        let i = index_in(x, have % 16);
+        let h = index_in(x >> 4, have / 16);
+        let u = low[2 * i] ^ high[2 * h];
+        let v = low[2 * i + 1] ^ high[2 * h + 1];
+        let left = ws[2 * a] ^ u;
+        let right = ws[2 * a + 1] ^ v;
+        put(ws, a, left, right);
         a += 1;
     }
 }

@@ -29,26 +29,11 @@ mul-x-2 c = search needs
 slice-read-x : tie.Need-slice-read-x Inv-loop μ-loop
 slice-read-x c = search needs
 
-mul-y : tie.Need-mul-y Inv-loop μ-loop
-mul-y c = search needs
-
-add-y : tie.Need-add-y Inv-loop μ-loop
-add-y c = search needs
-
-mul-y-2 : tie.Need-mul-y-2 Inv-loop μ-loop
-mul-y-2 c = search needs
-
-slice-read-y : tie.Need-slice-read-y Inv-loop μ-loop
-slice-read-y c = search needs
-
-shr-index-in : tie.Need-shr-index-in Inv-loop μ-loop
-shr-index-in c = search needs
+shr-x : tie.Need-shr-x Inv-loop μ-loop
+shr-x c = search needs
 
 index-in-requires : tie.Need-index-in-requires Inv-loop μ-loop
 index-in-requires c κs = search needs
-
-shr-index-in-2 : tie.Need-shr-index-in-2 Inv-loop μ-loop
-shr-index-in-2 c = search needs
 
 index-in-requires-2 : tie.Need-index-in-requires-2 Inv-loop μ-loop
 index-in-requires-2 c κs = search needs
@@ -95,6 +80,27 @@ mul-v-4 c = search needs
 shared-slice-read-v-2 : tie.Need-shared-slice-read-v-2 Inv-loop μ-loop
 shared-slice-read-v-2 c = search needs
 
+mul-left : tie.Need-mul-left Inv-loop μ-loop
+mul-left c = search needs
+
+mul-left-2 : tie.Need-mul-left-2 Inv-loop μ-loop
+mul-left-2 c = search needs
+
+slice-read-left : tie.Need-slice-read-left Inv-loop μ-loop
+slice-read-left c = search needs
+
+mul-right : tie.Need-mul-right Inv-loop μ-loop
+mul-right c = search needs
+
+add-right : tie.Need-add-right Inv-loop μ-loop
+add-right c = search needs
+
+mul-right-2 : tie.Need-mul-right-2 Inv-loop μ-loop
+mul-right-2 c = search needs
+
+slice-read-right : tie.Need-slice-read-right Inv-loop μ-loop
+slice-read-right c = search needs
+
 put-requires : tie.Need-put-requires Inv-loop μ-loop
 put-requires c κs = search needs
 
@@ -105,14 +111,14 @@ loop-less : tie.Need-loop-less Inv-loop μ-loop
 loop-less c = search needs
 
 loop-again : tie.Need-loop-again Inv-loop μ-loop
-loop-again c =
-    let b = c .before .before .before .before .before .before .before .before .before .before .before .before .before in
+loop-again c = 
+    let b = c .before .before .before .before .before .before .before .before .before .before .before .before .before .before in
     let p = c .before .before .put in
     let h : 2 * b .loop .a + 1 < length (b .loop .ws) = omega arith in (
       ap length (p .ensures) ∙ length-put (b .loop .a) _ _ (b .loop .ws) ∙ b .loop .inv .0,
       λ f lf t.
           let w = b .loop .inv .1 f lf t .0 in
-          (subst (Tied f) (sym (p .ensures)) (tied-put f (b .loop .ws) (b .loop .a) _ _ h (tied-add f lf (tied-add f lf (w (b .loop .a)) (t .0 _)) (t .1 .0 _)) w), tt),
+          (subst (Tied f) (sym (p .ensures)) (tied-put f (b .loop .ws) (b .loop .a) _ _ h (tied-add f lf (w (b .loop .a)) (tied-add f lf (t .0 _) (t .1 .0 _))) w), tt),
     )
 
 same-length : tie.Need-same-length Inv-loop μ-loop
@@ -131,13 +137,8 @@ sweep-spec =
     mul-x
     mul-x-2
     slice-read-x
-    mul-y
-    add-y
-    mul-y-2
-    slice-read-y
-    shr-index-in
+    shr-x
     index-in-requires
-    shr-index-in-2
     index-in-requires-2
     mul-u
     mul-u-2
@@ -153,6 +154,13 @@ sweep-spec =
     add-v-2
     mul-v-4
     shared-slice-read-v-2
+    mul-left
+    mul-left-2
+    slice-read-left
+    mul-right
+    add-right
+    mul-right-2
+    slice-read-right
     put-requires
     add-a
     loop-less
