@@ -14,6 +14,12 @@ ghost use Rattle.bucket_blocks.specs.Pairs.{withPair, Keeps, OwnOutside,
 // Words of a table of 16 pairs, one for each sum of four pivots.
 const TABLE: usize = 32;
 
+// Words of two tables: that of the first four columns of eight, and that of the last four.
+const TABLES: usize = 64;
+
+// The pair with which the second of the two begins.
+const SECOND: usize = 16;
+
 // The pairs of the window: so many are looked at for pivots. Their words are as many as a table's.
 const AHEAD: usize = 16;
 
@@ -57,13 +63,6 @@ struct Four {
     choice: Choice,
 }
 
-// Pivots of eight columns, those of the first four and of the last four; bit k of `have` is set where column k has one.
-struct Eight {
-    first: [u64; FOUR],
-    second: [u64; FOUR],
-    have: u64,
-}
-
 // How far the elimination is: so many pairs are done, and these columns lack a pivot.
 struct Progress {
     done: usize,
@@ -87,19 +86,19 @@ fn put(ws: &mut [u64], a: usize, x: u64, y: u64)
     ws[2 * a + 1] = y;
 }
 
-// Each pair from `from` on, before `to`, is XORed with the pair of each table that has its bits at the columns: `low` is for the four from `c` on, `high` for
-// the next four.
-fn sweep(ws: &mut [u64], low: &[u64], high: &[u64], c: usize, have: u64, from: usize, to: usize)
-    requires { do ⌜ (2 * to ≤ length (now ws)) × (c < (← ⟦WIDTH⟧)) × (have < 256) × (length (now low) ≡ (← ⟦TABLE⟧)) × (length (now high) ≡ (← ⟦TABLE⟧)) ⌝ }
-    ensures { λ _. ⌜ (length (now (ws .exit)) ≡ length (now (ws .entry))) × Keeps (now (low .entry) ∷ now (high .entry) ∷ now (ws .entry) ∷ []) (now (ws .exit) ∷ []) ⌝ }
+// Each pair from `from` on, before `to`, is XORed with the pair of each table that has its bits: the first table is for the four columns from `c` on, the
+// second for the next four.
+fn sweep(ws: &mut [u64], tables: &[u64], c: usize, have: u64, from: usize, to: usize)
+    requires { do ⌜ (2 * to ≤ length (now ws)) × (c < (← ⟦WIDTH⟧)) × (have < 256) × (length (now tables) ≡ (← ⟦TABLES⟧)) ⌝ }
+    ensures { λ _. ⌜ (length (now (ws .exit)) ≡ length (now (ws .entry))) × Keeps (now (tables .entry) ∷ now (ws .entry) ∷ []) (now (ws .exit) ∷ []) ⌝ }
 {
     let mut a = from;
     while a < to {
         let x = ws[2 * a] >> c;
         let i = index_in(x, have % 16);
-        let h = index_in(x >> 4, have / 16);
-        let u = low[2 * i] ^ high[2 * h];
-        let v = low[2 * i + 1] ^ high[2 * h + 1];
+        let h = SECOND + index_in(x >> 4, have / 16);
+        let u = tables[2 * i] ^ tables[2 * h];
+        let v = tables[2 * i + 1] ^ tables[2 * h + 1];
         let left = ws[2 * a] ^ u;
         let right = ws[2 * a + 1] ^ v;
         put(ws, a, left, right);
@@ -107,31 +106,40 @@ fn sweep(ws: &mut [u64], low: &[u64], high: &[u64], c: usize, have: u64, from: u
     }
 }
 
-// The k sums so far, each with the pair x, y added, become sums k to 2 * k - 1. Each is filed in the table under its own bits.
-fn double(sums: &mut [u64], table: &mut [u64], k: usize, x: u64, y: u64, c: usize, have: u64)
-    requires { do ⌜ (k ≤ 8) × (c < (← ⟦WIDTH⟧)) × (have < 16) × (length (now sums) ≡ (← ⟦TABLE⟧)) × (length (now table) ≡ (← ⟦TABLE⟧)) ⌝ }
-    ensures { λ _. do ⌜ (length (now (sums .exit)) ≡ (← ⟦TABLE⟧ .entry)) × (length (now (table .exit)) ≡ (← ⟦TABLE⟧ .entry)) × Keeps ((x ∷ y ∷ []) ∷ now (sums .entry) ∷ now (table .entry) ∷ []) (now (sums .exit) ∷ now (table .exit) ∷ []) ⌝ }
+// The k sums so far, each with the pair x, y added, become sums k to 2 * k - 1. Each is filed, from pair `from` on, under its own bits.
+fn double(
+    sums: &mut [u64],
+    tables: &mut [u64],
+    from: usize,
+    k: usize,
+    x: u64,
+    y: u64,
+    c: usize,
+    have: u64,
+)
+    requires { do ⌜ (from ≤ (← ⟦SECOND⟧)) × (k ≤ 8) × (c < (← ⟦WIDTH⟧)) × (have < 16) × (length (now sums) ≡ (← ⟦TABLE⟧)) × (length (now tables) ≡ (← ⟦TABLES⟧)) ⌝ }
+    ensures { λ _. do ⌜ (length (now (sums .exit)) ≡ (← ⟦TABLE⟧ .entry)) × (length (now (tables .exit)) ≡ (← ⟦TABLES⟧ .entry)) × Keeps ((x ∷ y ∷ []) ∷ now (sums .entry) ∷ now (tables .entry) ∷ []) (now (sums .exit) ∷ now (tables .exit) ∷ []) ⌝ }
 {
     let mut i: usize = 0;
     while i < k {
         let u = sums[2 * i] ^ x;
         let v = sums[2 * i + 1] ^ y;
         put(sums, i + k, u, v);
-        put(table, index_in(u >> c, have), u, v);
+        put(tables, from + index_in(u >> c, have), u, v);
         i += 1;
     }
 }
 
-// The sums of four pairs, each filed in the table under its own bits at the four columns from `c` on.
-fn file(table: &mut [u64], four: [u64; FOUR], c: usize, have: u64)
-    requires { do ⌜ (c < (← ⟦WIDTH⟧)) × (have < 16) × (length (now table) ≡ (← ⟦TABLE⟧)) ⌝ }
-    ensures { λ _. do ⌜ (length (now (table .exit)) ≡ (← ⟦TABLE⟧ .entry)) × Keeps (four ∷ now (table .entry) ∷ []) (now (table .exit) ∷ []) ⌝ }
+// The sums of four pairs, each filed, from pair `from` on, under its own bits at the four columns from `c` on.
+fn file(tables: &mut [u64], from: usize, four: [u64; FOUR], c: usize, have: u64)
+    requires { do ⌜ (from ≤ (← ⟦SECOND⟧)) × (c < (← ⟦WIDTH⟧)) × (have < 16) × (length (now tables) ≡ (← ⟦TABLES⟧)) ⌝ }
+    ensures { λ _. do ⌜ (length (now (tables .exit)) ≡ (← ⟦TABLES⟧ .entry)) × Keeps (four ∷ now (tables .entry) ∷ []) (now (tables .exit) ∷ []) ⌝ }
 {
     let mut sums = [0u64; TABLE];
-    double(&mut sums, table, 1, four[0], four[1], c, have);
-    double(&mut sums, table, 2, four[2], four[3], c, have);
-    double(&mut sums, table, 4, four[4], four[5], c, have);
-    double(&mut sums, table, 8, four[6], four[7], c, have);
+    double(&mut sums, tables, from, 1, four[0], four[1], c, have);
+    double(&mut sums, tables, from, 2, four[2], four[3], c, have);
+    double(&mut sums, tables, from, 4, four[4], four[5], c, have);
+    double(&mut sums, tables, from, 8, four[6], four[7], c, have);
 }
 
 // The bits of eight pairs from `from` on at the eight columns from `c` on, a byte for each pair.
@@ -208,46 +216,66 @@ fn pick_four(ws: &[u64], window: &mut [u64], mine: u64, others: u64, next: usize
     }
 }
 
-// A pivot for each of the eight columns from `c` on, where the window has one.
-fn pick_eight(ws: &[u64], window: &mut [u64], c: usize, next: usize) -> Eight
-    requires { do ⌜ (c < (← ⟦WIDTH⟧)) × (2 * next + 16 ≤ length (now ws)) × (length (now window) ≡ (← ⟦TABLE⟧)) ⌝ }
-    ensures { λ r. do ⌜ (r .have < 256) × (length (now (window .exit)) ≡ (← ⟦TABLE⟧ .entry)) × Keeps (now (ws .entry) ∷ now (window .entry) ∷ []) (now (window .exit) ∷ r .first ∷ r .second ∷ []) ⌝ }
+// The table of four of the eight columns from `c` on, the first four or the last: pivots are chosen, and cleared of the bits that the tables so far can clear.
+fn half_table(
+    ws: &[u64],
+    window: &mut [u64],
+    tables: &mut [u64],
+    c: usize,
+    half: usize,
+    choice: Choice,
+) -> Choice
+    requires { do ⌜ (c ≤ 56) × (half < 2) × (choice .have < 256) × (2 * choice .next + 8 ≤ length (now ws)) × (length (now window) ≡ (← ⟦TABLE⟧)) × (length (now tables) ≡ (← ⟦TABLES⟧)) ⌝ }
+    ensures { λ r. do ⌜ (r .have < 256) × (r .next ≤ choice .next + 4) × (length (now (window .exit)) ≡ (← ⟦TABLE⟧ .entry)) × (length (now (tables .exit)) ≡ (← ⟦TABLES⟧ .entry)) × Keeps (now (ws .entry) ∷ now (window .entry) ∷ now (tables .entry) ∷ []) (now (window .exit) ∷ now (tables .exit) ∷ []) ⌝ }
 {
-    let even = packed(window, c, 0);
-    let odd = packed(window, c, 8);
-    let lower = (even & HALVES) ^ ((odd & HALVES) << 4);
-    let upper = ((even >> 4) & HALVES) ^ (odd ^ (odd & HALVES));
-    let first = pick_four(ws, window, lower, upper, next);
-    let then = first.choice;
-    let second = pick_four(ws, window, then.others, 0, then.next);
-    let last = second.choice;
-    let a = first.pairs;
-    let b = second.pairs;
-    Eight {
-        first: a,
-        second: b,
-        have: then.have + 16 * last.have,
+    let before = choice.have;
+    let found = pick_four(ws, window, choice.mine, choice.others, choice.next);
+    let last = found.choice;
+    let mut four = found.pairs;
+    sweep(&mut four, tables, c, before, 0, 4);
+    file(tables, SECOND * half, four, c + 4 * half, last.have);
+    Choice {
+        mine: last.others,
+        others: 0,
+        have: (before ^ (last.have << (4 * half))) % 256,
+        next: last.next,
     }
 }
 
-// The tables of the pivots of eight columns: a pair of `low` has no bit at the last four columns, one of `high` none at the first four.
-fn tables(
-    low: &mut [u64],
-    high: &mut [u64],
-    first: [u64; FOUR],
-    second: [u64; FOUR],
-    c: usize,
-    have: u64,
-)
-    requires { do ⌜ (c ≤ 56) × (have < 256) × (length (now low) ≡ (← ⟦TABLE⟧)) × (length (now high) ≡ (← ⟦TABLE⟧)) ⌝ }
-    ensures { λ _. do ⌜ (length (now (low .exit)) ≡ (← ⟦TABLE⟧ .entry)) × (length (now (high .exit)) ≡ (← ⟦TABLE⟧ .entry)) × Keeps (first ∷ second ∷ now (low .entry) ∷ now (high .entry) ∷ []) (now (low .exit) ∷ now (high .exit) ∷ []) ⌝ }
+// Both tables, of pivots from the window. Bit k of the result is set where column k of the eight has one.
+fn make_tables(ws: &[u64], window: &mut [u64], tables: &mut [u64], c: usize, next: usize) -> u64
+    requires { do ⌜ (c ≤ 56) × (2 * next + 16 ≤ length (now ws)) × (length (now window) ≡ (← ⟦TABLE⟧)) × (length (now tables) ≡ (← ⟦TABLES⟧)) ⌝ }
+    ensures { λ r. do ⌜ (r < 256) × (length (now (window .exit)) ≡ (← ⟦TABLE⟧ .entry)) × (length (now (tables .exit)) ≡ (← ⟦TABLES⟧ .entry)) × Keeps (now (ws .entry) ∷ now (window .entry) ∷ now (tables .entry) ∷ []) (now (window .exit) ∷ now (tables .exit) ∷ []) ⌝ }
 {
-    let none = [0u64; TABLE];
-    let mut rest = second;
-    file(low, first, c, have % 16);
-    sweep(&mut rest, low, &none, c, have % 16, 0, 4);
-    file(high, rest, c + 4, have / 16);
-    sweep(low, &none, high, c, have, 0, 16);
+    let even = packed(window, c, 0);
+    let odd = packed(window, c, 8);
+    let mut choice = Choice {
+        mine: (even & HALVES) ^ ((odd & HALVES) << 4),
+        others: ((even >> 4) & HALVES) ^ (odd ^ (odd & HALVES)),
+        have: 0,
+        next: next,
+    };
+    let mut half: usize = 0;
+    while half < 2 {
+        choice = half_table(ws, window, tables, c, half, choice);
+        half += 1;
+    }
+    choice.have
+}
+
+// The pairs of the first table are cleared of their bits at the four columns of the second, which begin at `c`.
+fn join(tables: &mut [u64], c: usize, have: u64)
+    requires { do ⌜ (c < (← ⟦WIDTH⟧)) × (have < 16) × (length (now tables) ≡ (← ⟦TABLES⟧)) ⌝ }
+    ensures { λ _. do ⌜ (length (now (tables .exit)) ≡ (← ⟦TABLES⟧ .entry)) × Keeps (now (tables .entry) ∷ []) (now (tables .exit) ∷ []) ⌝ }
+{
+    let mut a: usize = 0;
+    while a < SECOND {
+        let h = SECOND + index_in(tables[2 * a] >> c, have);
+        let left = tables[2 * a] ^ tables[2 * h];
+        let right = tables[2 * a + 1] ^ tables[2 * h + 1];
+        put(tables, a, left, right);
+        a += 1;
+    }
 }
 
 // The index of the pair that has bit k alone.
@@ -258,58 +286,57 @@ fn unit_index(k: usize) -> usize
     bits::power(k) as usize
 }
 
-// The pivot of column k, if the table has it, becomes pair `at`. The number of the pair after it.
-fn lay_one(ws: &mut [u64], table: &[u64], have: u64, k: usize, at: usize) -> usize
-    requires { do ⌜ (k < 4) × (2 * at + 1 < length (now ws)) × (length (now table) ≡ (← ⟦TABLE⟧)) ⌝ }
-    ensures { λ r. ⌜ (r ≤ at + 1) × (length (now (ws .exit)) ≡ length (now (ws .entry))) × Keeps (now (table .entry) ∷ now (ws .entry) ∷ []) (now (ws .exit) ∷ []) ⌝ }
+// The pivot of column k, if there is one in the table that begins with pair `from`, becomes pair `at`. The number of the pair after it.
+fn lay_one(ws: &mut [u64], tables: &[u64], from: usize, have: u64, k: usize, at: usize) -> usize
+    requires { do ⌜ (from ≤ (← ⟦SECOND⟧)) × (k < 4) × (2 * at + 1 < length (now ws)) × (length (now tables) ≡ (← ⟦TABLES⟧)) ⌝ }
+    ensures { λ r. ⌜ (r ≤ at + 1) × (length (now (ws .exit)) ≡ length (now (ws .entry))) × Keeps (now (tables .entry) ∷ now (ws .entry) ∷ []) (now (ws .exit) ∷ []) ⌝ }
 {
     if (have >> k) % 2 == 0 {
         return at;
     }
-    let i = unit_index(k);
-    put(ws, at, table[2 * i], table[2 * i + 1]);
+    let i = from + unit_index(k);
+    put(ws, at, tables[2 * i], tables[2 * i + 1]);
     at + 1
 }
 
-// The pivots of four columns, as the table has them, become the pairs from `at` on. The number of the pair after them.
-fn lay(ws: &mut [u64], table: &[u64], have: u64, at: usize) -> usize
-    requires { do ⌜ (2 * at + 8 ≤ length (now ws)) × (length (now table) ≡ (← ⟦TABLE⟧)) ⌝ }
-    ensures { λ r. ⌜ (r ≤ at + 4) × (length (now (ws .exit)) ≡ length (now (ws .entry))) × Keeps (now (table .entry) ∷ now (ws .entry) ∷ []) (now (ws .exit) ∷ []) ⌝ }
+// The pivots of four columns, as their table has them, become the pairs from `at` on. The number of the pair after them.
+fn lay(ws: &mut [u64], tables: &[u64], from: usize, have: u64, at: usize) -> usize
+    requires { do ⌜ (from ≤ (← ⟦SECOND⟧)) × (2 * at + 8 ≤ length (now ws)) × (length (now tables) ≡ (← ⟦TABLES⟧)) ⌝ }
+    ensures { λ r. ⌜ (r ≤ at + 4) × (length (now (ws .exit)) ≡ length (now (ws .entry))) × Keeps (now (tables .entry) ∷ now (ws .entry) ∷ []) (now (ws .exit) ∷ []) ⌝ }
 {
     let mut p = at;
     let mut k: usize = 0;
     while k < 4 {
-        p = lay_one(ws, table, have, k, p);
+        p = lay_one(ws, tables, from, have, k, p);
         k += 1;
     }
     p
 }
 
-// The pairs before `done` and those to come, before `count`, are swept; between them come the eight pivots. The number of pairs that are done then.
-fn spread(
-    ws: &mut [u64],
-    low: &[u64],
-    high: &[u64],
-    c: usize,
-    have: u64,
-    done: usize,
-    count: usize,
-) -> usize
-    requires { do ⌜ (c < (← ⟦WIDTH⟧)) × (have < 256) × (2 * done + 16 ≤ length (now ws)) × (2 * count ≤ length (now ws)) × (length (now low) ≡ (← ⟦TABLE⟧)) × (length (now high) ≡ (← ⟦TABLE⟧)) ⌝ }
-    ensures { λ _. ⌜ (length (now (ws .exit)) ≡ length (now (ws .entry))) × Keeps (now (low .entry) ∷ now (high .entry) ∷ now (ws .entry) ∷ []) (now (ws .exit) ∷ []) ⌝ }
+// The pairs before `done` and those to come, before `count`, are swept; between them come the pivots. The number of pairs that are done then.
+fn spread(ws: &mut [u64], tables: &[u64], c: usize, have: u64, done: usize, count: usize) -> usize
+    requires { do ⌜ (c < (← ⟦WIDTH⟧)) × (have < 256) × (2 * done + 16 ≤ length (now ws)) × (2 * count ≤ length (now ws)) × (length (now tables) ≡ (← ⟦TABLES⟧)) ⌝ }
+    ensures { λ _. ⌜ (length (now (ws .exit)) ≡ length (now (ws .entry))) × Keeps (now (tables .entry) ∷ now (ws .entry) ∷ []) (now (ws .exit) ∷ []) ⌝ }
 {
-    sweep(ws, low, high, c, have, 0, done);
-    let middle = lay(ws, low, have % 16, done);
-    let end = lay(ws, high, have / 16, middle);
-    sweep(ws, low, high, c, have, end + AHEAD, count);
+    sweep(ws, tables, c, have, 0, done);
+    let middle = lay(ws, tables, 0, have % 16, done);
+    let end = lay(ws, tables, SECOND, have / 16, middle);
+    sweep(ws, tables, c, have, end + AHEAD, count);
     end
 }
 
 // The eight columns from `c` on are eliminated, with pivots from the window; nothing is done where none of them lacks one. The pairs before `p.done`
-// are done, those from AHEAD after it on, before `count`, are to come; the window stands between them.
-fn block(ws: &mut [u64], window: &mut [u64], c: usize, count: usize, p: Progress) -> Progress
-    requires { do ⌜ (c ≤ 56) × (count ≤ (← ⟦WIDTH⟧)) × (length (now ws) ≡ (← ⟦ROOM⟧)) × (length (now window) ≡ (← ⟦TABLE⟧)) ⌝ }
-    ensures { λ _. do ⌜ (length (now (ws .exit)) ≡ (← ⟦ROOM⟧ .entry)) × (length (now (window .exit)) ≡ (← ⟦TABLE⟧ .entry)) × Keeps (now (ws .entry) ∷ now (window .entry) ∷ []) (now (ws .exit) ∷ now (window .exit) ∷ []) ⌝ }
+// are done, those from AHEAD after it on, before `count`, are to come; the window stands between them. What the tables have from before is not used.
+fn block(
+    ws: &mut [u64],
+    window: &mut [u64],
+    tables: &mut [u64],
+    c: usize,
+    count: usize,
+    p: Progress,
+) -> Progress
+    requires { do ⌜ (c ≤ 56) × (count ≤ (← ⟦WIDTH⟧)) × (length (now ws) ≡ (← ⟦ROOM⟧)) × (length (now window) ≡ (← ⟦TABLE⟧)) × (length (now tables) ≡ (← ⟦TABLES⟧)) ⌝ }
+    ensures { λ _. do ⌜ (length (now (ws .exit)) ≡ (← ⟦ROOM⟧ .entry)) × (length (now (window .exit)) ≡ (← ⟦TABLE⟧ .entry)) × (length (now (tables .exit)) ≡ (← ⟦TABLES⟧ .entry)) × Keeps (now (ws .entry) ∷ now (window .entry) ∷ now (tables .entry) ∷ []) (now (ws .exit) ∷ now (window .exit) ∷ now (tables .exit) ∷ []) ⌝ }
 {
     let done = p.done;
     if (p.lack >> c) % 256 == 0 {
@@ -318,15 +345,10 @@ fn block(ws: &mut [u64], window: &mut [u64], c: usize, count: usize, p: Progress
     if WIDTH <= done {
         return p;
     }
-    let pivots = pick_eight(ws, window, c, done + AHEAD);
-    let have = pivots.have;
-    let first = pivots.first;
-    let second = pivots.second;
-    let mut low = [0u64; TABLE];
-    let mut high = [0u64; TABLE];
-    tables(&mut low, &mut high, first, second, c, have);
-    sweep(window, &low, &high, c, have, 0, AHEAD);
-    let end = spread(ws, &low, &high, c, have, done, count);
+    let have = make_tables(ws, window, tables, c, done + AHEAD);
+    join(tables, c + 4, have / 16);
+    sweep(window, tables, c, have, 0, AHEAD);
+    let end = spread(ws, tables, c, have, done, count);
     Progress {
         done: end,
         lack: p.lack ^ (have << c),
@@ -448,13 +470,14 @@ pub fn guess_rows(cols: [u64; WIDTH], mark: u64) -> Guess
     let start = pairs_of(transpose::transpose(cols), mark);
     let mut ws = start.words;
     let mut window = window_of(&ws);
+    let mut tables = [0u64; TABLES];
     let mut p = Progress {
         done: 0,
         lack: mark,
     };
     let mut b: usize = 0;
     while b < 16 {
-        p = block(&mut ws, &mut window, b % 8 * 8, start.count, p);
+        p = block(&mut ws, &mut window, &mut tables, b % 8 * 8, start.count, p);
         b += 1;
     }
     if p.lack == 0 {

@@ -2,7 +2,6 @@
 -- Assumes nothing.
 use mathlib.Core.Path.{_≡_, refl, sym, ap, _∙_, subst}
 use native.Mathlib.Omega.{arith}
-use Rattle.bucket_blocks.proofs.Tied.{tied-zeros}
 use borrow.Author.Needs.{needs}
 use Rattle.bucket_blocks.proofs.block.Statement.{statement}
 use Rattle.bucket_blocks.proofs.block.Tie as tie
@@ -16,41 +15,26 @@ returns c = search needs
 returns-2 : tie.Need-returns-2
 returns-2 c = search needs
 
-add-pick-eight : tie.Need-add-pick-eight
-add-pick-eight c = search needs
+add-make-tables : tie.Need-add-make-tables
+add-make-tables c = search needs
 
-pick-eight-requires : tie.Need-pick-eight-requires
-pick-eight-requires c κs = search needs
+make-tables-requires : tie.Need-make-tables-requires
+make-tables-requires c κs = search needs
 
-slice-aggregate-tables : tie.Need-slice-aggregate-tables
-slice-aggregate-tables c = search needs
+add-join : tie.Need-add-join
+add-join c = search needs
 
-slice-aggregate-tables-2 : tie.Need-slice-aggregate-tables-2
-slice-aggregate-tables-2 c = search needs
-
-tables-requires : tie.Need-tables-requires
-tables-requires c κs = search needs
-
-slice-aggregate-sweep : tie.Need-slice-aggregate-sweep
-slice-aggregate-sweep c = search needs
-
-slice-aggregate-sweep-2 : tie.Need-slice-aggregate-sweep-2
-slice-aggregate-sweep-2 c = search needs
+join-requires : tie.Need-join-requires
+join-requires c κs = search needs
 
 sweep-requires : tie.Need-sweep-requires
 sweep-requires c κs = search needs
 
-slice-aggregate-spread : tie.Need-slice-aggregate-spread
-slice-aggregate-spread c = search needs
-
-slice-aggregate-spread-2 : tie.Need-slice-aggregate-spread-2
-slice-aggregate-spread-2 c = search needs
-
 spread-requires : tie.Need-spread-requires
 spread-requires c κs = search needs
 
-shl-t15 : tie.Need-shl-t15
-shl-t15 c = let h = c .before .before .before .before .before .before .before .before .before .before .before .before .before .before .before .before .before .before .before .before .before .before .before .before .before .before .before .before .before .pre .0 in omega (arith, h)
+shl-t12 : tie.Need-shl-t12
+shl-t12 c = search needs
 
 same-length : tie.Need-same-length
 same-length c = search needs
@@ -58,19 +42,22 @@ same-length c = search needs
 same-length-2 : tie.Need-same-length-2
 same-length-2 c = search needs
 
+same-length-3 : tie.Need-same-length-3
+same-length-3 c = search needs
+
 returns-3 : tie.Need-returns-3
 returns-3 c =
-    let e = c .before .before .before .before .before .before .before .before .before .before .before .before .before .before .before .before .before .before .before .before .before .before .pick-eight .ensures in
-    let t = c .before .before .before .before .before .before .before .before .before .before .before .before .before .before .before .tables .ensures in
-    let s = c .before .before .before .before .before .before .before .before .before .sweep .ensures in
+    let e = c .before .before .before .before .before .before .before .before .before .before .before .before .before .before .before .before .before .before .before .make-tables .ensures in
+    let j = c .before .before .before .before .before .before .before .before .before .before .before .before .before .join .ensures in
+    let s = c .before .before .before .before .before .before .before .before .sweep .ensures in
     let r = c .before .before .before .spread .ensures in (
-      r .0 ∙ c .before .before .before .before .before .before .before .before .before .before .before .before .before .before .before .before .before .before .before .before .before .before .before .before .before .before .before .before .before .before .pre .2,
+      r .0 ∙ c .before .before .before .before .before .before .before .before .before .before .before .before .before .before .before .before .before .before .before .before .before .before .before .before .before .before .before .before .before .pre .2,
       s .0 ∙ e .1,
-      λ f lf w.
-          let p = e .2 f lf w in
-          let o = tied-zeros f 32 lf in
-          let q = t .2 f lf (p .1 .0, (p .1 .1 .0, (o, (o, tt)))) in
-          (r .1 f lf (q .0, (q .1 .0, (w .0, tt))) .0, s .1 f lf (q .0, (q .1 .0, (p .0, tt)))),
+      j .0,
+      λ f lf t.
+          let p = e .3 f lf t in
+          let q = j .1 f lf (p .1 .0, tt) .0 in
+          (r .1 f lf (q, (t .0, tt)) .0, (s .1 f lf (q, (p .0, tt)) .0, (q, tt))),
     )
 
 pub block-spec : {M : Type 1} → statement M
@@ -80,18 +67,14 @@ block-spec =
     shr-if1
     returns
     returns-2
-    add-pick-eight
-    pick-eight-requires
-    slice-aggregate-tables
-    slice-aggregate-tables-2
-    tables-requires
-    slice-aggregate-sweep
-    slice-aggregate-sweep-2
+    add-make-tables
+    make-tables-requires
+    add-join
+    join-requires
     sweep-requires
-    slice-aggregate-spread
-    slice-aggregate-spread-2
     spread-requires
-    shl-t15
+    shl-t12
     same-length
     same-length-2
+    same-length-3
     returns-3)

@@ -9,16 +9,16 @@ use lib.ListN.{length}
 use Rattle.gf2.specs.Vectors.{product}
 use Rattle.gf2.proofs.Linear.{product-xor}
 use Rattle.bucket_blocks.specs.Pairs.{Tied}
-use Rattle.bucket_blocks.proofs.Tied.{pairs-begin, read-guessed, none-guessed}
+use Rattle.bucket_blocks.proofs.Tied.{tied-zeros, pairs-begin, read-guessed, none-guessed}
 use borrow.Author.Needs.{needs}
 use Rattle.bucket_blocks.proofs.guess_rows.Statement.{statement}
 use Rattle.bucket_blocks.proofs.guess_rows.Tie as tie
 
 abbrev Inv-loop : tie.InvT-loop
-Inv-loop cols mark start ws₀ window₀ p₀ b₀ ws window p b = (length ws ≡ 176) × (length window ≡ 32) × Tied (product cols) ws × Tied (product cols) window
+Inv-loop cols mark start ws₀ window₀ tables₀ p₀ b₀ ws window tables p b = (length ws ≡ 176) × (length window ≡ 32) × (length tables ≡ 64) × Tied (product cols) ws × Tied (product cols) window × Tied (product cols) tables
 
 abbrev μ-loop : tie.MeasureT-loop
-μ-loop cols mark start ws₀ window₀ p₀ b₀ ws window p b = 16 - b
+μ-loop cols mark start ws₀ window₀ tables₀ p₀ b₀ ws window tables p b = 16 - b
 
 transpose-requires : tie.Need-transpose-requires Inv-loop μ-loop
 transpose-requires c κs = search needs
@@ -36,10 +36,11 @@ loop-holds : tie.Need-loop-holds Inv-loop μ-loop
 loop-holds c =
     let g = c .before .before .before .before .before in
     let s = c .before .before .before .pairs-of in
-    let n : length (g .args .cols) ≡ 64 = search needs in
+    let cs = g .args .cols in
+    let n : length cs ≡ 64 = search needs in
     let m : Fits w64 (g .args .mark) = search needs in
-    let t = pairs-begin 64 (g .args .mark) (g .args .cols) (c .before .before .before .before .transpose .result) (s .result .words) n (m .fits) (g .pre) (c .before .before .before .before .transpose .ensures) (s .ensures .1) in
-    (search needs, search needs, t, c .window-of .ensures (product (g .args .cols)) (product-xor (g .args .cols)) (t, tt) .0)
+    let t = pairs-begin 64 (g .args .mark) cs (c .before .before .before .before .transpose .result) (s .result .words) n (m .fits) (g .pre) (c .before .before .before .before .transpose .ensures) (s .ensures .1) in
+    (search needs, search needs, refl, t, c .window-of .ensures (product cs) (product-xor cs) (t, tt) .0, tied-zeros (product cs) 64 (product-xor cs))
 
 slice-aggregate-block : tie.Need-slice-aggregate-block Inv-loop μ-loop
 slice-aggregate-block c = search needs
@@ -47,11 +48,14 @@ slice-aggregate-block c = search needs
 slice-aggregate-block-2 : tie.Need-slice-aggregate-block-2 Inv-loop μ-loop
 slice-aggregate-block-2 c = search needs
 
+slice-aggregate-block-3 : tie.Need-slice-aggregate-block-3 Inv-loop μ-loop
+slice-aggregate-block-3 c = search needs
+
 mul-block : tie.Need-mul-block Inv-loop μ-loop
 mul-block c = search needs
 
 block-requires : tie.Need-block-requires Inv-loop μ-loop
-block-requires c κs = (omega arith, c .before .before .before .before .before .before .before .pairs-of .ensures .0, c .before .before .before .loop .inv .0, c .before .before .before .loop .inv .1)
+block-requires c κs = let i = c .before .before .before .before .loop .inv in (omega arith, c .before .before .before .before .before .before .before .before .pairs-of .ensures .0, i .0, i .1, i .2)
 
 add-b : tie.Need-add-b Inv-loop μ-loop
 add-b c = search needs
@@ -61,11 +65,11 @@ loop-less c = search needs
 
 loop-again : tie.Need-loop-again Inv-loop μ-loop
 loop-again c =
-    let e = c .before .before .block .ensures in
-    let cs = c .before .before .before .before .before .before .before .before .before .before .before .before .args .cols in
-    let i = c .before .before .before .before .before .before .loop .inv in
-    let t = e .2 (product cs) (product-xor cs) (i .2, (i .3, tt)) in
-    (e .0, e .1, t .0, t .1 .0)
+    let e = c .before .before .before .block .ensures in
+    let cs = c .before .before .before .before .before .before .before .before .before .before .before .before .before .before .args .cols in
+    let i = c .before .before .before .before .before .before .before .before .loop .inv in
+    let t = e .3 (product cs) (product-xor cs) (i .3, (i .4, (i .5, tt))) in
+    (e .0, e .1, e .2, t .0, t .1 .0, t .1 .1 .0)
 
 slice-aggregate-rows-in : tie.Need-slice-aggregate-rows-in Inv-loop μ-loop
 slice-aggregate-rows-in c = search needs
@@ -78,7 +82,7 @@ returns c =
     let g = c .before .before .before .before .before .before .before .before .before .before .before in
     let n : length (g .args .cols) ≡ 64 = search (needs, g .good) in
     let m : Fits w64 (g .args .mark) = search (needs, g .good) in
-    read-guessed 64 (g .args .mark) (g .args .cols) (c .before .before .before .before .before .loop .ws) (c .rows-in .result) n (m .fits) (g .pre) (c .before .before .before .before .before .loop .inv .2) (c .rows-in .ensures)
+    read-guessed 64 (g .args .mark) (g .args .cols) (c .before .before .before .before .before .loop .ws) (c .rows-in .result) n (m .fits) (g .pre) (c .before .before .before .before .before .loop .inv .3) (c .rows-in .ensures)
 
 slice-aggregate-dependence : tie.Need-slice-aggregate-dependence Inv-loop μ-loop
 slice-aggregate-dependence c = search needs
@@ -91,7 +95,7 @@ returns-2 c =
     let cs = c .before .before .before .before .before .before .before .before .before .before .before .args .cols in
     let y = c .dependence in
     let f : Fits w64 (y .result) = search needs in
-    none-guessed 64 cs (y .result) (f .fits) (sym (y .ensures (product cs) (product-xor cs) (c .before .before .before .before .before .loop .inv .3, tt) .0 0))
+    none-guessed 64 cs (y .result) (f .fits) (sym (y .ensures (product cs) (product-xor cs) (c .before .before .before .before .before .loop .inv .4, tt) .0 0))
 
 pub guess-rows-spec : {M : Type 1} → statement M
 guess-rows-spec =
@@ -106,6 +110,7 @@ guess-rows-spec =
     loop-holds
     slice-aggregate-block
     slice-aggregate-block-2
+    slice-aggregate-block-3
     mul-block
     block-requires
     add-b

@@ -11,10 +11,10 @@ use Rattle.bucket_blocks.proofs.lay.Statement.{statement}
 use Rattle.bucket_blocks.proofs.lay.Tie as tie
 
 abbrev Inv-loop : tie.InvT-loop
-Inv-loop ws₀ table have at p₀ k₀ ws p k = (k ≤ 4) × (p ≤ at + k) × (length ws ≡ length ws₀) × Keeps (table ∷ ws₀ ∷ []) (ws ∷ [])
+Inv-loop ws₀ tables from have at p₀ k₀ ws p k = (k ≤ 4) × (p ≤ at + k) × (length ws ≡ length ws₀) × Keeps (tables ∷ ws₀ ∷ []) (ws ∷ [])
 
 abbrev μ-loop : tie.MeasureT-loop
-μ-loop ws₀ table have at p₀ k₀ ws p k = 4 - k
+μ-loop ws₀ tables from have at p₀ k₀ ws p k = 4 - k
 
 loop-holds : tie.Need-loop-holds Inv-loop μ-loop
 loop-holds c = (search needs, search needs, refl, λ f lf t. (t .1 .0, tt))

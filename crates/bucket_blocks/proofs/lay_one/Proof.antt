@@ -2,9 +2,9 @@
 -- Assumes nothing.
 use mathlib.Core.Path.{_≡_, refl, sym, ap, _∙_, subst}
 use mathlib.Core.List.{[], _∷_}
+use Prim.Native.Nat.{_+_, _-_, _*_, _≤_, _<_}
 use native.Mathlib.Omega.{arith}
 use lib.ListN.{length}
-use Prim.Native.Nat.{_+_, _*_, _<_}
 use Rattle.bucket_blocks.specs.Pairs.{Tied}
 use Rattle.bucket_blocks.proofs.Tied.{length-put, tied-put}
 use borrow.Author.Needs.{needs}
@@ -19,6 +19,9 @@ returns c = (search needs, refl, λ f lf t. (t .1 .0, tt))
 
 unit-index-requires : tie.Need-unit-index-requires
 unit-index-requires c κs = search needs
+
+add-i : tie.Need-add-i
+add-i c = search needs
 
 mul-put : tie.Need-mul-put
 mul-put c = search needs
@@ -54,7 +57,7 @@ returns-2 : tie.Need-returns-2
 returns-2 c =
     let g = c .before .before .before .before .before .before .before .before .before .before .args in
     let p = c .before .before .put in
-    let h : 2 * g .at + 1 < length (g .ws .now) = c .before .before .before .before .before .before .before .before .before .before .pre .1 in
+    let h : 2 * g .at + 1 < length (g .ws .now) = c .before .before .before .before .before .before .before .before .before .before .pre .2 in
     (search needs, ap length (p .ensures) ∙ length-put _ _ _ (g .ws .now), λ f lf t. (subst (Tied f) (sym (p .ensures)) (tied-put f (g .ws .now) _ _ _ h (t .0 _) (t .1 .0)), tt))
 
 pub lay-one-spec : {M : Type 1} → statement M
@@ -64,6 +67,7 @@ lay-one-spec =
     shr-if1
     returns
     unit-index-requires
+    add-i
     mul-put
     mul-put-2
     shared-slice-read-put

@@ -29,10 +29,8 @@ returns c =
     let w = c .before .before .before .before .before .before .before .before .before .before .before .before .before .before .sweep .ensures in
     let x = c .before .before .before .before .before .before .before .before .before .before .lay .ensures in
     let y = c .before .before .before .before .before .before .lay2 .ensures in
-    let z = c .before .before .sweep2 .ensures in (
-      z .0 ∙ y .1 ∙ x .1 ∙ w .0,
-      λ f lf t. z .1 f lf (t .0, (t .1 .0, y .2 f lf (t .1 .0, x .2 f lf (t .0, w .1 f lf t)))),
-    )
+    let z = c .before .before .sweep2 .ensures in
+    (z .0 ∙ y .1 ∙ x .1 ∙ w .0, λ f lf t. z .1 f lf (t .0, y .2 f lf (t .0, x .2 f lf (t .0, w .1 f lf t))))
 
 pub spread-spec : {M : Type 1} → statement M
 spread-spec =

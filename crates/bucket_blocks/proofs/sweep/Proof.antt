@@ -2,7 +2,7 @@
 -- Assumes nothing.
 use mathlib.Core.Path.{_≡_, refl, sym, ap, _∙_, subst}
 use mathlib.Core.List.{[], _∷_}
-use Prim.Native.Nat.{_+_, _-_, _*_, _<_}
+use Prim.Native.Nat.{_+_, _-_, _*_, _≤_, _<_}
 use native.Mathlib.Omega.{arith}
 use lib.ListN.{length}
 use Rattle.bucket_blocks.specs.Pairs.{Tied, Keeps}
@@ -12,13 +12,13 @@ use Rattle.bucket_blocks.proofs.sweep.Statement.{statement}
 use Rattle.bucket_blocks.proofs.sweep.Tie as tie
 
 abbrev Inv-loop : tie.InvT-loop
-Inv-loop ws₀ low high c have from to a₀ ws a = (length ws ≡ length ws₀) × Keeps (low ∷ high ∷ ws₀ ∷ []) (ws ∷ [])
+Inv-loop ws₀ tables c have from to a₀ ws a = (length ws ≡ length ws₀) × Keeps (tables ∷ ws₀ ∷ []) (ws ∷ [])
 
 abbrev μ-loop : tie.MeasureT-loop
-μ-loop ws₀ low high c have from to a₀ ws a = to - a
+μ-loop ws₀ tables c have from to a₀ ws a = to - a
 
 loop-holds : tie.Need-loop-holds Inv-loop μ-loop
-loop-holds c = (refl, λ f lf t. (t .1 .1 .0, tt))
+loop-holds c = (refl, λ f lf t. (t .1 .0, tt))
 
 mul-x : tie.Need-mul-x Inv-loop μ-loop
 mul-x c = search needs
@@ -37,6 +37,9 @@ index-in-requires c κs = search needs
 
 index-in-requires-2 : tie.Need-index-in-requires-2 Inv-loop μ-loop
 index-in-requires-2 c κs = search needs
+
+add-h : tie.Need-add-h Inv-loop μ-loop
+add-h c = search needs
 
 mul-u : tie.Need-mul-u Inv-loop μ-loop
 mul-u c = search needs
@@ -111,14 +114,14 @@ loop-less : tie.Need-loop-less Inv-loop μ-loop
 loop-less c = search needs
 
 loop-again : tie.Need-loop-again Inv-loop μ-loop
-loop-again c = 
+loop-again c =
     let b = c .before .before .before .before .before .before .before .before .before .before .before .before .before .before in
     let p = c .before .before .put in
     let h : 2 * b .loop .a + 1 < length (b .loop .ws) = omega arith in (
       ap length (p .ensures) ∙ length-put (b .loop .a) _ _ (b .loop .ws) ∙ b .loop .inv .0,
       λ f lf t.
           let w = b .loop .inv .1 f lf t .0 in
-          (subst (Tied f) (sym (p .ensures)) (tied-put f (b .loop .ws) (b .loop .a) _ _ h (tied-add f lf (w (b .loop .a)) (tied-add f lf (t .0 _) (t .1 .0 _))) w), tt),
+          (subst (Tied f) (sym (p .ensures)) (tied-put f (b .loop .ws) (b .loop .a) _ _ h (tied-add f lf (w (b .loop .a)) (tied-add f lf (t .0 _) (t .0 _))) w), tt),
     )
 
 same-length : tie.Need-same-length Inv-loop μ-loop
@@ -140,6 +143,7 @@ sweep-spec =
     shr-x
     index-in-requires
     index-in-requires-2
+    add-h
     mul-u
     mul-u-2
     shared-slice-read-u
