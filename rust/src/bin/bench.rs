@@ -1,40 +1,159 @@
 //! The proved functions beside this program's, in one run: nanoseconds a step, the least of several turns taken alternately, and
-//! their ratio.
+//! their ratio. `bench PATH`: beside this program as built for x86-64-v3 too, which is at PATH and takes its turns when it is asked.
 
+use reference::answer::TABLE_NOT_SOUND;
 use reference::bucket::Bucket;
 use reference::rng::Rng;
 use reference::table::{self, Shape};
 use reference::{identifier, lines, ours, patch, plane};
+use std::fmt::Debug;
 use std::hint::black_box;
+use std::io::{BufRead, BufReader, Write};
 use std::ops::RangeInclusive;
+use std::process::{Child, ChildStdin, ChildStdout, Command, Stdio};
 use std::time::Instant;
 
-const TURNS: u32 = 15;
-
-fn time(steps: u32, run: &mut dyn FnMut()) -> f64 {
-    let start = Instant::now();
-    run();
-    start.elapsed().as_nanos() as f64 / f64::from(steps)
-}
-
-/// Prints a line of the table.
-fn compare(name: &str, steps: u32, ours: impl FnMut(), reference: impl FnMut()) {
-    compare_in(TURNS, name, steps, ours, reference);
-}
-
-fn compare_in(
+/// How many turns are taken, and how many runs each takes in a row: the first of them finds the caches as the others left them.
+#[derive(Clone, Copy, Debug)]
+struct Turns {
     turns: u32,
-    name: &str,
-    steps: u32,
-    mut ours: impl FnMut(),
-    mut reference: impl FnMut(),
-) {
-    let (mut a, mut b) = (f64::INFINITY, f64::INFINITY);
-    for _ in 0..turns {
-        a = a.min(time(steps, &mut ours));
-        b = b.min(time(steps, &mut reference));
+    runs: u32,
+}
+
+const USUAL: Turns = Turns { turns: 5, runs: 3 };
+
+/// For lines of some nanoseconds a step.
+const SHORT: Turns = Turns {
+    turns: 100,
+    runs: 3,
+};
+
+/// For lines of up to a second.
+const LONG: Turns = Turns { turns: 2, runs: 1 };
+
+/// Nanoseconds of the shortest of these runs.
+fn time(runs: u32, run: &mut dyn FnMut()) -> u64 {
+    let one = |_| {
+        let start = Instant::now();
+        run();
+        start.elapsed().as_nanos() as u64
+    };
+    (0..runs).map(one).min().expect("a run")
+}
+
+/// Which of the two builds this is. Both go through the same lines with the same numbers.
+enum Build {
+    /// Times ours and this program, asks the other build, if there is one, in the same turns, and prints.
+    Plain(Option<Other>),
+    /// Times this program when it is asked. Of ours it times nothing.
+    Asked,
+}
+
+impl Build {
+    /// Prints a line of the table.
+    fn compare(&mut self, name: &str, steps: u32, ours: impl FnMut(), reference: impl FnMut()) {
+        self.compare_in(USUAL, name, steps, ours, reference);
     }
-    println!("{name:<48} {a:>10.1} {b:>10.1} {:>8.2}", a / b);
+
+    fn compare_in(
+        &mut self,
+        turns: Turns,
+        name: &str,
+        steps: u32,
+        mut ours: impl FnMut(),
+        mut reference: impl FnMut(),
+    ) {
+        let Turns { turns, runs } = turns;
+        let line = format!("{turns} turns of {runs} runs: {name}");
+        let Build::Plain(other) = self else {
+            assert_eq!(question(), line);
+            println!("ready");
+            for _ in 0..turns {
+                assert_eq!(question(), "turn");
+                println!("{}", time(runs, &mut reference));
+            }
+            return;
+        };
+        if let Some(other) = other {
+            assert_eq!(other.ask(&line), "ready");
+        }
+        let (mut a, mut b, mut c) = (u64::MAX, u64::MAX, u64::MAX);
+        for _ in 0..turns {
+            a = a.min(time(runs, &mut ours));
+            b = b.min(time(runs, &mut reference));
+            if let Some(other) = other {
+                c = c.min(other.ask("turn").parse().expect("nanoseconds"));
+            }
+        }
+        let step = |least: u64| least as f64 / f64::from(steps);
+        let (a, b, c) = (step(a), step(b), step(c));
+        print!("{name:<48} {a:>10.1} {b:>10.1} {:>8.2}", a / b);
+        match other {
+            Some(_) => println!(" {c:>10.1} {:>8.2}", a / c),
+            None => println!(" {:>10} {:>8}", "-", "-"),
+        }
+    }
+
+    /// Prints what the next lines are about.
+    fn heading(&self, text: &str) {
+        if let Build::Plain(_) = self {
+            println!("{text}");
+        }
+    }
+
+    /// Ours and this program have made the same of it, where both have run.
+    fn same<T: PartialEq + Debug>(&self, ours: T, reference: T) {
+        if let Build::Plain(_) = self {
+            assert_eq!(ours, reference);
+        }
+    }
+}
+
+/// The next question to this build, nothing at their end.
+fn question() -> String {
+    line_of(&mut std::io::stdin().lock())
+}
+
+fn line_of(input: &mut impl BufRead) -> String {
+    let mut line = String::new();
+    input.read_line(&mut line).expect("a line");
+    line.trim_end().to_string()
+}
+
+/// This program as built for x86-64-v3, in a process of its own. It ends with an error at a question that it does not expect, and with it
+/// this one does, since there is no answer: the two cannot get out of step unseen.
+struct Other {
+    process: Child,
+    questions: ChildStdin,
+    answers: BufReader<ChildStdout>,
+}
+
+impl Other {
+    fn start(path: &str) -> Other {
+        let mut process = Command::new(path)
+            .arg("asked")
+            .stdin(Stdio::piped())
+            .stdout(Stdio::piped())
+            .spawn()
+            .expect("the build for x86-64-v3");
+        Other {
+            questions: process.stdin.take().expect("piped"),
+            answers: BufReader::new(process.stdout.take().expect("piped")),
+            process,
+        }
+    }
+
+    /// The answer to a question, nothing if the process has ended.
+    fn ask(&mut self, question: &str) -> String {
+        let question = format!("{question}\n");
+        self.questions.write_all(question.as_bytes()).expect("open");
+        line_of(&mut self.answers)
+    }
+
+    fn finish(mut self) {
+        drop(self.questions);
+        assert!(self.process.wait().expect("its end").success());
+    }
 }
 
 /// A kind and the bytes of an identifier.
@@ -55,7 +174,7 @@ fn some_kind(rng: &mut Rng) -> u8 {
 }
 
 /// Identifiers of these lengths in turn, small letters, to their words.
-fn words(rng: &mut Rng, name: &str, lengths: RangeInclusive<usize>) {
+fn words(build: &mut Build, rng: &mut Rng, name: &str, lengths: RangeInclusive<usize>) {
     const N: u32 = 1000;
     let cards: Vec<Card> = lengths
         .cycle()
@@ -65,8 +184,8 @@ fn words(rng: &mut Rng, name: &str, lengths: RangeInclusive<usize>) {
             id: (0..length).map(|_| b'a' + rng.below(26) as u8).collect(),
         })
         .collect();
-    compare_in(
-        20 * TURNS,
+    build.compare_in(
+        SHORT,
         name,
         N,
         || {
@@ -83,10 +202,15 @@ fn words(rng: &mut Rng, name: &str, lengths: RangeInclusive<usize>) {
 }
 
 /// All lengths together; then some by themselves, since the table of bytes is made anew at each of our calls.
-fn identifiers(rng: &mut Rng) {
-    words(rng, "identifier of 1 to 36 bytes to its word", 1..=36);
+fn identifiers(build: &mut Build, rng: &mut Rng) {
+    words(
+        build,
+        rng,
+        "identifier of 1 to 36 bytes to its word",
+        1..=36,
+    );
     for length in [1, 8, 20, 36] {
-        words(rng, &format!("  of {length} alone"), length..=length);
+        words(build, rng, &format!("  of {length} alone"), length..=length);
     }
 }
 
@@ -128,11 +252,11 @@ fn filled(rng: &mut Rng, count: usize) -> (Vec<u64>, Vec<u64>) {
     (part, vectors)
 }
 
-fn buckets(rng: &mut Rng) {
+fn buckets(build: &mut Build, rng: &mut Rng) {
     const N: u32 = 1000;
     let (half, vectors) = filled(rng, 32);
     let fresh: Vec<u64> = (0..N).map(|_| rng.next()).collect();
-    compare(
+    build.compare(
         "product of a vector, half full bucket",
         N,
         || {
@@ -148,7 +272,7 @@ fn buckets(rng: &mut Rng) {
     );
     let mut ours_part = half.clone();
     let mut rust_part = half.clone();
-    compare(
+    build.compare(
         "add, empty bucket to 32 vectors",
         32,
         || {
@@ -169,8 +293,8 @@ fn buckets(rng: &mut Rng) {
             rust_part = part;
         },
     );
-    assert_eq!(ours_part, rust_part);
-    compare(
+    build.same(&ours_part, &rust_part);
+    build.compare(
         "withdraw, 32 vectors to an empty bucket",
         32,
         || {
@@ -192,25 +316,70 @@ fn buckets(rng: &mut Rng) {
         },
     );
     // No plan is left behind.
-    assert_eq!(ours_part, empty());
+    build.same(&ours_part, &rust_part);
     assert_eq!(rust_part, empty());
-    for (name, count) in [("full", 64), ("half full", 32), ("empty", 0)] {
-        let parts: Vec<Vec<u64>> = (0..80).map(|_| filled(rng, count).0).collect();
-        compare(
-            &format!("elimination, {name} bucket"),
-            80,
-            || {
-                for part in &parts {
-                    black_box(ours::bucket_matrix(black_box(part), 63));
-                }
-            },
-            || {
-                for part in &parts {
-                    black_box(load(black_box(part)).rows());
-                }
-            },
-        );
+    eliminations(build, rng, &mut Rng::new(2029));
+}
+
+/// The test of the columns of 80 buckets, from full ones to empty ones. The second generator is for the lines that came later.
+fn eliminations(build: &mut Build, rng: &mut Rng, later: &mut Rng) {
+    let full = some_filled(rng, 64);
+    let mut singular = some_filled(later, 64);
+    for part in &mut singular {
+        let mut bucket = load(part);
+        make_singular(later, &mut bucket);
+        store(part, &bucket);
     }
+    elimination(build, "full bucket", &full);
+    elimination(build, "full bucket, singular", &singular);
+    for count in [57, 48] {
+        elimination(build, &format!("{count} rows"), &some_filled(later, count));
+    }
+    elimination(build, "half full bucket", &some_filled(rng, 32));
+    for (name, count) in [("20 rows", 20), ("8 rows", 8), ("1 row", 1)] {
+        elimination(build, name, &some_filled(later, count));
+    }
+    elimination(build, "empty bucket", &some_filled(rng, 0));
+}
+
+/// 80 buckets with this many random vectors each.
+fn some_filled(rng: &mut Rng, count: usize) -> Vec<Vec<u64>> {
+    (0..80).map(|_| filled(rng, count).0).collect()
+}
+
+/// Flips a bit of a column, in an occupied row, such that the columns have no inverse.
+fn make_singular(rng: &mut Rng, bucket: &mut Bucket) {
+    assert_ne!(bucket.mark, 0);
+    loop {
+        let (column, bit) = (rng.below(64) as usize, 1 << rng.below(64));
+        let mut flipped = bucket.clone();
+        flipped.cols[column] ^= bit;
+        if bucket.mark & bit != 0 && flipped.rows().is_none() {
+            *bucket = flipped;
+            return;
+        }
+    }
+}
+
+fn elimination(build: &mut Build, name: &str, parts: &[Vec<u64>]) {
+    for part in parts {
+        let row = load(part).rows().map_or(0, |rows| rows[63]);
+        assert_eq!(ours::bucket_matrix(part, 63), row);
+    }
+    build.compare(
+        &format!("elimination, {name}"),
+        parts.len() as u32,
+        || {
+            for part in parts {
+                black_box(ours::bucket_matrix(black_box(part), 63));
+            }
+        },
+        || {
+            for part in parts {
+                black_box(load(black_box(part)).rows());
+            }
+        },
+    );
 }
 
 /// Identifiers of every kind, all different.
@@ -264,7 +433,7 @@ fn fill(
 }
 
 /// Adds to an empty table until the first refusal.
-fn filling(rng: &mut Rng, b1: u64, b2: u64) {
+fn filling(build: &mut Build, rng: &mut Rng, b1: u64, b2: u64) {
     let cards = cards(rng, 8000);
     let ours = || {
         fill(&cards, b1, b2, |t, kind, id| {
@@ -278,8 +447,8 @@ fn filling(rng: &mut Rng, b1: u64, b2: u64) {
     };
     let (taken, t) = ours();
     assert_eq!((taken, t), theirs());
-    compare_in(
-        2,
+    build.compare_in(
+        LONG,
         "add, empty table to the first refusal",
         taken,
         || {
@@ -292,7 +461,7 @@ fn filling(rng: &mut Rng, b1: u64, b2: u64) {
 }
 
 /// The same by words, through the inner call, which tests no table.
-fn filling_words(rng: &mut Rng, b1: u64, b2: u64) {
+fn filling_words(build: &mut Build, rng: &mut Rng, b1: u64, b2: u64) {
     let words: Vec<u64> = cards(rng, 8000).iter().map(Card::word).collect();
     let shape = Shape::new(b1, b2).expect("in range");
     let theirs = |t: &mut [u64]| {
@@ -306,7 +475,7 @@ fn filling_words(rng: &mut Rng, b1: u64, b2: u64) {
     let taken = ours::fill(&mut a, b1, b2, &words);
     assert_eq!(taken, theirs(&mut b));
     assert_eq!(a, b);
-    compare(
+    build.compare(
         "inner add, empty table to the first refusal",
         taken as u32,
         || {
@@ -318,17 +487,17 @@ fn filling_words(rng: &mut Rng, b1: u64, b2: u64) {
     );
 }
 
-fn tables(rng: &mut Rng) {
+fn tables(build: &mut Build, rng: &mut Rng) {
     const N: u32 = 50;
     for (b1, b2) in [(1, 1), (12, 8), (48, 32)] {
         let (t, inside) = filled_table(rng, b1, b2, 64);
         let asked: Vec<&Card> = (0..N).map(|_| rng.pick(&inside)).collect();
         let (mut a, mut b) = (t.clone(), t.clone());
-        println!(
+        build.heading(&format!(
             "-- {b1} and {b2} buckets, {} live words, 64 of them in the base list",
             inside.len()
-        );
-        compare(
+        ));
+        build.compare(
             "query",
             N,
             || {
@@ -342,7 +511,7 @@ fn tables(rng: &mut Rng) {
                 })
             },
         );
-        compare(
+        build.compare(
             "change",
             N,
             || {
@@ -356,7 +525,7 @@ fn tables(rng: &mut Rng) {
                 })
             },
         );
-        compare(
+        build.compare(
             "withdraw and add",
             N,
             || {
@@ -372,9 +541,9 @@ fn tables(rng: &mut Rng) {
                 }
             },
         );
-        assert_eq!(a, b);
+        build.same(&a, &b);
         let (mut p, mut q) = (vec![0; 6000], vec![0; 6000]);
-        compare(
+        build.compare(
             "write a plane",
             1,
             || {
@@ -384,22 +553,66 @@ fn tables(rng: &mut Rng) {
                 black_box(plane::write(&t, &mut q));
             },
         );
-        assert_eq!(p, q);
-        lookups(rng, &t, &inside, 64);
+        build.same(&p, &q);
+        lookups(build, rng, &t, &inside, 64);
         let (t, inside) = filled_table(rng, b1, b2, 0);
-        lookups(rng, &t, &inside, 0);
-        filling(rng, b1, b2);
-        filling_words(rng, b1, b2);
+        lookups(build, rng, &t, &inside, 0);
+        filling(build, rng, b1, b2);
+        filling_words(build, rng, b1, b2);
+    }
+}
+
+/// Queries of tables in which the columns of one bucket have no inverse: 16 tables for each line, all with another bit flipped. The
+/// bucket ends the call.
+fn damaged_tables(build: &mut Build, rng: &mut Rng) {
+    const N: u32 = 16;
+    for (b1, b2) in [(1, 1), (12, 8), (48, 32)] {
+        let (t, inside) = filled_table(rng, b1, b2, 64);
+        let shape = Shape::new(b1, b2).expect("in range");
+        build.heading(&format!("-- {b1} and {b2} buckets, damaged tables"));
+        let count = shape.buckets();
+        // Of two buckets none is in the middle.
+        let middle = (count > 2).then_some(("middle", count / 2));
+        let places = [Some(("first", 0)), middle, Some(("last", count - 1))];
+        for (name, index) in places.into_iter().flatten() {
+            let asked: Vec<(Vec<u64>, &Card)> = (0..N)
+                .map(|_| {
+                    let mut damaged = t.clone();
+                    let mut bucket = shape.read_bucket(&t, index);
+                    make_singular(rng, &mut bucket);
+                    shape.write_bucket(&mut damaged, index, &bucket);
+                    (damaged, rng.pick(&inside))
+                })
+                .collect();
+            for (t, Card { kind, id }) in &asked {
+                assert_eq!(ours::query(t, *kind, id).cause, TABLE_NOT_SOUND);
+                assert_eq!(table::query(t, *kind, id).cause, TABLE_NOT_SOUND);
+            }
+            build.compare(
+                &format!("query, {name} bucket singular"),
+                N,
+                || {
+                    asked.iter().for_each(|(t, card)| {
+                        black_box(ours::query(t, card.kind, &card.id));
+                    })
+                },
+                || {
+                    asked.iter().for_each(|(t, card)| {
+                        black_box(table::query(t, card.kind, &card.id));
+                    })
+                },
+            );
+        }
     }
 }
 
 /// Lookups of live identifiers in the plane of `t`, which has `base` base records.
-fn lookups(rng: &mut Rng, t: &[u64], inside: &[Card], base: u64) {
+fn lookups(build: &mut Build, rng: &mut Rng, t: &[u64], inside: &[Card], base: u64) {
     const N: u32 = 1000;
     let mut bytes = vec![0; 6000];
     let length = plane::write(t, &mut bytes).value as usize;
     let asked: Vec<&Card> = (0..N).map(|_| rng.pick(inside)).collect();
-    compare(
+    build.compare(
         &format!("plane lookup, {base} base records"),
         N,
         || {
@@ -416,16 +629,16 @@ fn lookups(rng: &mut Rng, t: &[u64], inside: &[Card], base: u64) {
 }
 
 /// Opening and withdrawing by themselves.
-fn opening_and_withdrawing(rng: &mut Rng) {
+fn opening_and_withdrawing(build: &mut Build, rng: &mut Rng) {
     const N: u32 = 50;
     for (b1, b2) in [(1, 1), (12, 8), (48, 32)] {
         let (t, mut inside) = filled_table(rng, b1, b2, 64);
         while inside.len() > N as usize {
             inside.swap_remove(rng.below(inside.len() as u64) as usize);
         }
-        println!("-- {b1} and {b2} buckets");
+        build.heading(&format!("-- {b1} and {b2} buckets"));
         let (mut a, mut b) = (t.clone(), t.clone());
-        compare(
+        build.compare(
             "open",
             N,
             || {
@@ -439,8 +652,8 @@ fn opening_and_withdrawing(rng: &mut Rng) {
                 }
             },
         );
-        assert_eq!(a, b);
-        compare(
+        build.same(&a, &b);
+        build.compare(
             "withdraw",
             N,
             || {
@@ -456,20 +669,20 @@ fn opening_and_withdrawing(rng: &mut Rng) {
                 })
             },
         );
-        assert_eq!(a, b);
+        build.same(&a, &b);
     }
 }
 
 /// The question for the total of a plan, every plan in turn.
-fn totals(rng: &mut Rng, b1: u64, b2: u64) {
+fn totals(build: &mut Build, rng: &mut Rng, b1: u64, b2: u64) {
     const N: u32 = 1024;
     let (t, inside) = filled_table(rng, b1, b2, 64);
     let plans: Vec<u8> = (0..=255).cycle().take(N as usize).collect();
     let sum: u64 = (0..=255).map(|plan| ours::plan_total(&t, plan).value).sum();
     assert_eq!(sum, inside.len() as u64);
-    println!("-- totals, {b1} and {b2} buckets");
-    compare_in(
-        20 * TURNS,
+    build.heading(&format!("-- totals, {b1} and {b2} buckets"));
+    build.compare_in(
+        SHORT,
         "total of a plan",
         N,
         || {
@@ -486,10 +699,10 @@ fn totals(rng: &mut Rng, b1: u64, b2: u64) {
 }
 
 /// Making and applying patches between planes of 48 and 32 buckets with 64 base records.
-fn patches(rng: &mut Rng) {
+fn patches(build: &mut Build, rng: &mut Rng) {
     const N: u32 = 50;
     const BASE: usize = 5 + 66 * 80;
-    println!("-- patches, 48 and 32 buckets, 64 base records");
+    build.heading("-- patches, 48 and 32 buckets, 64 base records");
     let (mut t, inside) = filled_table(rng, 48, 32, 64);
     let mut old = vec![0; 5930];
     assert!(plane::write(&t, &mut old).is_accepted());
@@ -512,7 +725,7 @@ fn patches(rng: &mut Rng) {
         ("64 base words exchanged", base, 22 + 19 * 64),
     ] {
         let (mut p, mut q) = (vec![0; 7000], vec![0; 7000]);
-        compare(
+        build.compare(
             &format!("make a patch, {name}"),
             N,
             || {
@@ -526,11 +739,11 @@ fn patches(rng: &mut Rng) {
                 }
             },
         );
-        assert_eq!(p, q);
+        build.same(&p, &q);
         let answer = patch::make(&old, &new, &mut q);
         assert_eq!((answer.cause, answer.value), (0, length));
         let made = q[..length as usize].to_vec();
-        compare(
+        build.compare(
             &format!("apply a patch, {name}"),
             N,
             || {
@@ -544,8 +757,8 @@ fn patches(rng: &mut Rng) {
                 }
             },
         );
-        assert_eq!(p, q);
-        assert_eq!(p[..new.len()], new);
+        build.same(&p, &q);
+        assert_eq!(q[..new.len()], new);
     }
 }
 
@@ -560,8 +773,8 @@ fn full_input(mut line: impl FnMut() -> String) -> Vec<u8> {
 }
 
 /// The line program on the longest input: adds of new identifiers, which fill the table; all calls mixed; openings.
-fn line_program(rng: &mut Rng) {
-    println!("-- 64 KiB through the line program, 48 and 32 buckets: milliseconds");
+fn line_program(build: &mut Build, rng: &mut Rng) {
+    build.heading("-- 64 KiB through the line program, 48 and 32 buckets: milliseconds");
     let mut next = 0;
     // Each seven with the same letters.
     let fields = |n: u64| format!("{} {:X}", 1 + n % 7, n / 7);
@@ -584,7 +797,7 @@ fn line_program(rng: &mut Rng) {
         let mut out = vec![0; 24 * lines::INPUT_MAX];
         let count = input.iter().filter(|&&byte| byte == b'\n').count();
         // A million steps: nanoseconds a step are milliseconds in all.
-        compare(
+        build.compare(
             &format!("{name}, {count} lines"),
             1_000_000,
             || {
@@ -636,17 +849,36 @@ fn plane_sizes(rng: &mut Rng) {
 }
 
 fn main() {
+    let arguments: Vec<String> = std::env::args().skip(1).collect();
+    let mut build = match arguments.iter().map(String::as_str).collect::<Vec<_>>()[..] {
+        [] => Build::Plain(None),
+        ["asked"] => Build::Asked,
+        [path] => Build::Plain(Some(Other::start(path))),
+        _ => {
+            eprintln!("bench [PATH]");
+            std::process::exit(2);
+        }
+    };
     let mut rng = Rng::new(2026);
-    println!(
-        "{:<48} {:>10} {:>10} {:>8}",
-        "nanoseconds a step", "ours", "Rust", "ratio"
-    );
-    identifiers(&mut rng);
-    buckets(&mut rng);
-    tables(&mut rng);
-    opening_and_withdrawing(&mut rng);
-    totals(&mut Rng::new(2028), 48, 32);
-    patches(&mut Rng::new(2027));
-    line_program(&mut rng);
-    plane_sizes(&mut rng);
+    build.heading(&format!(
+        "{:<48} {:>10} {:>10} {:>8} {:>10} {:>8}",
+        "nanoseconds a step", "ours", "Rust", "ratio", "Rust v3", "ratio v3"
+    ));
+    identifiers(&mut build, &mut rng);
+    buckets(&mut build, &mut rng);
+    tables(&mut build, &mut rng);
+    damaged_tables(&mut build, &mut Rng::new(2030));
+    opening_and_withdrawing(&mut build, &mut rng);
+    totals(&mut build, &mut Rng::new(2028), 48, 32);
+    patches(&mut build, &mut Rng::new(2027));
+    line_program(&mut build, &mut rng);
+    match build {
+        Build::Plain(other) => {
+            if let Some(other) = other {
+                other.finish();
+            }
+            plane_sizes(&mut rng);
+        }
+        Build::Asked => assert_eq!(question(), ""),
+    }
 }

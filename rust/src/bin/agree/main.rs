@@ -5,6 +5,7 @@ mod compare;
 mod histories;
 mod kinds;
 mod lines;
+mod matrices;
 mod parts;
 mod patches;
 mod planes;
@@ -33,6 +34,7 @@ fn main() {
     parts::identifiers(&mut rng, 300_000 * times);
     parts::every_identifier(&mut rng);
     parts::buckets(&mut rng, 2_000 * times);
+    matrices::matrices(&mut Rng::new(20261117), if long { 45_000 } else { 900 });
     words::fills(&mut Rng::new(20261116), 600 * times);
     tables::tables(&mut rng, if long { 20_000 } else { 1_800 });
     totals::questions(&mut rng, 20_000 * times);

@@ -61,7 +61,7 @@ pub fn every_identifier(rng: &mut Rng) {
 }
 
 /// The numbers of a bucket, as they lie in a table.
-fn numbers(b: &Bucket) -> Vec<u64> {
+pub fn numbers(b: &Bucket) -> Vec<u64> {
     let mut part = b.cols.to_vec();
     part.push(b.mark);
     part.extend(b.sols);
@@ -70,7 +70,7 @@ fn numbers(b: &Bucket) -> Vec<u64> {
 }
 
 /// K's rows if the columns have an inverse whose free rows are units.
-fn sound_rows(b: &Bucket) -> Option<[u64; 64]> {
+pub fn sound_rows(b: &Bucket) -> Option<[u64; 64]> {
     let rows = b.rows()?;
     (0..64)
         .all(|j| b.mark >> j & 1 == 1 || rows[j] == 1 << j)
