@@ -1,7 +1,8 @@
-// K's rows from the columns of its inverse, or the fact that there are none: elimination without counting ones.
+// K's rows from the columns of its inverse, or the fact that there are none. The crate bucket_blocks guesses them, eight columns at a time, and tests the
+// guess; where it says nothing, and where few rows are occupied, the elimination column by column decides, without counting ones.
 // The rows that the mark does not name must be units; their columns need no pass, and an empty bucket none at all.
 // The contract is an equation (`soundRows`); proofs/Exact.antt says that it is exact both ways.
-// Cites gf2 and bits. bucket_settle and table_sound cite it.
+// Cites gf2, bits and bucket_blocks. bucket_settle and table_sound cite it.
 use bits::WIDTH;
 ghost use mathlib.Core.Path.{_≡_};
 ghost use mathlib.Core.Bool.{true};
@@ -10,6 +11,9 @@ ghost use lib.Count.{trailingZeros};
 ghost use lib.ListN.{length, getD};
 ghost use Rattle.gf2.specs.Vectors.{solStep};
 ghost use Rattle.bucket_rows.specs.Elimination.{clearFrom, passed, pick, ordered, eliminated, freeCols, soundRows};
+
+// Up to so many occupied rows the elimination takes less time than the guess.
+const FEW: u32 = 2;
 
 pub struct Rows {
     pub ok: bool,
@@ -147,13 +151,15 @@ pub fn rows_of(cols: [u64; WIDTH], mark: u64) -> Rows
                 rows: cols,
             };
         }
-        let guess = bucket_blocks::guess_rows(cols, mark);
-        if guess.known {
-            let rows = guess.rows;
-            return Rows {
-                ok: guess.ok,
-                rows: rows,
-            };
+        if FEW < u64::count_ones(mark) {
+            let guess = bucket_blocks::guess_rows(cols, mark);
+            if guess.known {
+                let rows = guess.rows;
+                return Rows {
+                    ok: guess.ok,
+                    rows: rows,
+                };
+            }
         }
         return eliminate(cols, mark);
     }

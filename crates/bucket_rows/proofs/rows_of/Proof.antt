@@ -21,26 +21,26 @@ returns c =
 
 guess-rows-requires : tie.Need-guess-rows-requires
 guess-rows-requires c κs =
-    let a = c .before .before .before .before .args in
+    let a = c .before .before .before .before .before .args in
     let n : length (a .t1) ≡ 64 = search needs in
-    cols→own 64 (a .mark) (a .t1) n (sym (c .before .before .free-cols .ensures) ∙ c .before .if1 .taken)
+    cols→own 64 (a .mark) (a .t1) n (sym (c .before .before .before .free-cols .ensures) ∙ c .before .before .if1 .taken)
 
 returns-2 : tie.Need-returns-2
 returns-2 c =
-    let a = c .before .before .before .before .before .before .before .args in
+    let a = c .before .before .before .before .before .before .before .before .args in
     let g = c .before .before .guess-rows in
     let n : length (a .t1) ≡ 64 = search needs in
     let f : (i : ℕ) → Fits w64 (getD (a .t1) i 0) = λ i. search needs in
     let r : (i : ℕ) → Fits w64 (getD (g .result .rows) i 0) = λ i. search needs in
-    sound-guess 64 (a .mark) (a .t1) (g .result) n (λ i. f i .fits) (λ i. r i .fits) (sym (c .before .before .before .before .before .free-cols .ensures) ∙ c .before .before .before .before .if1 .taken) (c .before .if3 .taken) (g .ensures)
+    sound-guess 64 (a .mark) (a .t1) (g .result) n (λ i. f i .fits) (λ i. r i .fits) (sym (c .before .before .before .before .before .before .free-cols .ensures) ∙ c .before .before .before .before .before .if1 .taken) (c .before .if4 .taken) (g .ensures)
 
 eliminate-requires : tie.Need-eliminate-requires
-eliminate-requires c κs = sym (c .before .before .before .before .free-cols .ensures) ∙ c .before .before .before .if1 .taken
+eliminate-requires c κs = sym (c .before .before .before .free-cols .ensures) ∙ c .before .before .if1 .taken
 
 returns-3 : tie.Need-returns-3
 returns-3 c =
-    let a = c .before .before .before .before .before .before .before .args in
-    sound-yes 64 (a .mark) (a .t1) (c .eliminate .result) (sym (c .before .before .before .before .before .free-cols .ensures) ∙ c .before .before .before .before .if1 .taken) (c .eliminate .ensures)
+    let a = c .before .before .before .before .before .before .args in
+    sound-yes 64 (a .mark) (a .t1) (c .eliminate .result) (sym (c .before .before .before .before .free-cols .ensures) ∙ c .before .before .before .if1 .taken) (c .eliminate .ensures)
 
 returns-4 : tie.Need-returns-4
 returns-4 c = sound-no 64 (c .before .before .before .args .mark) (c .before .before .before .args .t1) (sym (c .before .free-cols .ensures) ∙ c .if1 .left)
