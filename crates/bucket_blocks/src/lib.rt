@@ -7,8 +7,7 @@ use bits::WIDTH;
 ghost use mathlib.Core.Path.{_≡_};
 ghost use mathlib.Core.List.{[], _∷_};
 ghost use Prim.Native.Nat.{_+_, _*_, _≤_, _<_, _^_};
-ghost use lib.ListN.{length, getD};
-ghost use Rattle.gf2.specs.Vectors.{outside};
+ghost use lib.ListN.{length};
 ghost use Rattle.bucket_blocks.specs.Pairs.{withPair, Keeps, OwnOutside, PairsOf, RowsRead, Guessed};
 
 // Words of a table of 16 pairs, one for each sum of four pivots.
