@@ -1,3 +1,4 @@
 -- The laws of the crate.
 pub mod Shifts
 pub mod Packed
+pub mod Several

@@ -1,7 +1,9 @@
--- Parities found at every s-th bit of a word are those of every s-th word, and s such words, interleaved, are the product. The laws are at every
--- width; `bytes` and `eight` are at 64 bits, where the shifts are by 32, 16, 8, 4, 2 and 1.
+-- Parities found at every s-th bit of a word are those of every s-th word, and s such words, interleaved, are the product; one, gathered, is that
+-- with eight words. The laws are at every width; `bytes` and `eight` are at 64 bits, where the shifts are by 32, 16, 8, 4, 2 and 1, and `gather`
+-- is a test of the 256 words that have parities only.
 -- Assumes nothing.
 use mathlib.Core.Path.{_≡_, refl, sym, ap, ap₂, _∙_}
+use mathlib.Core.Bool.{Bool}
 use mathlib.Core.List.{List, [], _∷_}
 use Prim.Native.Nat.{ℕ, zero, suc, _+_, _-_, _*_, _/_, _%_, _^_, _≤_, _<_}
 use native.Mathlib.Nat.{div-one, div-div-eq-div-mul, div-add-mod', mod-lt, mod-eq-of-lt, add-zero, mul-comm, mul-add, mul-suc, mul-zero, mul-assoc, mul-left-comm, pow-suc}
@@ -10,12 +12,12 @@ use native.Mathlib.Decide.{ℕ-discrete}
 use native.Mathlib.Omega.{arith}
 use lib.Bits.{bitXor, bitAnd, and-comm, and-zero-r, and-mask, and-block, xor-shr}
 use lib.Pow.{pow-pos, pow-add, mod-mod-pow}
-use lib.Dec.{lit<}
+use lib.Dec.{T, eqb, eqb→eq, lit<}
 use lib.ListN.{length, getD, set, drop, drop-of-length-le}
 use lib.Seq.{drop-cons, getD-set-same, getD-set-other}
 use Rattle.gf2.specs.Vectors.{dot, product}
-use Rattle.gf2.proofs.Bit.{bit-low, dot-pow}
-use Rattle.parities.specs.Packed.{xorDown, paired, spaced, parities, halves, strided, interleaved}
+use Rattle.gf2.proofs.Bit.{bit-low, every2, at2, dot-lt, dot-pow}
+use Rattle.parities.specs.Packed.{xorDown, paired, spaced, parities, halves, strided, interleaved, gathered}
 use Rattle.parities.proofs.Shifts.{dot-and, dot-down, xor-down, pair-down, pair-up}
 
 -- ---- numbers at every s-th bit
@@ -71,7 +73,7 @@ product-at [] k = refl
 product-at (c ∷ cs) k = ap (λ (x : ℕ). dot k c + 2 * x) (product-at cs k)
 
 -- s words, at every s-th bit of which are the parities of every s-th column, from word 0, 1, .. on
-pub product-strides : (s m k : ℕ) (cs ws : List ℕ) → length cs ≡ s * m → length ws ≡ s → ((i : ℕ) → i < s → getD ws i 0 ≡ strided s m cs i k) → interleaved ws ≡ product cs k
+pub product-strides : (s m k : ℕ) (cs ws : List ℕ) → length cs ≡ s * m → length ws ≡ s → ((i : ℕ) → i < s → getD ws i 0 ≡ strided s m cs i s k) → interleaved ws ≡ product cs k
 unfolding strided
 product-strides s m k cs ws hc hw h =
     interleaved-at ws
@@ -147,10 +149,10 @@ bytes x =
     ∙ parities-xor-down 8 8 3 2 (xorDown 4 x)
     ∙ parities-xor-down 8 8 15 4 x
 
--- eight words in one: byte j has the parity of (k AND word i + 8 * j)
-module _ (ws : List ℕ) (i k : ℕ) (h : k < 2 ^ 64) where
+-- eight words in one: byte j has the parity of (k AND word i + d * j)
+module _ (ws : List ℕ) (i d k : ℕ) (h : k < 2 ^ 64) where
   unfoldable pub packed : ℕ
-  packed = paired 64 8 0xff00ff00ff00ff (paired 64 16 0xffff0000ffff (halves ws i k) (halves ws (i + 16) k)) (paired 64 16 0xffff0000ffff (halves ws (i + 8) k) (halves ws (i + 24) k))
+  packed = paired 64 8 0xff00ff00ff00ff (paired 64 16 0xffff0000ffff (halves ws i (4 * d) k) (halves ws (i + 2 * d) (4 * d) k)) (paired 64 16 0xffff0000ffff (halves ws (i + d) (4 * d) k) (halves ws (i + 3 * d) (4 * d) k))
 
   -- all 64 bits of (k AND word)
   whole : (a b : ℕ) → a ≡ b → dot 0xffffffffffffffff (bitAnd k (getD ws a 0)) ≡ dot k (getD ws b 0)
@@ -158,41 +160,77 @@ module _ (ws : List ℕ) (i k : ℕ) (h : k < 2 ^ 64) where
       ap (dot 0xffffffffffffffff) (and-comm k (getD ws a 0)) ∙ dot-and 0xffffffffffffffff (getD ws a 0) k
       ∙ ap₂ (λ (x n : ℕ). dot x (getD ws n 0)) (and-comm 0xffffffffffffffff k ∙ and-mask k 64 ∙ mod-eq-of-lt h) e
 
-  byte0 : dot 0xff (packed / 2 ^ (8 * 0)) ≡ dot k (getD ws (i + 8 * 0) 0)
+  byte0 : dot 0xff (packed / 2 ^ (8 * 0)) ≡ dot k (getD ws (i + d * 0) 0)
   unfolding packed halves
   byte0 = dot-down 0xff (8 * 0) packed ∙ pair-down 64 8 _ _ _ _ refl ∙ pair-down 64 16 _ _ _ _ refl ∙ pair-down 64 32 _ _ _ _ refl ∙ whole _ _ (omega arith)
 
-  byte1 : dot 0xff (packed / 2 ^ (8 * 1)) ≡ dot k (getD ws (i + 8 * 1) 0)
+  byte1 : dot 0xff (packed / 2 ^ (8 * 1)) ≡ dot k (getD ws (i + d * 1) 0)
   unfolding packed halves
   byte1 = dot-down 0xff (8 * 1) packed ∙ pair-up 64 8 _ _ _ _ refl (lit< tt) ∙ pair-down 64 16 _ _ _ _ refl ∙ pair-down 64 32 _ _ _ _ refl ∙ whole _ _ (omega arith)
 
-  byte2 : dot 0xff (packed / 2 ^ (8 * 2)) ≡ dot k (getD ws (i + 8 * 2) 0)
+  byte2 : dot 0xff (packed / 2 ^ (8 * 2)) ≡ dot k (getD ws (i + d * 2) 0)
   unfolding packed halves
   byte2 = dot-down 0xff (8 * 2) packed ∙ pair-down 64 8 _ _ _ _ refl ∙ pair-up 64 16 _ _ _ _ refl (lit< tt) ∙ pair-down 64 32 _ _ _ _ refl ∙ whole _ _ (omega arith)
 
-  byte3 : dot 0xff (packed / 2 ^ (8 * 3)) ≡ dot k (getD ws (i + 8 * 3) 0)
+  byte3 : dot 0xff (packed / 2 ^ (8 * 3)) ≡ dot k (getD ws (i + d * 3) 0)
   unfolding packed halves
   byte3 = dot-down 0xff (8 * 3) packed ∙ pair-up 64 8 _ _ _ _ refl (lit< tt) ∙ pair-up 64 16 _ _ _ _ refl (lit< tt) ∙ pair-down 64 32 _ _ _ _ refl ∙ whole _ _ (omega arith)
 
-  byte4 : dot 0xff (packed / 2 ^ (8 * 4)) ≡ dot k (getD ws (i + 8 * 4) 0)
+  byte4 : dot 0xff (packed / 2 ^ (8 * 4)) ≡ dot k (getD ws (i + d * 4) 0)
   unfolding packed halves
   byte4 = dot-down 0xff (8 * 4) packed ∙ pair-down 64 8 _ _ _ _ refl ∙ pair-down 64 16 _ _ _ _ refl ∙ pair-up 64 32 _ _ _ _ refl (lit< tt) ∙ whole _ _ (omega arith)
 
-  byte5 : dot 0xff (packed / 2 ^ (8 * 5)) ≡ dot k (getD ws (i + 8 * 5) 0)
+  byte5 : dot 0xff (packed / 2 ^ (8 * 5)) ≡ dot k (getD ws (i + d * 5) 0)
   unfolding packed halves
   byte5 = dot-down 0xff (8 * 5) packed ∙ pair-up 64 8 _ _ _ _ refl (lit< tt) ∙ pair-down 64 16 _ _ _ _ refl ∙ pair-up 64 32 _ _ _ _ refl (lit< tt) ∙ whole _ _ (omega arith)
 
-  byte6 : dot 0xff (packed / 2 ^ (8 * 6)) ≡ dot k (getD ws (i + 8 * 6) 0)
+  byte6 : dot 0xff (packed / 2 ^ (8 * 6)) ≡ dot k (getD ws (i + d * 6) 0)
   unfolding packed halves
   byte6 = dot-down 0xff (8 * 6) packed ∙ pair-down 64 8 _ _ _ _ refl ∙ pair-up 64 16 _ _ _ _ refl (lit< tt) ∙ pair-up 64 32 _ _ _ _ refl (lit< tt) ∙ whole _ _ (omega arith)
 
-  byte7 : dot 0xff (packed / 2 ^ (8 * 7)) ≡ dot k (getD ws (i + 8 * 7) 0)
+  byte7 : dot 0xff (packed / 2 ^ (8 * 7)) ≡ dot k (getD ws (i + d * 7) 0)
   unfolding packed halves
   byte7 = dot-down 0xff (8 * 7) packed ∙ pair-up 64 8 _ _ _ _ refl (lit< tt) ∙ pair-up 64 16 _ _ _ _ refl (lit< tt) ∙ pair-up 64 32 _ _ _ _ refl (lit< tt) ∙ whole _ _ (omega arith)
 
   digit : {a b x y : ℕ} → a ≡ b → x ≡ y → a + 2 ^ 8 * x ≡ b + 2 ^ 8 * y
   digit p q = ap₂ (λ (a x : ℕ). a + 2 ^ 8 * x) p q
 
-  pub eight : parities 8 8 0xff packed ≡ strided 8 8 ws i k
+  pub eight : parities 8 8 0xff packed ≡ strided 8 8 ws i d k
   unfolding parities strided
   eight = digit byte0 (digit byte1 (digit byte2 (digit byte3 (digit byte4 (digit byte5 (digit byte6 (digit {x = 0} byte7 refl)))))))
+
+-- ---- parities at every eighth bit, gathered
+
+-- every list of n binary digits passes the test p
+abbrev everyList : ℕ → (List ℕ → Bool) → Bool
+everyList zero p = p []
+everyList (suc n) p = every2 (λ x. everyList n (λ l. p (x ∷ l)))
+
+-- the first n of f
+abbrev firstOf : ℕ → (ℕ → ℕ) → List ℕ
+firstOf zero f = []
+firstOf (suc n) f = f 0 ∷ firstOf n (λ j. f (suc j))
+
+at-list : (n : ℕ) (p : List ℕ → Bool) (f : ℕ → ℕ) → T (everyList n p) → ((j : ℕ) → f j < 2) → T (p (firstOf n f))
+at-list zero p f t h = t
+at-list (suc n) p f t h = at-list n (λ l. p (f 0 ∷ l)) (λ j. f (suc j)) (at2 (λ x. everyList n (λ l. p (x ∷ l))) t (f 0) (h 0)) (λ j. h (suc j))
+
+moves : List ℕ → Bool
+moves l = eqb (gathered (spaced 8 8 (λ j. getD l j 0))) (spaced 1 8 (λ j. getD l j 0))
+
+all-move : T (everyList 8 moves)
+unfolding every2 moves gathered
+all-move = tt
+
+gather : (f : ℕ → ℕ) → ((j : ℕ) → f j < 2) → gathered (spaced 8 8 f) ≡ spaced 1 8 f
+unfolding moves
+gather f h = eqb→eq _ _ (at-list 8 moves f all-move h)
+
+-- the parities of eight words next to one another, gathered: the product
+pub product-gathered : (ws : List ℕ) (k : ℕ) → length ws ≡ 8 → gathered (strided 8 8 ws 0 1 k) ≡ product ws k
+unfolding strided
+product-gathered ws k h =
+    gather (λ j. dot k (getD ws (0 + 1 * j) 0)) (λ j. dot-lt k _)
+    ∙ spaced-ext 1 8 _ _ (λ j l. let e : 0 + 1 * j ≡ j = omega arith in ap (λ (n : ℕ). dot k (getD ws n 0)) e)
+    ∙ ap (λ (n : ℕ). spaced 1 n (λ i. dot k (getD ws i 0))) (sym h)
+    ∙ sym (product-at ws k)

@@ -1,2 +1,3 @@
 -- The definitions that the contracts of the crate cite.
 pub mod Packed
+pub mod Several

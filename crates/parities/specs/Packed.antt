@@ -27,15 +27,19 @@ spaced s (suc m) f = f 0 + 2 ^ s * spaced s m (λ j. f (suc j))
 unfoldable pub parities : ℕ → ℕ → ℕ → ℕ → ℕ
 parities s m e x = spaced s m (λ j. dot e (x / 2 ^ (s * j)))
 
--- words i and i + 32 under k, the two halves of each XORed, in one
-unfoldable pub halves : List ℕ → ℕ → ℕ → ℕ
-halves ws i k = paired 64 32 0xffffffff (bitAnd k (getD ws i 0)) (bitAnd k (getD ws (i + 32) 0))
+-- words i and i + d under k, the two halves of each XORed, in one
+unfoldable pub halves : List ℕ → ℕ → ℕ → ℕ → ℕ
+halves ws i d k = paired 64 32 0xffffffff (bitAnd k (getD ws i 0)) (bitAnd k (getD ws (i + d) 0))
 
--- at every s-th bit, m in all, the parity of ones in (k AND word), for every s-th word from word i on
-unfoldable pub strided : ℕ → ℕ → List ℕ → ℕ → ℕ → ℕ
-strided s m ws i k = spaced s m (λ j. dot k (getD ws (i + s * j) 0))
+-- at every s-th bit, m in all, the parity of ones in (k AND word), for every d-th word from word i on
+unfoldable pub strided : ℕ → ℕ → List ℕ → ℕ → ℕ → ℕ → ℕ
+strided s m ws i d k = spaced s m (λ j. dot k (getD ws (i + d * j) 0))
 
 -- the words, each one bit further than the one before
 abbrev pub interleaved : List ℕ → ℕ
 interleaved [] = 0
 interleaved (w ∷ ws) = w + 2 * interleaved ws
+
+-- bits 0, 8, .. 56 of a word that has no others, next to one another
+unfoldable pub gathered : ℕ → ℕ
+gathered x = xorDown 28 (xorDown 14 (xorDown 7 x)) % 256

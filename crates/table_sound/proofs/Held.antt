@@ -11,7 +11,7 @@ use mathlib.Core.Logic.{⊎-elim}
 use mathlib.Core.Option.{Option, none, some}
 use mathlib.Core.List.{List, [], _∷_, _++_, List·Memᴰ, List·Memᴰ·head, List·Memᴰ·tail, List·Memᴰ·not-nil, List·Memᴰ·append-cases, Memᴰ·of-map}
 use lib.Bits.{bitAnd}
-use lib.Count.{ones, trailingZeros}
+use lib.Count.{ones, trailingZeros, leadingZeros, leading-length}
 use lib.Dec.{eqb, ltb, leb}
 use lib.ListN.{length, getD, take, drop, replicate, length-set, length-take, length-drop, drop-of-length-le}
 use lib.Pow.{pow-mono}
@@ -27,8 +27,12 @@ use Rattle.lists.proofs.Totals as C
 use Rattle.lists.proofs.Totals.{totals-length, totals-none, totals-cons, less-more, more-less}
 use Rattle.hash.specs.Mix.{mixOf, unmixOf}
 use Rattle.gf2.specs.Select.{chosen}
+use Rattle.gf2.proofs.Bit.{bit-set-lt}
+use Rattle.gf2.proofs.Lowest.{tz-bit, tz-lt}
 use Rattle.gf2.proofs.Chosen.{chosen-none, chosen-low}
 use Rattle.gf2.proofs.Linear.{product-lt}
+use Rattle.parities.specs.Several.{products}
+use Rattle.parities.proofs.Several.{products-at}
 use Rattle.bucket_rows.specs.declared.Rows.{Rows}
 use Rattle.bucket_rows.specs.Elimination.{soundRows}
 use Rattle.bucket.specs.declared.Bucket.{Bucket}
@@ -442,6 +446,20 @@ module _ (t : List ℕ) where
           all-counted d2 ws l2 on2 = sym (whole-left ∙ ap noneLeft (past-first ∙ some-of (levelLeft t true b2 p vs) l2 on2))
 
 -- ---- the rows that a mark names
+
+-- a mark is below the power of two of its length in binary
+pub below-length : (n d : ℕ) → d < 2 ^ n → d < 2 ^ (n - leadingZeros n d)
+below-length n d h =
+    let m = leading-length n d h in
+    let e : m .0 ≡ n - leadingZeros n d = omega (arith, m .1) in
+    subst (λ (k : ℕ). d < 2 ^ k) e (m .2)
+
+-- the plan of the row of the lowest bit of d, of the plans of the first m rows, where d names none but these
+pub plan-at : (b : Bucket) (n m d : ℕ) (rs : List ℕ) → length rs ≡ n → d < 2 ^ n → d < 2 ^ m → (d ≡ 0 → ⊥)
+    → let a : ℕ = trailingZeros n d in getD (products m (b .sols) rs) a 0 ≡ lookup b (getD rs a 0)
+plan-at b n m d rs h hd hm ne =
+    let l = tz-lt n d hd ne in
+    products-at m (trailingZeros n d) (b .sols) rs (bit-set-lt m (trailingZeros n d) d hm (tz-bit n d l)) (omega arith)
 
 module _ (b : Bucket) (p : Entry → Bool) where
   -- the row of the lowest bit, then the others

@@ -2,7 +2,7 @@
 // document 02, order 2: each row and base entry found is counted off a copy of them. That of the desk's plan must be 0, so an entry with that
 // plan (order 3) cannot be counted off. Free rows of the solutions must be 0 (order 6). The test is an equation with those of the crate table
 // (specs/Test.antt, Calls.antt); specs/Held.antt is for the crate's own functions: what is left of the totals.
-// Cites table, bucket, bucket_rows (the rows of K), bucket_settle (`listed`: rows with their plans), identifier, hash and table_layout (the places); table_calls and plane_write build on it.
+// Cites table, bucket, parities (the plans of the rows), bucket_rows (the rows of K), bucket_settle (`listed`: rows with their plans), identifier, hash and table_layout (the places); table_calls and plane_write build on it.
 use bucket::Bucket;
 use table_layout::Table;
 ghost use mathlib.Core.Path.{_≡_};
@@ -68,7 +68,7 @@ pub(crate) fn row_held(t: &[u64], second: bool, m: u64, i: u64, bound: u64, v: u
     true
 }
 
-// An occupied row v of the bucket b is held so, and counted off with its plan, which is looked up once it is.
+// An occupied row v of the bucket b is held so, and counted off with its plan.
 pub(crate) fn row_off(
     t: &[u64],
     second: bool,
@@ -76,18 +76,19 @@ pub(crate) fn row_off(
     i: u64,
     b: Bucket,
     v: u64,
+    plan: u64,
     left: &mut [u64],
 ) -> bool
-    requires { ⌜ (shaped (now t) ≡ true) × (length (now left) ≡ totalNumbers) ⌝ }
+    requires { ⌜ (shaped (now t) ≡ true) × ((length (now left) ≡ totalNumbers) × (plan ≡ lookup b v)) ⌝ }
     ensures { λ r. ⌜ Leaves (oneOff (rowOf (now (t .entry)) second m i b) (record { word = v; plan = lookup b v }) (now (left .entry))) r (now (left .exit)) ⌝ }
 {
     if row_held(t, second, m, i, b.bound, v) {
-        return count_off(left, b.lookup(v));
+        return count_off(left, plan);
     }
     false
 }
 
-// Each of the rows that the mark names is held so, and counted off.
+// Each of the rows that the mark names is held so, and counted off. The plans of the rows, up to the highest of these, are looked up together.
 pub(crate) fn rows_off(
     t: &[u64],
     second: bool,
@@ -100,10 +101,13 @@ pub(crate) fn rows_off(
     requires { ⌜ (shaped (now t) ≡ true) × (length (now left) ≡ totalNumbers) ⌝ }
     ensures { λ r. ⌜ Leaves (countOff (rowOf (now (t .entry)) second m i b) (listed b (chosen (b .mark) vectors)) (now (left .entry))) r (now (left .exit)) ⌝ }
 {
+    let sols = b.sols;
+    let n = Bucket::ROWS - (u64::leading_zeros(b.mark) as usize);
+    let plans = parities::products(sols, vectors, n);
     let mut rest = b.mark;
     while rest != 0 {
         let a = u64::trailing_zeros(rest) as usize;
-        if row_off(t, second, m, i, b, vectors[a], left) {
+        if row_off(t, second, m, i, b, vectors[a], plans[a], left) {
             rest = rest & (rest - 1);
         } else {
             return false;

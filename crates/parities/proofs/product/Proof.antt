@@ -13,7 +13,7 @@ use Rattle.parities.proofs.product.Statement.{statement}
 use Rattle.parities.proofs.product.Tie as tie
 
 abbrev Inv-loop : tie.InvT-loop
-Inv-loop k cols words₀ i₀ words i = (i ≤ 8) × (length words ≡ 8) × ((j : ℕ) → j < i → getD words j 0 ≡ strided 8 8 cols j k)
+Inv-loop k cols words₀ i₀ words i = (i ≤ 8) × (length words ≡ 8) × ((j : ℕ) → j < i → getD words j 0 ≡ strided 8 8 cols j 8 k)
 
 abbrev μ-loop : tie.MeasureT-loop
 μ-loop k cols words₀ i₀ words i = 8 - i
@@ -44,7 +44,7 @@ loop-again c =
     let b = c .before .before .before in
     let a = b .before .args in
     let l : b .loop .i < length (b .loop .words) = omega arith in
-    (omega arith, simp length-set (b .loop .inv .1), filled (λ j. strided 8 8 (a .t1) j (a .k)) (b .loop .words) (b .loop .i) (c .strided .result) l (c .strided .ensures) (b .loop .inv .2))
+    (omega arith, simp length-set (b .loop .inv .1), filled (λ j. strided 8 8 (a .t1) j 8 (a .k)) (b .loop .words) (b .loop .i) (c .strided .result) l (c .strided .ensures) (b .loop .inv .2))
 
 interleaved-requires : tie.Need-interleaved-requires Inv-loop μ-loop
 interleaved-requires c κs =

@@ -7,8 +7,14 @@ use Rattle.parities.proofs.Packed.{packed, eight}
 use Rattle.parities.proofs.strided.Statement.{statement}
 use Rattle.parities.proofs.strided.Tie as tie
 
+mul-four : tie.Need-mul-four
+mul-four c = search needs
+
 halves-requires : tie.Need-halves-requires
 halves-requires c κs = search needs
+
+mul-halves : tie.Need-mul-halves
+mul-halves c = search needs
 
 add-halves : tie.Need-add-halves
 add-halves c = search needs
@@ -24,6 +30,9 @@ add-halves-2 c = search needs
 
 halves-requires-3 : tie.Need-halves-requires-3
 halves-requires-3 c κs = search needs
+
+mul-halves-2 : tie.Need-mul-halves-2
+mul-halves-2 c = search needs
 
 add-halves-3 : tie.Need-add-halves-3
 add-halves-3 c = search needs
@@ -49,18 +58,21 @@ returns c =
     let odd = c .before .before .paired2 .ensures ∙ ap₂ (paired 64 16 0xffff0000ffff) (c .before .before .before .before .halves3 .ensures) (c .before .before .before .halves4 .ensures) in
     c .byte-parities .ensures
     ∙ ap (parities 8 8 0xff) (c .before .paired3 .ensures ∙ ap₂ (paired 64 8 0xff00ff00ff00ff) even odd)
-    ∙ eight (s .args .words .now) (s .args .i) (s .args .k) (s .fits .k .fits)
+    ∙ eight (s .args .words .now) (s .args .i) (s .args .d) (s .args .k) (s .fits .k .fits)
 
 pub strided-spec : {M : Type 1} → statement M
 strided-spec =
     tie.close
     (tie.spec
+    mul-four
     halves-requires
+    mul-halves
     add-halves
     halves-requires-2
     paired-requires
     add-halves-2
     halves-requires-3
+    mul-halves-2
     add-halves-3
     halves-requires-4
     paired-requires-2

@@ -22,13 +22,10 @@ solved s = search needs
 row-held-requires : tie.Need-row-held-requires
 row-held-requires c κs = search needs
 
-lookup-requires : tie.Need-lookup-requires
-lookup-requires c κs = search needs
-
 count-off-requires : tie.Need-count-off-requires
 count-off-requires c κs =
-    let s = c .before .before .before .before .before .before in
-    (s .pre .1, subst₂ (λ (x y : ℕ). x < 2 ^ y) (sym (c .lookup .ensures)) (solved s) (product-lt (s .args .b .sols) (s .args .v)))
+    let s = c .before .before .before .before .before in
+    (s .pre .1 .0, subst₂ (λ (x y : ℕ). x < 2 ^ y) (sym (s .pre .1 .1)) (solved s) (product-lt (s .args .b .sols) (s .args .v)))
 
 same-length : tie.Need-same-length
 same-length c = search needs
@@ -36,11 +33,12 @@ same-length c = search needs
 returns : tie.Need-returns
 returns c =
     let k = c .before .before .count-off in
-    let e = c .before .before .before .lookup .ensures in
-    let h = c .before .before .before .before .before .before in
-    let a = h .before .before .before .args in
+    let h = c .before .before .before .before .before in
+    let s = h .before .before .before in
+    let e = s .pre .1 .1 in
+    let a = s .args in
     let ts = a .left .now in
-    off-counted (rowOf (a .t .now) (a .second) (a .m) (a .i) (a .b)) (record { word = a .v; plan = lookup (a .b) (a .v) }) ts (sym (h .row-held .ensures) ∙ c .before .before .before .before .before .if1 .taken) _ _
+    off-counted (rowOf (a .t .now) (a .second) (a .m) (a .i) (a .b)) (record { word = a .v; plan = lookup (a .b) (a .v) }) ts (sym (h .row-held .ensures) ∙ c .before .before .before .before .if1 .taken) _ _
     (k .ensures .0 ∙ ap (λ (p : ℕ). ltb 0 (getD ts p 0)) e) (k .ensures .1 ∙ ap (λ (p : ℕ). cond (k .result) (oneLess p ts) ts) e)
 
 returns-2 : tie.Need-returns-2
@@ -51,4 +49,4 @@ returns-2 c =
 pub row-off-spec : {M : Type 1} → statement M
 row-off-spec =
     tie.close
-    (tie.spec row-held-requires lookup-requires count-off-requires same-length returns returns-2)
+    (tie.spec row-held-requires count-off-requires same-length returns returns-2)

@@ -1,10 +1,13 @@
--- `table_sound::rows_off` meets its contract. The loop takes the bits of the mark one by one, lowest first.
+-- `table_sound::rows_off` meets its contract. The loop takes the bits of the mark one by one, lowest first; each is below n, so the plan of its row
+-- is among those looked up.
 -- Assumes nothing.
-use Prim.Native.Nat.{_^_, _<_}
+use Prim.Native.Nat.{ℕ, _^_, _<_}
 use native.Mathlib.Nat.{lt-trans}
 use native.Mathlib.Omega.{arith}
-use mathlib.Core.Path.{_≡_, refl, sym, _∙_}
-use lib.ListN.{length}
+use mathlib.Core.Path.{_≡_, refl, sym, ap, _∙_}
+use mathlib.Core.List.{List}
+use lib.Count.{trailingZeros, leading-le}
+use lib.ListN.{length, getD}
 use Rattle.gf2.specs.Select.{chosen}
 use Rattle.gf2.proofs.Chosen.{low-lt}
 use Rattle.gf2.proofs.Lowest.{tz-lt}
@@ -12,16 +15,16 @@ use Rattle.bucket_settle.specs.Settle.{listed}
 use Rattle.table.specs.Table.{totalNumbers}
 use Rattle.table.specs.Calls.{rows}
 use Rattle.table_sound.specs.Held.{rowOf, countOff}
-use Rattle.table_sound.proofs.Held.{left-some, rows-on, rows-out, rows-end}
+use Rattle.table_sound.proofs.Held.{left-some, below-length, plan-at, rows-on, rows-out, rows-end}
 use borrow.Author.Needs.{needs}
 use Rattle.table_sound.proofs.rows_off.Statement.{statement}
 use Rattle.table_sound.proofs.rows_off.Tie as tie
 
 abbrev Inv-loop : tie.InvT-loop
-Inv-loop t second m i b left₀ vectors rest₀ left rest = (rest < 2 ^ rows) × (length left ≡ totalNumbers) × (countOff (rowOf t second m i b) (listed b (chosen rest vectors)) left ≡ countOff (rowOf t second m i b) (listed b (chosen (b .mark) vectors)) left₀)
+Inv-loop t second m i b left₀ vectors n plans rest₀ left rest = (rest < 2 ^ rows) × (length left ≡ totalNumbers) × (countOff (rowOf t second m i b) (listed b (chosen rest vectors)) left ≡ countOff (rowOf t second m i b) (listed b (chosen (b .mark) vectors)) left₀) × (rest < 2 ^ n)
 
 abbrev μ-loop : tie.MeasureT-loop
-μ-loop t second m i b left₀ vectors rest₀ left rest = rest
+μ-loop t second m i b left₀ vectors n plans rest₀ left rest = rest
 
 -- what the types of the parameters tell
 sized : (s : tie.Start Inv-loop μ-loop) → length (s .args .t6) ≡ rows
@@ -30,8 +33,17 @@ sized s = search needs
 marked : (s : tie.Start Inv-loop μ-loop) → s .args .b .mark < 2 ^ rows
 marked s = search needs
 
+cast-n : tie.Need-cast-n Inv-loop μ-loop
+cast-n c = let l = leading-le rows (c .before .before .before .before .args .b .mark) in omega arith
+
+sub-n : tie.Need-sub-n Inv-loop μ-loop
+sub-n c = let l = leading-le rows (c .before .before .before .before .args .b .mark) in omega arith
+
+products-requires : tie.Need-products-requires Inv-loop μ-loop
+products-requires c κs = let l = leading-le rows (c .before .before .before .before .args .b .mark) in omega arith
+
 loop-holds : tie.Need-loop-holds Inv-loop μ-loop
-loop-holds c = let s = c .before .before in (marked s, s .pre .1, refl)
+loop-holds c = let s = c .before .before .before .before .before in (marked s, s .pre .1, refl, below-length rows (s .args .b .mark) (marked s))
 
 cast-a : tie.Need-cast-a Inv-loop μ-loop
 cast-a c = let l = tz-lt rows (c .before .loop .rest) (c .before .loop .inv .0) (c .loop-test .taken) in omega arith
@@ -42,8 +54,19 @@ mul-row-off c = let l = tz-lt rows (c .before .loop .rest) (c .before .loop .inv
 array-read-row-off : tie.Need-array-read-row-off Inv-loop μ-loop
 array-read-row-off c = let l = tz-lt rows (c .before .loop .rest) (c .before .loop .inv .0) (c .loop-test .taken) in l
 
+mul-row-off-2 : tie.Need-mul-row-off-2 Inv-loop μ-loop
+mul-row-off-2 c = let l = tz-lt rows (c .before .loop .rest) (c .before .loop .inv .0) (c .loop-test .taken) in omega arith
+
+array-read-row-off-2 : tie.Need-array-read-row-off-2 Inv-loop μ-loop
+array-read-row-off-2 c = let l = tz-lt rows (c .before .loop .rest) (c .before .loop .inv .0) (c .loop-test .taken) in l
+
 row-off-requires : tie.Need-row-off-requires Inv-loop μ-loop
-row-off-requires c κs = let b = c .before .before in (b .before .before .before .pre .0, b .loop .inv .1)
+row-off-requires c κs =
+    let b = c .before .before in
+    let s = b .before .before .before .before .before .before in
+    let a = trailingZeros rows (b .loop .rest) in
+    let e = ap (λ (ps : List ℕ). getD ps a 0) (b .before .products .ensures) ∙ plan-at (s .args .b) rows _ (b .loop .rest) (s .args .t6) (sized s) (b .loop .inv .0) (b .loop .inv .3) (c .before .loop-test .taken) in
+    (s .pre .0, (b .loop .inv .1, e))
 
 sub-rest : tie.Need-sub-rest Inv-loop μ-loop
 sub-rest c = search needs
@@ -56,9 +79,10 @@ loop-again c =
     let d = c .before .before .before in
     let k = d .before .before in
     let b = k .before in
-    let s = b .before .before .before in
+    let s = b .before .before .before .before .before .before in
     let a = s .args in
-    (lt-trans (low-lt rows (b .loop .rest) (b .loop .inv .0) (k .loop-test .taken)) (b .loop .inv .0), search needs, rows-on (a .b) (rowOf (a .t .now) (a .second) (a .m) (a .i) (a .b)) rows (b .loop .rest) (a .t6) (b .loop .left) (sized s) (b .loop .inv .0) (k .loop-test .taken) (b .loop .inv .2) (d .row-off .last .1 .1 .1 .1 .1 .1 .0) (d .row-off .ensures) (c .if1 .taken))
+    let less = low-lt rows (b .loop .rest) (b .loop .inv .0) (k .loop-test .taken) in
+    (lt-trans less (b .loop .inv .0), search needs, rows-on (a .b) (rowOf (a .t .now) (a .second) (a .m) (a .i) (a .b)) rows (b .loop .rest) (a .t6) (b .loop .left) (sized s) (b .loop .inv .0) (k .loop-test .taken) (b .loop .inv .2) (d .row-off .last .1 .1 .1 .1 .1 .1 .1 .0) (d .row-off .ensures) (c .if1 .taken), lt-trans less (b .loop .inv .3))
 
 same-length : tie.Need-same-length Inv-loop μ-loop
 same-length c = search needs
@@ -68,9 +92,9 @@ returns c =
     let d = c .before .before .before in
     let k = d .before .before in
     let b = k .before in
-    let s = b .before .before .before in
+    let s = b .before .before .before .before .before .before in
     let a = s .args in
-    rows-out (a .b) (rowOf (a .t .now) (a .second) (a .m) (a .i) (a .b)) rows (b .loop .rest) (a .t6) (b .loop .left) (sized s) (b .loop .inv .0) (k .loop-test .taken) (b .loop .inv .2) (d .row-off .last .1 .1 .1 .1 .1 .1 .0) _ (d .row-off .ensures) (c .if1 .left)
+    rows-out (a .b) (rowOf (a .t .now) (a .second) (a .m) (a .i) (a .b)) rows (b .loop .rest) (a .t6) (b .loop .left) (sized s) (b .loop .inv .0) (k .loop-test .taken) (b .loop .inv .2) (d .row-off .last .1 .1 .1 .1 .1 .1 .1 .0) _ (d .row-off .ensures) (c .if1 .left)
 
 same-length-2 : tie.Need-same-length-2 Inv-loop μ-loop
 same-length-2 c = search needs
@@ -78,7 +102,7 @@ same-length-2 c = search needs
 returns-2 : tie.Need-returns-2 Inv-loop μ-loop
 returns-2 c =
     let b = c .before in
-    let a = b .before .before .before .args in
+    let a = b .before .before .before .before .before .before .args in
     let z : b .loop .rest ≡ 0 = c .loop-test .left in
     left-some (sym (b .loop .inv .2) ∙ (rw (sym z) at (rows-end (a .b) (rowOf (a .t .now) (a .second) (a .m) (a .i) (a .b)) (a .t6) (b .loop .left))))
 
@@ -88,10 +112,15 @@ rows-off-spec =
     (tie.spec
     Inv-loop
     μ-loop
+    cast-n
+    sub-n
+    products-requires
     loop-holds
     cast-a
     mul-row-off
     array-read-row-off
+    mul-row-off-2
+    array-read-row-off-2
     row-off-requires
     sub-rest
     loop-less
