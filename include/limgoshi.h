@@ -53,7 +53,7 @@ extern "C" {
 #define LIMGOSHI_STACK_ADD 75000u   /* limgoshi_add */
 #define LIMGOSHI_STACK_PATCH 10000u /* limgoshi_make_patch, limgoshi_apply_patch */
 #define LIMGOSHI_STACK_LOOKUP 500u  /* limgoshi_plane_lookup, limgoshi_plan_total */
-#define LIMGOSHI_STACK 8000u        /* any other */
+#define LIMGOSHI_STACK 15000u       /* any other */
 
 /* The kinds of identifiers: 1 to 7. */
 enum {
@@ -98,21 +98,21 @@ enum {
 LIMGOSHI_ANSWER limgoshi_open(uint64_t *table, size_t table_len, uint64_t b1, uint64_t b2, uint64_t *value);
 
 /* Adds an identifier with its plan, 0 to 254.
- * Value: the number of live identifiers. Causes: 15, 1, 2, 14, 4, 5, 6, 8. Time: 6 to 300 microseconds. Stack: LIMGOSHI_STACK_ADD. */
+ * Value: the number of live identifiers. Causes: 15, 1, 2, 14, 4, 5, 6, 8. Time: 5 to 200 microseconds. Stack: LIMGOSHI_STACK_ADD. */
 LIMGOSHI_ANSWER limgoshi_add(uint64_t *table, size_t table_len, uint8_t kind, const uint8_t *id, size_t id_len, uint8_t plan,
                              uint64_t *value);
 
 /* Changes the plan of a live identifier, to 0 to 254.
- * Value: the earlier plan. Causes: 15, 1, 2, 14, 4, 5, 7. Time: 6 to 300 microseconds. Stack: LIMGOSHI_STACK. */
+ * Value: the earlier plan. Causes: 15, 1, 2, 14, 4, 5, 7. Time: 5 to 200 microseconds. Stack: LIMGOSHI_STACK. */
 LIMGOSHI_ANSWER limgoshi_change(uint64_t *table, size_t table_len, uint8_t kind, const uint8_t *id, size_t id_len, uint8_t plan,
                                 uint64_t *value);
 
 /* Withdraws a live identifier. Planes written from then on do not depend on the plan that it had; see limgoshi_plane_lookup.
- * Value: the earlier plan. Causes: 15, 1, 2, 4, 5, 7. Time: 6 to 300 microseconds. Stack: LIMGOSHI_STACK. */
+ * Value: the earlier plan. Causes: 15, 1, 2, 4, 5, 7. Time: 5 to 200 microseconds. Stack: LIMGOSHI_STACK. */
 LIMGOSHI_ANSWER limgoshi_withdraw(uint64_t *table, size_t table_len, uint8_t kind, const uint8_t *id, size_t id_len, uint64_t *value);
 
 /* Finds the plan of a live identifier.
- * Value: the plan. Causes: 15, 1, 2, 4, 5, 7. Time: 6 to 300 microseconds. Stack: LIMGOSHI_STACK. */
+ * Value: the plan. Causes: 15, 1, 2, 4, 5, 7. Time: 5 to 200 microseconds. Stack: LIMGOSHI_STACK. */
 LIMGOSHI_ANSWER limgoshi_query(const uint64_t *table, size_t table_len, uint8_t kind, const uint8_t *id, size_t id_len, uint64_t *value);
 
 /* Reads how many live identifiers have a plan, from the totals that the table keeps. Only the table's length and bucket numbers are tested: of a table
@@ -122,7 +122,7 @@ LIMGOSHI_ANSWER limgoshi_query(const uint64_t *table, size_t table_len, uint8_t 
 LIMGOSHI_ANSWER limgoshi_plan_total(const uint64_t *table, size_t table_len, uint8_t plan, uint64_t *value);
 
 /* Writes the plane of a table to the front of out; what lies past it is untouched.
- * Value: the plane's length. Causes: 4, 5, 9. Time: 6 to 300 microseconds. Stack: LIMGOSHI_STACK. */
+ * Value: the plane's length. Causes: 4, 5, 9. Time: 5 to 200 microseconds. Stack: LIMGOSHI_STACK. */
 LIMGOSHI_ANSWER limgoshi_write_plane(const uint64_t *table, size_t table_len, uint8_t *out, size_t out_len, uint64_t *value);
 
 /* Finds the plan that a plane gives an identifier: to a live one its plan, to any other LIMGOSHI_CALL_THE_DESK, or some number where a bucket holds
