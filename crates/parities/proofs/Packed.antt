@@ -17,7 +17,7 @@ use lib.ListN.{length, getD, set, drop, drop-of-length-le}
 use lib.Seq.{drop-cons, getD-set-same, getD-set-other}
 use Rattle.gf2.specs.Vectors.{dot, product}
 use Rattle.gf2.proofs.Bit.{bit-low, every2, at2, dot-lt, dot-pow}
-use Rattle.parities.specs.Packed.{xorDown, paired, spaced, parities, halves, strided, interleaved, gathered}
+use Rattle.parities.specs.Packed.{xorDown, paired, spaced, parities, halves, quarters, strided, interleaved, gathered}
 use Rattle.parities.proofs.Shifts.{dot-and, dot-down, xor-down, pair-down, pair-up}
 
 -- ---- numbers at every s-th bit
@@ -152,7 +152,7 @@ bytes x =
 -- eight words in one: byte j has the parity of (k AND word i + d * j)
 module _ (ws : List ℕ) (i d k : ℕ) (h : k < 2 ^ 64) where
   unfoldable pub packed : ℕ
-  packed = paired 64 8 0xff00ff00ff00ff (paired 64 16 0xffff0000ffff (halves ws i (4 * d) k) (halves ws (i + 2 * d) (4 * d) k)) (paired 64 16 0xffff0000ffff (halves ws (i + d) (4 * d) k) (halves ws (i + 3 * d) (4 * d) k))
+  packed = paired 64 8 0xff00ff00ff00ff (quarters ws i d k) (quarters ws (i + d) d k)
 
   -- all 64 bits of (k AND word)
   whole : (a b : ℕ) → a ≡ b → dot 0xffffffffffffffff (bitAnd k (getD ws a 0)) ≡ dot k (getD ws b 0)
@@ -161,35 +161,35 @@ module _ (ws : List ℕ) (i d k : ℕ) (h : k < 2 ^ 64) where
       ∙ ap₂ (λ (x n : ℕ). dot x (getD ws n 0)) (and-comm 0xffffffffffffffff k ∙ and-mask k 64 ∙ mod-eq-of-lt h) e
 
   byte0 : dot 0xff (packed / 2 ^ (8 * 0)) ≡ dot k (getD ws (i + d * 0) 0)
-  unfolding packed halves
+  unfolding packed halves quarters
   byte0 = dot-down 0xff (8 * 0) packed ∙ pair-down 64 8 _ _ _ _ refl ∙ pair-down 64 16 _ _ _ _ refl ∙ pair-down 64 32 _ _ _ _ refl ∙ whole _ _ (omega arith)
 
   byte1 : dot 0xff (packed / 2 ^ (8 * 1)) ≡ dot k (getD ws (i + d * 1) 0)
-  unfolding packed halves
+  unfolding packed halves quarters
   byte1 = dot-down 0xff (8 * 1) packed ∙ pair-up 64 8 _ _ _ _ refl (lit< tt) ∙ pair-down 64 16 _ _ _ _ refl ∙ pair-down 64 32 _ _ _ _ refl ∙ whole _ _ (omega arith)
 
   byte2 : dot 0xff (packed / 2 ^ (8 * 2)) ≡ dot k (getD ws (i + d * 2) 0)
-  unfolding packed halves
+  unfolding packed halves quarters
   byte2 = dot-down 0xff (8 * 2) packed ∙ pair-down 64 8 _ _ _ _ refl ∙ pair-up 64 16 _ _ _ _ refl (lit< tt) ∙ pair-down 64 32 _ _ _ _ refl ∙ whole _ _ (omega arith)
 
   byte3 : dot 0xff (packed / 2 ^ (8 * 3)) ≡ dot k (getD ws (i + d * 3) 0)
-  unfolding packed halves
+  unfolding packed halves quarters
   byte3 = dot-down 0xff (8 * 3) packed ∙ pair-up 64 8 _ _ _ _ refl (lit< tt) ∙ pair-up 64 16 _ _ _ _ refl (lit< tt) ∙ pair-down 64 32 _ _ _ _ refl ∙ whole _ _ (omega arith)
 
   byte4 : dot 0xff (packed / 2 ^ (8 * 4)) ≡ dot k (getD ws (i + d * 4) 0)
-  unfolding packed halves
+  unfolding packed halves quarters
   byte4 = dot-down 0xff (8 * 4) packed ∙ pair-down 64 8 _ _ _ _ refl ∙ pair-down 64 16 _ _ _ _ refl ∙ pair-up 64 32 _ _ _ _ refl (lit< tt) ∙ whole _ _ (omega arith)
 
   byte5 : dot 0xff (packed / 2 ^ (8 * 5)) ≡ dot k (getD ws (i + d * 5) 0)
-  unfolding packed halves
+  unfolding packed halves quarters
   byte5 = dot-down 0xff (8 * 5) packed ∙ pair-up 64 8 _ _ _ _ refl (lit< tt) ∙ pair-down 64 16 _ _ _ _ refl ∙ pair-up 64 32 _ _ _ _ refl (lit< tt) ∙ whole _ _ (omega arith)
 
   byte6 : dot 0xff (packed / 2 ^ (8 * 6)) ≡ dot k (getD ws (i + d * 6) 0)
-  unfolding packed halves
+  unfolding packed halves quarters
   byte6 = dot-down 0xff (8 * 6) packed ∙ pair-down 64 8 _ _ _ _ refl ∙ pair-up 64 16 _ _ _ _ refl (lit< tt) ∙ pair-up 64 32 _ _ _ _ refl (lit< tt) ∙ whole _ _ (omega arith)
 
   byte7 : dot 0xff (packed / 2 ^ (8 * 7)) ≡ dot k (getD ws (i + d * 7) 0)
-  unfolding packed halves
+  unfolding packed halves quarters
   byte7 = dot-down 0xff (8 * 7) packed ∙ pair-up 64 8 _ _ _ _ refl (lit< tt) ∙ pair-up 64 16 _ _ _ _ refl (lit< tt) ∙ pair-up 64 32 _ _ _ _ refl (lit< tt) ∙ whole _ _ (omega arith)
 
   digit : {a b x y : ℕ} → a ≡ b → x ≡ y → a + 2 ^ 8 * x ≡ b + 2 ^ 8 * y

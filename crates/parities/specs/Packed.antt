@@ -31,6 +31,10 @@ parities s m e x = spaced s m (λ j. dot e (x / 2 ^ (s * j)))
 unfoldable pub halves : List ℕ → ℕ → ℕ → ℕ → ℕ
 halves ws i d k = paired 64 32 0xffffffff (bitAnd k (getD ws i 0)) (bitAnd k (getD ws (i + d) 0))
 
+-- words i, i + 2 d, i + 4 d and i + 6 d under k, the four quarters of each XORed, in one
+unfoldable pub quarters : List ℕ → ℕ → ℕ → ℕ → ℕ
+quarters ws i d k = paired 64 16 0xffff0000ffff (halves ws i (4 * d) k) (halves ws (i + 2 * d) (4 * d) k)
+
 -- at every s-th bit, m in all, the parity of ones in (k AND word), for every d-th word from word i on
 unfoldable pub strided : ℕ → ℕ → List ℕ → ℕ → ℕ → ℕ → ℕ
 strided s m ws i d k = spaced s m (λ j. dot k (getD ws (i + d * j) 0))

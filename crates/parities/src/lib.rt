@@ -9,7 +9,7 @@ ghost use mathlib.Core.Path.{_≡_};
 ghost use Prim.Native.Nat.{_+_, _*_, _<_, _≤_, _^_};
 ghost use lib.ListN.{length};
 ghost use Rattle.gf2.specs.Vectors.{product};
-ghost use Rattle.parities.specs.Packed.{paired, parities, halves, strided, interleaved, gathered};
+ghost use Rattle.parities.specs.Packed.{paired, parities, halves, quarters, strided, interleaved, gathered};
 ghost use Rattle.parities.specs.Several.{products};
 
 // The bits of a byte; the parities of so many words are found in one, and the columns of one are so far from one another.
@@ -42,24 +42,26 @@ pub(crate) fn halves(words: &[u64], i: usize, d: usize, k: u64) -> u64
     paired(32, 0xffff_ffff, k & words[i], k & words[i + d])
 }
 
-// The parities of ones in (k AND word), for eight words from word i on, each d after the one before, in the lowest bits of the bytes.
-pub(crate) fn strided(words: &[u64], i: usize, d: usize, k: u64) -> u64
-    requires { ⌜ i + 7 * d < length (now words) ⌝ }
-    ensures { λ r. do ⌜ r ≡ strided (← ⟦BYTE⟧ .entry) (← ⟦BYTE⟧ .entry) (now (words .entry)) i d k ⌝ }
+// Words i, i + 2 d, i + 4 d and i + 6 d under k, the four quarters of each XORed, in one.
+pub(crate) fn quarters(words: &[u64], i: usize, d: usize, k: u64) -> u64
+    requires { ⌜ i + 6 * d < length (now words) ⌝ }
+    ensures { λ r. ⌜ r ≡ quarters (now (words .entry)) i d k ⌝ }
 {
-    let four = 4 * d;
-    let even = paired(
+    paired(
         16,
         0xffff_0000_ffff,
-        halves(words, i, four, k),
-        halves(words, i + 2 * d, four, k),
-    );
-    let odd = paired(
-        16,
-        0xffff_0000_ffff,
-        halves(words, i + d, four, k),
-        halves(words, i + 3 * d, four, k),
-    );
+        halves(words, i, 4 * d, k),
+        halves(words, i + 2 * d, 4 * d, k),
+    )
+}
+
+// The parities of ones in (k AND word), for every eighth word from word i on, each in the lowest bit of a byte.
+pub(crate) fn strided(words: &[u64], i: usize, k: u64) -> u64
+    requires { ⌜ i + 56 < length (now words) ⌝ }
+    ensures { λ r. do ⌜ r ≡ strided (← ⟦BYTE⟧ .entry) (← ⟦BYTE⟧ .entry) (now (words .entry)) i (← ⟦BYTE⟧ .entry) k ⌝ }
+{
+    let even = quarters(words, i, BYTE, k);
+    let odd = quarters(words, i + BYTE, BYTE, k);
     byte_parities(paired(8, 0xff_00ff_00ff_00ff, even, odd))
 }
 
@@ -84,7 +86,7 @@ pub fn product(cols: [u64; bits::WIDTH], k: u64) -> u64
     let mut words = [0u64; BYTE];
     let mut i: usize = 0;
     while i < BYTE {
-        words[i] = strided(&cols, i, BYTE, k);
+        words[i] = strided(&cols, i, k);
         i += 1;
     }
     interleaved(words)
@@ -103,7 +105,9 @@ pub(crate) fn gathered(x: u64) -> u64
 pub(crate) fn product_of_eight(words: [u64; BYTE], k: u64) -> u64
     ensures { λ r. ⌜ r ≡ product words k ⌝ }
 {
-    gathered(strided(&words, 0, 1, k))
+    let even = quarters(&words, 0, 1, k);
+    let odd = quarters(&words, 1, 1, k);
+    gathered(byte_parities(paired(8, 0xff_00ff_00ff_00ff, even, odd)))
 }
 
 // The products of the first n vectors with the eight words; 0 in the place of each other vector.

@@ -1,12 +1,12 @@
 -- `table_sound::rows_off` meets its contract. The loop takes the bits of the mark one by one, lowest first; each is below n, so the plan of its row
 -- is among those looked up.
 -- Assumes nothing.
-use Prim.Native.Nat.{ℕ, _^_, _<_}
+use Prim.Native.Nat.{ℕ, _^_, _≤_, _<_}
 use native.Mathlib.Nat.{lt-trans}
 use native.Mathlib.Omega.{arith}
 use mathlib.Core.Path.{_≡_, refl, sym, ap, _∙_}
 use mathlib.Core.List.{List}
-use lib.Count.{trailingZeros, leading-le}
+use lib.Count.{trailingZeros, leadingZeros, leading-le}
 use lib.ListN.{length, getD}
 use Rattle.gf2.specs.Select.{chosen}
 use Rattle.gf2.proofs.Chosen.{low-lt}
@@ -33,32 +33,39 @@ sized s = search needs
 marked : (s : tie.Start Inv-loop μ-loop) → s .args .b .mark < 2 ^ rows
 marked s = search needs
 
+leading : (c : tie.After-struct-known Inv-loop μ-loop) → leadingZeros rows (c .before .before .before .before .args .b .mark) ≤ rows
+leading c = leading-le rows (c .before .before .before .before .args .b .mark)
+
+-- the row of the lowest bit
+lowest-lt : (c : tie.In-loop Inv-loop μ-loop) → trailingZeros rows (c .before .loop .rest) < rows
+lowest-lt c = tz-lt rows (c .before .loop .rest) (c .before .loop .inv .0) (c .loop-test .taken)
+
 cast-n : tie.Need-cast-n Inv-loop μ-loop
-cast-n c = let l = leading-le rows (c .before .before .before .before .args .b .mark) in omega arith
+cast-n c = let l = leading c in omega arith
 
 sub-n : tie.Need-sub-n Inv-loop μ-loop
-sub-n c = let l = leading-le rows (c .before .before .before .before .args .b .mark) in omega arith
+sub-n c = let l = leading c in omega arith
 
 products-requires : tie.Need-products-requires Inv-loop μ-loop
-products-requires c κs = let l = leading-le rows (c .before .before .before .before .args .b .mark) in omega arith
+products-requires c κs = let l = leading c in omega arith
 
 loop-holds : tie.Need-loop-holds Inv-loop μ-loop
 loop-holds c = let s = c .before .before .before .before .before in (marked s, s .pre .1, refl, below-length rows (s .args .b .mark) (marked s))
 
 cast-a : tie.Need-cast-a Inv-loop μ-loop
-cast-a c = let l = tz-lt rows (c .before .loop .rest) (c .before .loop .inv .0) (c .loop-test .taken) in omega arith
+cast-a c = let l = lowest-lt c in omega arith
 
 mul-row-off : tie.Need-mul-row-off Inv-loop μ-loop
-mul-row-off c = let l = tz-lt rows (c .before .loop .rest) (c .before .loop .inv .0) (c .loop-test .taken) in omega arith
+mul-row-off c = let l = lowest-lt c in omega arith
 
 array-read-row-off : tie.Need-array-read-row-off Inv-loop μ-loop
-array-read-row-off c = let l = tz-lt rows (c .before .loop .rest) (c .before .loop .inv .0) (c .loop-test .taken) in l
+array-read-row-off c = lowest-lt c
 
 mul-row-off-2 : tie.Need-mul-row-off-2 Inv-loop μ-loop
-mul-row-off-2 c = let l = tz-lt rows (c .before .loop .rest) (c .before .loop .inv .0) (c .loop-test .taken) in omega arith
+mul-row-off-2 c = let l = lowest-lt c in omega arith
 
 array-read-row-off-2 : tie.Need-array-read-row-off-2 Inv-loop μ-loop
-array-read-row-off-2 c = let l = tz-lt rows (c .before .loop .rest) (c .before .loop .inv .0) (c .loop-test .taken) in l
+array-read-row-off-2 c = lowest-lt c
 
 row-off-requires : tie.Need-row-off-requires Inv-loop μ-loop
 row-off-requires c κs =
