@@ -140,10 +140,11 @@ pub pow-more : (k : ℕ) → 2 ^ (k + 1) ≡ 2 * 2 ^ k
 pow-more k = ap (λ (i : ℕ). 2 ^ i) (add-one k) ∙ pow-suc 2 k ∙ mul-comm (2 ^ k) 2
 
 -- pairs that are made of the rows of the matrix begin with products
-pub pairs-begin : (n mark : ℕ) (cs rows ws : List ℕ) → length cs ≡ n → mark < 2 ^ n → OwnOutside n mark cs → rows ≡ transposed n cs → PairsOf n mark rows ws
-    → Tied (product cs) ws
-pairs-begin n mark cs rows ws hl hm own e p =
+pub pairs-begin : (n m mark : ℕ) (cs rows ws : List ℕ) → length cs ≡ n → mark < 2 ^ n → OwnOutside n mark cs → rows ≡ transposed n cs
+    → PairsOf n mark rows (replicate m 0) ws → Tied (product cs) ws
+pairs-begin n m mark cs rows ws hl hm own e p =
     p (product cs) (product-xor cs) (own-fixes n mark cs hl hm own) (λ a h. ap (λ (l : List ℕ). getD l a 0) e ∙ getD-transposed n cs a h)
+    (tied-zeros (product cs) m (product-xor cs))
 
 -- rows read off products are a guess
 pub read-guessed : (n mark : ℕ) (cs ws : List ℕ) (g : Guess) → length cs ≡ n → mark < 2 ^ n → OwnOutside n mark cs → Tied (product cs) ws → RowsRead n mark cs ws g

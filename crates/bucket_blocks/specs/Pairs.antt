@@ -42,9 +42,10 @@ OwnOutside n mark cs = (i : ℕ) → i < n → outside (getD cs i 0) mark ≡ ou
 abbrev pub Fixes : ℕ → ℕ → (ℕ → ℕ) → Type 0
 Fixes n mark f = (x : ℕ) → x < 2 ^ n → f (outside x mark) ≡ outside x mark
 
--- pairs that are made of the n rows, which are f of the units
-abbrev pub PairsOf : ℕ → ℕ → List ℕ → List ℕ → Type 0
-PairsOf n mark rows ws = (f : ℕ → ℕ) → Linear f → Fixes n mark f → ((a : ℕ) → a < n → getD rows a 0 ≡ f (2 ^ a)) → Tied f ws
+-- pairs that are made of the n rows, which are f of the units, come to those before
+abbrev pub PairsOf : ℕ → ℕ → List ℕ → List ℕ → List ℕ → Type 0
+PairsOf n mark rows before after =
+    (f : ℕ → ℕ) → Linear f → Fixes n mark f → ((a : ℕ) → a < n → getD rows a 0 ≡ f (2 ^ a)) → Tied f before → Tied f after
 
 -- ---- at the end: what a guess tells of n columns; which of the three it tells is left open
 

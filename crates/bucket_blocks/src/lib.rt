@@ -41,12 +41,6 @@ pub struct Guess {
     pub rows: [u64; WIDTH],
 }
 
-// The pairs of a bucket's occupied rows.
-struct Pairs {
-    words: [u64; ROOM],
-    count: usize,
-}
-
 // How far the choice of pivots for four columns is: bit k of `have` is set where column k has one. `mine` has what the pivots leave of these columns' bits
 // of 16 pairs, four bits for each pair, and `others` of four other columns'; `next` is the pair that takes the next pivot's place.
 struct Choice {
@@ -355,24 +349,22 @@ fn block(
 }
 
 // The pairs of the occupied rows: a row of the matrix, less its bits outside the mark, beside the vector whose product that is. What a free row
-// would give is 0 and 0.
-fn pairs_of(words: [u64; WIDTH], mark: u64) -> Pairs
-    ensures { λ r. do ⌜ (r .count ≤ (← ⟦WIDTH⟧ .entry)) × PairsOf (← ⟦WIDTH⟧ .entry) mark words (r .words) ⌝ }
+// would give is 0 and 0. The number of the pairs.
+fn pairs_of(ws: &mut [u64], rows: [u64; WIDTH], mark: u64) -> usize
+    requires { do ⌜ length (now ws) ≡ (← ⟦ROOM⟧) ⌝ }
+    ensures { λ r. do ⌜ (r ≤ (← ⟦WIDTH⟧ .entry)) × (length (now (ws .exit)) ≡ (← ⟦ROOM⟧ .entry)) × PairsOf (← ⟦WIDTH⟧ .entry) mark rows (now (ws .entry)) (now (ws .exit)) ⌝ }
 {
-    let mut out = [0u64; ROOM];
     let mut count: usize = 0;
     let mut a: usize = 0;
     while a < WIDTH {
-        let x = words[a];
+        let x = rows[a];
         let inside = x & mark;
-        put(&mut out, count, inside, bits::power(a) ^ (x ^ inside));
+        let right = bits::power(a) ^ (x ^ inside);
+        put(ws, count, inside, right);
         count += ((mark >> a) % 2) as usize;
         a += 1;
     }
-    Pairs {
-        words: out,
-        count: count,
-    }
+    count
 }
 
 // The first 16 pairs.
@@ -466,8 +458,8 @@ pub fn guess_rows(cols: [u64; WIDTH], mark: u64) -> Guess
     requires { do ⌜ OwnOutside (← ⟦WIDTH⟧) mark cols ⌝ }
     ensures { λ r. do ⌜ Guessed (← ⟦WIDTH⟧ .entry) cols r ⌝ }
 {
-    let start = pairs_of(transpose::transpose(cols), mark);
-    let mut ws = start.words;
+    let mut ws = [0u64; ROOM];
+    let count = pairs_of(&mut ws, transpose::transpose(cols), mark);
     let mut window = window_of(&ws);
     let mut tables = [0u64; TABLES];
     let mut p = Progress {
@@ -476,11 +468,11 @@ pub fn guess_rows(cols: [u64; WIDTH], mark: u64) -> Guess
     };
     let mut b: usize = 0;
     while b < 16 {
-        p = block(&mut ws, &mut window, &mut tables, b % 8 * 8, start.count, p);
+        p = block(&mut ws, &mut window, &mut tables, b % 8 * 8, count, p);
         b += 1;
     }
     if p.lack == 0 {
-        return rows_in(&ws, start.count, mark, cols);
+        return rows_in(&ws, count, mark, cols);
     }
     let y = dependence(&window);
     Guess {

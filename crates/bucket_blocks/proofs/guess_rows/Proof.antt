@@ -15,10 +15,13 @@ use Rattle.bucket_blocks.proofs.guess_rows.Statement.{statement}
 use Rattle.bucket_blocks.proofs.guess_rows.Tie as tie
 
 abbrev Inv-loop : tie.InvT-loop
-Inv-loop cols mark start ws₀ window₀ tables₀ p₀ b₀ ws window tables p b = (length ws ≡ 176) × (length window ≡ 32) × (length tables ≡ 64) × Tied (product cols) ws × Tied (product cols) window × Tied (product cols) tables
+Inv-loop cols mark ws₀ count window₀ tables₀ p₀ b₀ ws window tables p b = (length ws ≡ 176) × (length window ≡ 32) × (length tables ≡ 64) × Tied (product cols) ws × Tied (product cols) window × Tied (product cols) tables
 
 abbrev μ-loop : tie.MeasureT-loop
-μ-loop cols mark start ws₀ window₀ tables₀ p₀ b₀ ws window tables p b = 16 - b
+μ-loop cols mark ws₀ count window₀ tables₀ p₀ b₀ ws window tables p b = 16 - b
+
+slice-aggregate-pairs-of : tie.Need-slice-aggregate-pairs-of Inv-loop μ-loop
+slice-aggregate-pairs-of c = search needs
 
 transpose-requires : tie.Need-transpose-requires Inv-loop μ-loop
 transpose-requires c κs = search needs
@@ -34,13 +37,13 @@ window-of-requires c κs = search needs
 
 loop-holds : tie.Need-loop-holds Inv-loop μ-loop
 loop-holds c =
-    let g = c .before .before .before .before .before in
+    let g = c .before .before .before .before .before .before in
     let s = c .before .before .before .pairs-of in
     let cs = g .args .cols in
     let n : length cs ≡ 64 = search needs in
     let m : Fits w64 (g .args .mark) = search needs in
-    let t = pairs-begin 64 (g .args .mark) cs (c .before .before .before .before .transpose .result) (s .result .words) n (m .fits) (g .pre) (c .before .before .before .before .transpose .ensures) (s .ensures .1) in
-    (search needs, search needs, refl, t, c .window-of .ensures (product cs) (product-xor cs) (t, tt) .0, tied-zeros (product cs) 64 (product-xor cs))
+    let t = pairs-begin 64 176 (g .args .mark) cs (c .before .before .before .before .transpose .result) (s .last .0) n (m .fits) (g .pre) (c .before .before .before .before .transpose .ensures) (s .ensures .2) in
+    (s .ensures .1, search needs, refl, t, c .window-of .ensures (product cs) (product-xor cs) (t, tt) .0, tied-zeros (product cs) 64 (product-xor cs))
 
 slice-aggregate-block : tie.Need-slice-aggregate-block Inv-loop μ-loop
 slice-aggregate-block c = search needs
@@ -66,7 +69,7 @@ loop-less c = search needs
 loop-again : tie.Need-loop-again Inv-loop μ-loop
 loop-again c =
     let e = c .before .before .before .block .ensures in
-    let cs = c .before .before .before .before .before .before .before .before .before .before .before .before .before .before .args .cols in
+    let cs = c .before .before .before .before .before .before .before .before .before .before .before .before .before .before .before .args .cols in
     let i = c .before .before .before .before .before .before .before .before .loop .inv in
     let t = e .3 (product cs) (product-xor cs) (i .3, (i .4, (i .5, tt))) in
     (e .0, e .1, e .2, t .0, t .1 .0, t .1 .1 .0)
@@ -79,7 +82,7 @@ rows-in-requires c κs = (c .before .before .before .before .before .before .bef
 
 returns : tie.Need-returns Inv-loop μ-loop
 returns c =
-    let g = c .before .before .before .before .before .before .before .before .before .before .before in
+    let g = c .before .before .before .before .before .before .before .before .before .before .before .before in
     let n : length (g .args .cols) ≡ 64 = search (needs, g .good) in
     let m : Fits w64 (g .args .mark) = search (needs, g .good) in
     read-guessed 64 (g .args .mark) (g .args .cols) (c .before .before .before .before .before .loop .ws) (c .rows-in .result) n (m .fits) (g .pre) (c .before .before .before .before .before .loop .inv .3) (c .rows-in .ensures)
@@ -92,7 +95,7 @@ dependence-requires c κs = c .before .before .before .before .loop .inv .1
 
 returns-2 : tie.Need-returns-2 Inv-loop μ-loop
 returns-2 c =
-    let cs = c .before .before .before .before .before .before .before .before .before .before .before .args .cols in
+    let cs = c .before .before .before .before .before .before .before .before .before .before .before .before .args .cols in
     let y = c .dependence in
     let f : Fits w64 (y .result) = search needs in
     none-guessed 64 cs (y .result) (f .fits) (sym (y .ensures (product cs) (product-xor cs) (c .before .before .before .before .before .loop .inv .4, tt) .0 0))
@@ -103,6 +106,7 @@ guess-rows-spec =
     (tie.spec
     Inv-loop
     μ-loop
+    slice-aggregate-pairs-of
     transpose-requires
     pairs-of-requires
     slice-aggregate-window-of

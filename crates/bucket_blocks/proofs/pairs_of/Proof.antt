@@ -9,28 +9,25 @@ use lib.Bits.{bitXor}
 use lib.ListN.{length, getD}
 use Rattle.gf2.specs.Vectors.{outside}
 use Rattle.bucket_blocks.specs.Pairs.{Tied, PairsOf}
-use Rattle.bucket_blocks.proofs.Tied.{length-put, tied-zeros, tied-put, row-pair}
+use Rattle.bucket_blocks.proofs.Tied.{length-put, tied-put, row-pair}
 use borrow.Author.Needs.{needs}
 use Rattle.bucket_blocks.proofs.pairs_of.Statement.{statement}
 use Rattle.bucket_blocks.proofs.pairs_of.Tie as tie
 
 abbrev Inv-loop : tie.InvT-loop
-Inv-loop mark words out₀ count₀ a₀ out count a = (a ≤ 64) × (count ≤ a) × (length out ≡ 176) × PairsOf 64 mark words out
+Inv-loop ws₀ mark rows count₀ a₀ ws count a = (a ≤ 64) × (count ≤ a) × (length ws ≡ 176) × PairsOf 64 mark rows ws₀ ws
 
 abbrev μ-loop : tie.MeasureT-loop
-μ-loop mark words out₀ count₀ a₀ out count a = 64 - a
+μ-loop ws₀ mark rows count₀ a₀ ws count a = 64 - a
 
 loop-holds : tie.Need-loop-holds Inv-loop μ-loop
-loop-holds c = (search needs, search needs, search needs, λ f lf fx e. tied-zeros f 176 lf)
+loop-holds c = (search needs, search needs, search needs, λ f lf fx e t. t)
 
 mul-x : tie.Need-mul-x Inv-loop μ-loop
 mul-x c = search needs
 
 array-read-x : tie.Need-array-read-x Inv-loop μ-loop
 array-read-x c = search needs
-
-slice-aggregate-put : tie.Need-slice-aggregate-put Inv-loop μ-loop
-slice-aggregate-put c = search needs
 
 power-requires : tie.Need-power-requires Inv-loop μ-loop
 power-requires c κs = search needs
@@ -52,23 +49,27 @@ loop-less c = search needs
 
 loop-again : tie.Need-loop-again Inv-loop μ-loop
 loop-again c =
-    let b = c .before .before .before .before .before in
-    let p = c .before .put in
-    let g = c .before .before .before .before .before .before .args in
+    let b = c .before .before .before .before .before .before in
+    let p = c .before .before .put in
+    let g = c .before .before .before .before .before .before .before .before .args in
     let a = b .loop .a in
     let l : a < 64 = omega arith in
-    let h : 2 * b .loop .count + 1 < length (b .loop .out) = omega arith in
-    let w : Fits w64 (getD (g .t1) a 0) = search needs in (
+    let h : 2 * b .loop .count + 1 < length (b .loop .ws) = omega arith in
+    let w : Fits w64 (getD (g .t2) a 0) = search needs in (
       omega arith,
       omega arith,
-      ap length (p .ensures) ∙ length-put _ _ _ (b .loop .out) ∙ b .loop .inv .2,
-      λ f lf fx e.
+      ap length (p .ensures) ∙ length-put _ _ _ (b .loop .ws) ∙ b .loop .inv .2,
+      λ f lf fx e t.
           subst (Tied f) (sym (p .ensures))
-          (tied-put f (b .loop .out) _ _ _ h (row-pair 64 (g .mark) f a (getD (g .t1) a 0) lf fx (w .fits) (e a l) ∙ ap (λ (u : ℕ). f (bitXor u (outside (getD (g .t1) a 0) (g .mark)))) (sym (c .before .before .power .ensures))) (b .loop .inv .3 f lf fx e)),
+          (tied-put f (b .loop .ws) _ _ _ h (row-pair 64 (g .mark) f a (getD (g .t2) a 0) lf fx (w .fits) (e a l) ∙ ap (λ (u : ℕ). f (bitXor u (outside (getD (g .t2) a 0) (g .mark)))) (sym (c .before .before .before .before .power .ensures)))
+          (b .loop .inv .3 f lf fx e t)),
     )
 
+same-length : tie.Need-same-length Inv-loop μ-loop
+same-length c = c .before .loop .inv .2 ∙ sym (c .before .before .before .pre)
+
 returns : tie.Need-returns Inv-loop μ-loop
-returns c = let z : c .before .loop .count ≤ 64 = omega arith in (z, c .before .loop .inv .3)
+returns c = let z : c .before .loop .count ≤ 64 = omega arith in (z, c .before .loop .inv .2, c .before .loop .inv .3)
 
 pub pairs-of-spec : {M : Type 1} → statement M
 pairs-of-spec =
@@ -79,7 +80,6 @@ pairs-of-spec =
     loop-holds
     mul-x
     array-read-x
-    slice-aggregate-put
     power-requires
     put-requires
     shr-count
@@ -87,4 +87,5 @@ pairs-of-spec =
     add-a
     loop-less
     loop-again
+    same-length
     returns)
