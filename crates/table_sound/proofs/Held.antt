@@ -6,17 +6,17 @@ use native.Mathlib.Nat.{zero-add, add-assoc, add-zero, lt-of-lt-of-le}
 use native.Mathlib.Numerals.{add-one}
 use native.Mathlib.Omega.{arith}
 use mathlib.Core.Path.{_≡_, refl, sym, ap, ap₂, _∙_, subst, subst⁻¹, fun-ext}
-use mathlib.Core.Bool.{Bool, true, false, cond, _&&_, and-true, and-false, true≢false}
+use mathlib.Core.Bool.{Bool, true, false, cond, _&&_, and-true, and-false, and-assoc, true≢false}
 use mathlib.Core.Logic.{⊎-elim}
 use mathlib.Core.Option.{Option, none, some}
 use mathlib.Core.List.{List, [], _∷_, _++_, List·Memᴰ, List·Memᴰ·head, List·Memᴰ·tail, List·Memᴰ·not-nil, List·Memᴰ·append-cases, Memᴰ·of-map}
-use lib.Bits.{bitAnd}
+use lib.Bits.{bitAnd, bitOr, or-zero-l, or-add-and, and-le-r}
 use lib.Count.{ones, trailingZeros, leadingZeros, leading-length}
 use lib.Dec.{eqb, ltb, leb}
 use lib.ListN.{length, getD, take, drop, replicate, length-set, length-take, length-drop, drop-of-length-le}
 use lib.Pow.{pow-mono}
 use lib.Seq.{drop-drop, getD-drop, drop-cons, getD-set-same, length-take-le}
-use borrow.Author.Tests.{leb-true, ltb-true, ltb-false}
+use borrow.Author.Tests.{leb-true, ltb-true, ltb-false, ne-eqb}
 use Rattle.lists.specs.Lists.{countFrom}
 use Rattle.lists.specs.Entries.{Entry, deskPlan, assignable}
 use Rattle.lists.specs.Totals.{planCount, totalsOf, oneMore, oneLess}
@@ -60,6 +60,12 @@ failing b h = ap (λ (x : Bool). x && b) h
 -- a loop of tests: one of them, q, then the others: x is what the loop has left to test, b what was to be tested
 pub go-on : {x q b c : Bool} (a : Bool) → x ≡ (q && a) → q ≡ c → x ≡ b → (c && a) ≡ b
 go-on a e h i = sym (e ∙ ap (λ (c : Bool). c && a) h) ∙ i
+
+-- the bits of two numbers together are 0 exactly where both numbers are
+or-none : (a b : ℕ) → eqb (bitOr a b) 0 ≡ (eqb a 0 && eqb b 0)
+or-none zero b = ap (λ (n : ℕ). eqb n 0) (or-zero-l b)
+or-none (suc a) b =
+    ne-eqb (bitOr (suc a) b) 0 (λ e. omega (arith, e, or-add-and (suc a) b, and-le-r (suc a) b)) ∙ sym (failing (eqb b 0) (ne-eqb (suc a) 0 (λ e. omega (arith, e))))
 
 -- a row in its bucket and under the bound
 pub row-passes : (t : List ℕ) (second : Bool) (m i bound v : ℕ) → eqb (index mixOf m v) i ≡ true → ltb (thr mixOf v) bound ≡ true
@@ -563,3 +569,14 @@ module _ (xs : List ℕ) where
 
   pub all-end : (p : ℕ → Bool) (at : ℕ) → length xs ≤ at → allOf p (drop at xs) ≡ true
   all-end p at h = ap (allOf p) (drop-of-length-le xs h)
+
+  -- the bits of the numbers so far, seen, and the numbers from a place on
+  pub seen-next : (seen at : ℕ) → at < length xs
+      → (eqb (bitOr seen (getD xs at 0)) 0 && allOf (λ x. eqb x 0) (drop (at + 1) xs)) ≡ (eqb seen 0 && allOf (λ x. eqb x 0) (drop at xs))
+  seen-next seen at h =
+      ap (λ (c : Bool). c && allOf (λ x. eqb x 0) (drop (at + 1) xs)) (or-none seen (getD xs at 0))
+      ∙ and-assoc (eqb seen 0) (eqb (getD xs at 0) 0) (allOf (λ x. eqb x 0) (drop (at + 1) xs))
+      ∙ ap (λ (c : Bool). eqb seen 0 && c) (sym (all-next (λ x. eqb x 0) at h))
+
+  pub seen-end : (seen at : ℕ) → length xs ≤ at → (eqb seen 0 && allOf (λ x. eqb x 0) (drop at xs)) ≡ eqb seen 0
+  seen-end seen at h = ap (λ (c : Bool). eqb seen 0 && c) (all-end (λ x. eqb x 0) at h) ∙ and-true (eqb seen 0)

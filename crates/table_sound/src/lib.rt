@@ -257,19 +257,18 @@ pub(crate) fn pairs_ascend(t: &[u64], count: u64, place: usize) -> bool
     true
 }
 
-// From a place on each number is 0.
+// From a place on each number is 0: their bits together are, a loop without an early return, so that it can be vectorised.
 pub(crate) fn zero_from(t: &[u64], place: usize) -> bool
     requires { ⌜ place ≤ length (now t) ⌝ }
     ensures { λ r. ⌜ r ≡ allOf (λ x. eqb x 0) (drop place (now (t .entry))) ⌝ }
 {
     let mut i = place;
+    let mut seen: u64 = 0;
     while i < t.len() {
-        if t[i] != 0 {
-            return false;
-        }
+        seen = seen | t[i];
         i += 1;
     }
-    true
+    seen == 0
 }
 
 // The base count is in range, the total of the desk's plan is 0, and the live count is right.
