@@ -65,5 +65,6 @@ Open cs g = (g .known ≡ false) × (g .ok ≡ false) × (g .rows ≡ cs)
 abbrev pub RowsRead : ℕ → ℕ → List ℕ → List ℕ → Guess → Type 0
 RowsRead n mark cs ws g = ((f : ℕ → ℕ) → Tied f ws → Fixes n mark f → Found n f g) ⊎ Open cs g
 
+-- one of the three, of the matrix whose inverse has the columns cs. That it is never the last is not promised: that would cost time, and no answer
 abbrev pub Guessed : ℕ → List ℕ → Guess → Type 0
 Guessed n cs g = Found n (product cs) g ⊎ (None n cs g ⊎ Open cs g)
