@@ -1,8 +1,6 @@
 //! Random bucket histories, whole buckets compared with the slow model.
 
-mod oracle;
-
-use oracle::SlowBucket;
+use crate::oracle::{self, SlowBucket};
 use reference::bucket::{parity, Bucket};
 use reference::rng::Rng;
 

@@ -1,8 +1,6 @@
 //! The edges of document 01.
 
-mod oracle;
-
-use oracle::ExactTable;
+use crate::oracle::{self, ExactTable};
 use reference::answer::Answer;
 use reference::plane;
 use reference::rng::Rng;

@@ -1,8 +1,6 @@
 //! Random histories of calls, compared with the slow models.
 
-mod oracle;
-
-use oracle::{ExactTable, SlowTable};
+use crate::oracle::{self, ExactTable, SlowTable};
 use reference::answer::Answer;
 use reference::identifier;
 use reference::plane;

@@ -2,9 +2,7 @@
 //! byte is hashed first; a kind that there is not is cause 15, before all
 //! others; the same bytes under two kinds are two identifiers.
 
-mod oracle;
-
-use oracle::{mixed, ExactTable};
+use crate::oracle::{self, mixed, ExactTable};
 use reference::answer::Answer;
 use reference::identifier::{check, fnv1a64, word};
 use reference::rng::Rng;

@@ -1,8 +1,7 @@
 //! Patches: made and applied, whole and damaged.
 
-mod oracle;
-
-use oracle::patches::{self as slow, Record, SlowPlane};
+use crate::oracle;
+use crate::oracle::patches::{self as slow, Record, SlowPlane};
 use reference::answer::Answer;
 use reference::identifier;
 use reference::rng::Rng;

@@ -1,8 +1,6 @@
 //! The plane reader on damaged planes.
 
-mod oracle;
-
-use oracle::ExactTable;
+use crate::oracle::{self, ExactTable};
 use reference::answer::Answer;
 use reference::plane;
 use reference::rng::Rng;

@@ -1,8 +1,7 @@
 //! Published values of FNV-1a 64 and SplitMix64, the 256 byte values, and
 //! the way from bytes to a place.
 
-mod oracle;
-
+use crate::oracle;
 use reference::answer::Answer;
 use reference::identifier::*;
 use reference::rng::Rng;

@@ -1,9 +1,7 @@
 //! The stored runs of the line program: the reference prints what is stored,
 //! and so does a line program over the slow model.
 
-mod oracle;
-
-use oracle::SlowTable;
+use crate::oracle::{self, SlowTable};
 use reference::answer::Answer;
 use reference::lines;
 use std::fs;

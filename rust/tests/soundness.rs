@@ -2,9 +2,7 @@
 //! by bit, that of the totals in totals.rs, and random damage compared with the
 //! slow test.
 
-mod oracle;
-
-use oracle::{mixed, ExactTable};
+use crate::oracle::{self, mixed, ExactTable};
 use reference::answer::Answer;
 use reference::rng::Rng;
 use reference::table;

@@ -1,10 +1,8 @@
 //! Document 02, order 3: plan 255 means "call the desk". No word is given it,
 //! no live word has it, and a post answers it for a word that is nowhere.
 
-mod oracle;
-
-use oracle::patches::{bytes_of, SlowPlane};
-use oracle::{mixed, ExactTable};
+use crate::oracle::patches::{bytes_of, SlowPlane};
+use crate::oracle::{self, mixed, ExactTable};
 use reference::answer::Answer;
 use reference::rng::Rng;
 use reference::table;

@@ -1,9 +1,7 @@
 //! Document 02, order 2: the totals after calls, the question for one of them,
 //! and tables whose totals alone are wrong.
 
-mod oracle;
-
-use oracle::{mixed, SlowTable};
+use crate::oracle::{self, mixed, SlowTable};
 use reference::answer::Answer;
 use reference::rng::Rng;
 use reference::{plane, table};

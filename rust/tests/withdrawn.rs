@@ -3,9 +3,7 @@
 //! combination of K's rows; it is computed here from the plans that the calls
 //! gave.
 
-mod oracle;
-
-use oracle::ExactTable;
+use crate::oracle::{self, ExactTable};
 use reference::answer::Answer;
 use reference::bucket::Bucket;
 use reference::rng::Rng;

@@ -1,15 +1,16 @@
 // Code on words of bits that the elimination and the bucket share: a power of two, an XOR under a condition, the unit vectors.
-// Each is an equation with a definition of gf2. Cites gf2; parities, bucket_rows and bucket cite it.
+// Each is an equation with a definition of gf2; contracts name the width by specs/Width.antt. Cites gf2; the crates of one bucket cite it.
 ghost use mathlib.Core.Path.{_≡_};
 ghost use Prim.Native.Nat.{_^_, _<_};
 ghost use Rattle.gf2.specs.Vectors.{flipIf, units};
+ghost use Rattle.bits.specs.Width.{width};
 
 // The bits of a word, and so the rows and columns of a matrix of bits.
 pub const WIDTH: usize = 64;
 
 // 2^i.
 pub fn power(i: usize) -> u64
-    requires { do ⌜ i < (← ⟦WIDTH⟧) ⌝ }
+    requires { ⌜ i < width ⌝ }
     ensures { λ r. ⌜ r ≡ 2 ^ i ⌝ }
 {
     1 << i
@@ -24,7 +25,7 @@ pub fn flip_if(d: u64, u: u64, a: u64) -> u64
 
 // The unit vectors.
 pub fn unit_rows() -> [u64; WIDTH]
-    ensures { λ r. do ⌜ r ≡ units (← ⟦WIDTH⟧ .entry) ⌝ }
+    ensures { λ r. ⌜ r ≡ units width ⌝ }
 {
     let mut out = [0u64; WIDTH];
     let mut i: usize = 0;

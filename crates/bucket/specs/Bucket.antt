@@ -9,9 +9,18 @@ use lib.Bits.{bitXor, bitOr}
 use lib.Count.{trailingZeros}
 use lib.Dec.{ltb, eqb}
 use lib.ListN.{getD, replicate}
+use Rattle.bits.specs.Width.{width}
 use Rattle.gf2.specs.Vectors.{bit, outside, product, colStep, solStep, exchange, units, rowIn, Clear, Inverse}
 use Rattle.bucket.specs.declared.Bucket.{Bucket}
 use Rattle.bucket.specs.declared.Tried.{Tried}
+
+-- document 01's bucket: as many rows as a word has bits, 64
+abbrev pub rows : ℕ
+rows = width
+
+-- and 8 solution words
+abbrev pub solutions : ℕ
+solutions = 8
 
 -- the bound of an empty bucket: a bound is 0 to this
 abbrev pub largestBound : ℕ

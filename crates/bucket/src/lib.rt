@@ -3,13 +3,14 @@
 // at every number of rows and of solution words; proofs/Steps.antt has what the steps keep (K and its inverse, live vectors, plans),
 // proofs/Answers.antt what a bucket answers to any vector, proofs/Laws.antt an add and a withdrawal by product and row. The step on the
 // columns gets a row and a product, and no vector. A withdrawal is made on a bucket's words alone: bucket_words.
-// Cites gf2 (vectors), lists, bits and parities (the product). bucket_words, bucket_settle, model and table build on it.
+// Cites gf2 (vectors), lists and bits. bucket_words, bucket_settle, model and table build on it.
 ghost use mathlib.Core.Path.{_≡_};
-ghost use Prim.Native.Nat.{_<_, _≤_, _^_};
+ghost use Prim.Native.Nat.{_*_, _/_, _<_, _≤_, _^_};
 ghost use lib.Count.{trailingZeros};
-ghost use lib.ListN.{length, getD};
+ghost use lib.ListN.{length, getD, drop};
+ghost use Rattle.bits.specs.Width.{width};
 ghost use Rattle.gf2.specs.Vectors.{dot, product, rowStep, solStep, exchange};
-ghost use Rattle.bucket.specs.Bucket.{emptyBucket, rowBy, rowOf, lookup, add, change};
+ghost use Rattle.bucket.specs.Bucket.{rows, solutions, emptyBucket, rowBy, rowOf, lookup, add, change};
 
 // The bucket by value. The columns travel as one array.
 pub struct Bucket {
@@ -32,31 +33,55 @@ pub fn dot(k: u64, c: u64) -> u64
     (u64::count_ones(k & c) % 2) as u64
 }
 
-// Bit i is the parity of ones in (k AND word i), for at most 64 words.
+// The product of the last word where their number is odd, which has no word to be paired with; else 0.
+fn unpaired(words: &[u64], k: u64) -> u64
+    ensures { λ r. ⌜ r ≡ product (drop (2 * (length (now (words .entry)) / 2)) (now (words .entry))) k ⌝ }
+{
+    let at = 2 * (words.len() / 2);
+    if at < words.len() {
+        return dot(k, words[at]);
+    }
+    0
+}
+
+// Bit i is the parity of ones in (k AND word i), for at most 64 words. Two words at a time, each in a sum of its own, so that both are
+// counted at once.
 pub fn product_in(words: &[u64], k: u64) -> u64
-    requires { ⌜ length (now words) ≤ 64 ⌝ }
+    requires { ⌜ length (now words) ≤ width ⌝ }
     ensures { λ r. ⌜ r ≡ product (now (words .entry)) k ⌝ }
 {
-    let mut p: u64 = 0;
-    let mut i = words.len();
+    let mut even = unpaired(words, k);
+    let mut odd: u64 = 0;
+    let mut i = words.len() / 2;
     while 0 < i {
         i -= 1;
-        p = dot(k, words[i]) + 2 * p;
+        even = dot(k, words[2 * i]) + 4 * even;
+        odd = dot(k, words[2 * i + 1]) + 4 * odd;
     }
-    p
+    even + 2 * odd
 }
+
+// The columns of a product that are written out, so that no loop is left for them.
+const STRETCH: usize = 16;
 
 // Bit i is the parity of ones in (k AND column i).
 pub fn product(cols: [u64; Bucket::ROWS], k: u64) -> u64
     ensures { λ r. ⌜ r ≡ product cols k ⌝ }
 {
-    parities::product(cols, k)
+    let mut p: u64 = 0;
+    let mut i: usize = Bucket::ROWS / STRETCH;
+    while 0 < i {
+        i -= 1;
+        let start = STRETCH * i;
+        p = product_in(&cols[start..start + STRETCH], k) + 65536 * p;
+    }
+    p
 }
 
 // The step on the columns for row i, by the product p and no vector: u = column i is XORed into each column a where bit a of p and
 // bit i of a differ.
 pub fn col_step(i: usize, p: u64, cols: [u64; Bucket::ROWS]) -> [u64; Bucket::ROWS]
-    requires { do ⌜ i < (← ⟦Bucket::ROWS⟧) ⌝ }
+    requires { ⌜ i < rows ⌝ }
     ensures { λ r. ⌜ r ≡ rowStep (getD cols i 0) i p cols ⌝ }
 {
     let mut out = cols;
@@ -88,7 +113,7 @@ pub fn sol_step(u: u64, d: u64, sols: [u64; Bucket::SOLUTIONS]) -> [u64; Bucket:
 
 // Columns i and j change places.
 pub fn exchanged(i: usize, j: usize, cols: [u64; Bucket::ROWS]) -> [u64; Bucket::ROWS]
-    requires { do ⌜ (i < (← ⟦Bucket::ROWS⟧)) × (j < (← ⟦Bucket::ROWS⟧)) ⌝ }
+    requires { ⌜ (i < rows) × (j < rows) ⌝ }
     ensures { λ r. ⌜ r ≡ exchange i j cols ⌝ }
 {
     let mut out = cols;
@@ -100,14 +125,14 @@ pub fn exchanged(i: usize, j: usize, cols: [u64; Bucket::ROWS]) -> [u64; Bucket:
 
 // The lowest set bit of x; `ROWS` where x is 0.
 pub fn lowest(x: u64) -> usize
-    ensures { λ r. do ⌜ r ≡ trailingZeros (← ⟦Bucket::ROWS⟧ .entry) x ⌝ }
+    ensures { λ r. ⌜ r ≡ trailingZeros rows x ⌝ }
 {
     u64::trailing_zeros(x) as usize
 }
 
 // The row of a live vector whose product is p, under this mark; `ROWS` where it is not live.
 pub fn row_by(mark: u64, p: u64) -> usize
-    ensures { λ r. do ⌜ r ≡ rowBy (← ⟦Bucket::ROWS⟧ .entry) p mark ⌝ }
+    ensures { λ r. ⌜ r ≡ rowBy rows p mark ⌝ }
 {
     let i = lowest(p);
     if i < Bucket::ROWS {
@@ -143,7 +168,7 @@ impl Bucket {
     pub const WORDS: usize = Self::FRAME + Self::SOLUTIONS;
 
     pub fn empty() -> Self
-        ensures { λ r. do ⌜ r ≡ emptyBucket (← ⟦Bucket::ROWS⟧ .entry) (← ⟦Bucket::SOLUTIONS⟧ .entry) ⌝ }
+        ensures { λ r. ⌜ r ≡ emptyBucket rows solutions ⌝ }
     {
         let cols = bits::unit_rows();
         Self {
@@ -164,7 +189,7 @@ impl Bucket {
 
     // The row of a live k; `ROWS` where k is not live.
     pub fn row_of(self, k: u64) -> usize
-        ensures { λ r. do ⌜ r ≡ rowOf (← ⟦Bucket::ROWS⟧ .entry) k self ⌝ }
+        ensures { λ r. ⌜ r ≡ rowOf rows k self ⌝ }
     {
         let cols = self.cols;
         row_by(self.mark, product(cols, k))
@@ -172,7 +197,7 @@ impl Bucket {
 
     // k with its plan in the lowest free row whose product bit is 1; not done where there is none: k depends on the live vectors.
     pub fn add(self, k: u64, plan: u64) -> Tried
-        ensures { λ r. do ⌜ r ≡ add (← ⟦Bucket::ROWS⟧ .entry) k plan self ⌝ }
+        ensures { λ r. ⌜ r ≡ add rows k plan self ⌝ }
     {
         let cols = self.cols;
         let mark = self.mark;
@@ -200,7 +225,7 @@ impl Bucket {
 
     // k with another plan; not done where k is not live.
     pub fn change(self, k: u64, plan: u64) -> Tried
-        ensures { λ r. do ⌜ r ≡ change (← ⟦Bucket::ROWS⟧ .entry) k plan self ⌝ }
+        ensures { λ r. ⌜ r ≡ change rows k plan self ⌝ }
     {
         let i = self.row_of(k);
         if i < Self::ROWS {

@@ -1,23 +1,18 @@
-// K's rows from the columns of its inverse, by a guess that is tested: elimination of eight columns at a time, on words in pairs. The left
-// word of a pair is the product of the right one. Pairs are XORed and moved, and nothing else, so this holds of them whichever are chosen:
-// it is all that the contracts here say (specs/Pairs.antt), and of pivots and tables nothing is proved. At the end the left words are
-// tested. Where they are the units, the right words are K's rows; where one is 0 and its right word is not, there is no K.
-// Cites gf2, bits and transpose; bucket_rows cites it.
+// K's rows from the columns of its inverse, by a guess that is tested: elimination of eight columns at a time, on words in pairs (crate bucket_pairs). Of
+// pivots and tables nothing is proved but that they are sums of pairs: at the end the left words are tested.
+// Cites gf2, bits, transpose and bucket_pairs; bucket_rows cites it.
 use bits::WIDTH;
+use bucket_pairs::Guess;
+use bucket_pairs::ROOM;
+use bucket_pairs::SECOND;
+use bucket_pairs::TABLE;
+use bucket_pairs::TABLES;
 ghost use mathlib.Core.Path.{_≡_};
 ghost use mathlib.Core.List.{[], _∷_};
 ghost use Prim.Native.Nat.{_+_, _*_, _≤_, _<_, _^_};
 ghost use lib.ListN.{length};
-ghost use Rattle.bucket_blocks.specs.Pairs.{withPair, Keeps, OwnOutside, PairsOf, RowsRead, Guessed};
-
-// Words of a table of 16 pairs, one for each sum of four pivots.
-const TABLE: usize = 32;
-
-// Words of two tables: that of the first four columns of eight, and that of the last four.
-const TABLES: usize = 64;
-
-// The pair with which the second of the two begins.
-const SECOND: usize = 16;
+ghost use Rattle.bits.specs.Width.{width};
+ghost use Rattle.bucket_pairs.specs.Pairs.{fourPairs, oneTable, twoTables, secondTable, pairsRoom, Keeps, OwnOutside, PairsOf, Guessed};
 
 // The pairs of the window: so many are looked at for pivots. Their words are as many as a table's.
 const AHEAD: usize = 16;
@@ -30,16 +25,6 @@ const HALVES: u64 = 0x0f0f_0f0f_0f0f_0f0f;
 
 // Words of four pairs.
 const FOUR: usize = 8;
-
-// Words of the pairs that are worked on: 64, and as many behind them, all 0, as are read past them.
-const ROOM: usize = 176;
-
-// What is guessed. Where it is not known whether there are rows, and where there are none, `rows` are the columns as they came.
-pub struct Guess {
-    pub known: bool,
-    pub ok: bool,
-    pub rows: [u64; WIDTH],
-}
 
 // How far the choice of pivots for four columns is: bit k of `have` is set where column k has one. `mine` has what the pivots leave of these columns' bits
 // of 16 pairs, four bits for each pair, and `others` of four other columns'; `next` is the pair that takes the next pivot's place.
@@ -62,43 +47,6 @@ struct Progress {
     lack: u64,
 }
 
-// The index in a table: those of the lowest four bits that it is made for.
-fn index_in(x: u64, have: u64) -> usize
-    requires { ⌜ have < 16 ⌝ }
-    ensures { λ r. ⌜ r < 16 ⌝ }
-{
-    (x & have) as usize
-}
-
-// Pair a becomes x and y.
-fn put(ws: &mut [u64], a: usize, x: u64, y: u64)
-    requires { ⌜ 2 * a + 1 < length (now ws) ⌝ }
-    ensures { λ _. ⌜ now (ws .exit) ≡ withPair a x y (now (ws .entry)) ⌝ }
-{
-    ws[2 * a] = x;
-    ws[2 * a + 1] = y;
-}
-
-// Each pair from `from` on, before `to`, is XORed with the pair of each table that has its bits: the first table is for the four columns from `c` on, the
-// second for the next four.
-fn sweep(ws: &mut [u64], tables: &[u64], c: usize, have: u64, from: usize, to: usize)
-    requires { do ⌜ (2 * to ≤ length (now ws)) × (c < (← ⟦WIDTH⟧)) × (have < 256) × (length (now tables) ≡ (← ⟦TABLES⟧)) ⌝ }
-    ensures { λ _. ⌜ (length (now (ws .exit)) ≡ length (now (ws .entry))) × Keeps (now (tables .entry) ∷ now (ws .entry) ∷ []) (now (ws .exit) ∷ []) ⌝ }
-{
-    let mut a = from;
-    while a < to {
-        let x = ws[2 * a] >> c;
-        let i = index_in(x, have % 16);
-        let h = SECOND + index_in(x >> 4, have / 16);
-        let u = tables[2 * i] ^ tables[2 * h];
-        let v = tables[2 * i + 1] ^ tables[2 * h + 1];
-        let left = ws[2 * a] ^ u;
-        let right = ws[2 * a + 1] ^ v;
-        put(ws, a, left, right);
-        a += 1;
-    }
-}
-
 // The k sums so far, each with the pair x, y added, become sums k to 2 * k - 1. Each is filed, from pair `from` on, under its own bits.
 fn double(
     sums: &mut [u64],
@@ -110,23 +58,23 @@ fn double(
     c: usize,
     have: u64,
 )
-    requires { do ⌜ (from ≤ (← ⟦SECOND⟧)) × (k ≤ 8) × (c < (← ⟦WIDTH⟧)) × (have < 16) × (length (now sums) ≡ (← ⟦TABLE⟧)) × (length (now tables) ≡ (← ⟦TABLES⟧)) ⌝ }
-    ensures { λ _. do ⌜ (length (now (sums .exit)) ≡ (← ⟦TABLE⟧ .entry)) × (length (now (tables .exit)) ≡ (← ⟦TABLES⟧ .entry)) × Keeps ((x ∷ y ∷ []) ∷ now (sums .entry) ∷ now (tables .entry) ∷ []) (now (sums .exit) ∷ now (tables .exit) ∷ []) ⌝ }
+    requires { ⌜ (from ≤ secondTable) × (k ≤ 8) × (c < width) × (have < 16) × (length (now sums) ≡ oneTable) × (length (now tables) ≡ twoTables) ⌝ }
+    ensures { λ _. ⌜ (length (now (sums .exit)) ≡ oneTable) × (length (now (tables .exit)) ≡ twoTables) × Keeps ((x ∷ y ∷ []) ∷ now (sums .entry) ∷ now (tables .entry) ∷ []) (now (sums .exit) ∷ now (tables .exit) ∷ []) ⌝ }
 {
     let mut i: usize = 0;
     while i < k {
         let u = sums[2 * i] ^ x;
         let v = sums[2 * i + 1] ^ y;
-        put(sums, i + k, u, v);
-        put(tables, from + index_in(u >> c, have), u, v);
+        bucket_pairs::put(sums, i + k, u, v);
+        bucket_pairs::put(tables, from + bucket_pairs::index_in(u >> c, have), u, v);
         i += 1;
     }
 }
 
 // The sums of four pairs, each filed, from pair `from` on, under its own bits at the four columns from `c` on.
 fn file(tables: &mut [u64], from: usize, four: [u64; FOUR], c: usize, have: u64)
-    requires { do ⌜ (from ≤ (← ⟦SECOND⟧)) × (c < (← ⟦WIDTH⟧)) × (have < 16) × (length (now tables) ≡ (← ⟦TABLES⟧)) ⌝ }
-    ensures { λ _. do ⌜ (length (now (tables .exit)) ≡ (← ⟦TABLES⟧ .entry)) × Keeps (four ∷ now (tables .entry) ∷ []) (now (tables .exit) ∷ []) ⌝ }
+    requires { ⌜ (from ≤ secondTable) × (c < width) × (have < 16) × (length (now tables) ≡ twoTables) ⌝ }
+    ensures { λ _. ⌜ (length (now (tables .exit)) ≡ twoTables) × Keeps (four ∷ now (tables .entry) ∷ []) (now (tables .exit) ∷ []) ⌝ }
 {
     let mut sums = [0u64; TABLE];
     double(&mut sums, tables, from, 1, four[0], four[1], c, have);
@@ -137,7 +85,7 @@ fn file(tables: &mut [u64], from: usize, four: [u64; FOUR], c: usize, have: u64)
 
 // The bits of eight pairs from `from` on at the eight columns from `c` on, a byte for each pair.
 fn packed(window: &[u64], c: usize, from: usize) -> u64
-    requires { do ⌜ (from ≤ 8) × (c < (← ⟦WIDTH⟧)) × (length (now window) ≡ (← ⟦TABLE⟧)) ⌝ }
+    requires { ⌜ (from ≤ 8) × (c < width) × (length (now window) ≡ oneTable) ⌝ }
 {
     let mut w: u64 = 0;
     let mut i: usize = 8;
@@ -150,7 +98,7 @@ fn packed(window: &[u64], c: usize, from: usize) -> u64
 
 // The pair whose four bits begin at bit z: those of the first eight pairs and of the last eight take turns.
 fn pair_at(z: usize) -> usize
-    requires { do ⌜ z < (← ⟦WIDTH⟧) ⌝ }
+    requires { ⌜ z < width ⌝ }
     ensures { λ r. ⌜ r < 16 ⌝ }
 {
     z / 8 + 8 * (z / 4 % 2)
@@ -163,8 +111,8 @@ fn flip_fours(x: u64, mask: u64, v: u64) -> u64 {
 
 // A pivot for column k, if one of the 16 pairs in the window has its bit. Its place is taken by the next pair of `ws`.
 fn pick(ws: &[u64], window: &mut [u64], pairs: &mut [u64], k: usize, choice: Choice) -> Choice
-    requires { do ⌜ (k < 4) × (choice .have < 2 ^ k) × (2 * choice .next + 1 < length (now ws)) × (length (now window) ≡ (← ⟦TABLE⟧)) × (length (now pairs) ≡ (← ⟦FOUR⟧)) ⌝ }
-    ensures { λ r. do ⌜ (r .have < 2 ^ (k + 1)) × (r .next ≤ choice .next + 1) × (length (now (window .exit)) ≡ (← ⟦TABLE⟧ .entry)) × (length (now (pairs .exit)) ≡ (← ⟦FOUR⟧ .entry)) × Keeps (now (ws .entry) ∷ now (window .entry) ∷ now (pairs .entry) ∷ []) (now (window .exit) ∷ now (pairs .exit) ∷ []) ⌝ }
+    requires { ⌜ (k < 4) × (choice .have < 2 ^ k) × (2 * choice .next + 1 < length (now ws)) × (length (now window) ≡ oneTable) × (length (now pairs) ≡ fourPairs) ⌝ }
+    ensures { λ r. ⌜ (r .have < 2 ^ (k + 1)) × (r .next ≤ choice .next + 1) × (length (now (window .exit)) ≡ oneTable) × (length (now (pairs .exit)) ≡ fourPairs) × Keeps (now (ws .entry) ∷ now (window .entry) ∷ now (pairs .entry) ∷ []) (now (window .exit) ∷ now (pairs .exit) ∷ []) ⌝ }
 {
     let mine = choice.mine;
     let others = choice.others;
@@ -175,8 +123,8 @@ fn pick(ws: &[u64], window: &mut [u64], pairs: &mut [u64], k: usize, choice: Cho
     }
     let z = (u64::trailing_zeros(mask) % 64) as usize;
     let p = pair_at(z);
-    put(pairs, k, window[2 * p], window[2 * p + 1]);
-    put(window, p, ws[2 * next], ws[2 * next + 1]);
+    bucket_pairs::put(pairs, k, window[2 * p], window[2 * p + 1]);
+    bucket_pairs::put(window, p, ws[2 * next], ws[2 * next + 1]);
     let have = choice.have + bits::power(k);
     Choice {
         mine: flip_fours(mine, mask, mine >> z),
@@ -188,8 +136,8 @@ fn pick(ws: &[u64], window: &mut [u64], pairs: &mut [u64], k: usize, choice: Cho
 
 // A pivot for each of four columns, of the 16 pairs in the window, whose bits at these columns are `mine`, and at four others `others`.
 fn pick_four(ws: &[u64], window: &mut [u64], mine: u64, others: u64, next: usize) -> Four
-    requires { do ⌜ (2 * next + 8 ≤ length (now ws)) × (length (now window) ≡ (← ⟦TABLE⟧)) ⌝ }
-    ensures { λ r. do ⌜ (r .choice .have < 16) × (r .choice .next ≤ next + 4) × (length (now (window .exit)) ≡ (← ⟦TABLE⟧ .entry)) × Keeps (now (ws .entry) ∷ now (window .entry) ∷ []) (now (window .exit) ∷ r .pairs ∷ []) ⌝ }
+    requires { ⌜ (2 * next + 8 ≤ length (now ws)) × (length (now window) ≡ oneTable) ⌝ }
+    ensures { λ r. ⌜ (r .choice .have < 16) × (r .choice .next ≤ next + 4) × (length (now (window .exit)) ≡ oneTable) × Keeps (now (ws .entry) ∷ now (window .entry) ∷ []) (now (window .exit) ∷ r .pairs ∷ []) ⌝ }
 {
     let mut pairs = [0u64; FOUR];
     let mut choice = Choice {
@@ -218,14 +166,14 @@ fn half_table(
     half: usize,
     choice: Choice,
 ) -> Choice
-    requires { do ⌜ (c ≤ 56) × (half < 2) × (choice .have < 256) × (2 * choice .next + 8 ≤ length (now ws)) × (length (now window) ≡ (← ⟦TABLE⟧)) × (length (now tables) ≡ (← ⟦TABLES⟧)) ⌝ }
-    ensures { λ r. do ⌜ (r .have < 256) × (r .next ≤ choice .next + 4) × (length (now (window .exit)) ≡ (← ⟦TABLE⟧ .entry)) × (length (now (tables .exit)) ≡ (← ⟦TABLES⟧ .entry)) × Keeps (now (ws .entry) ∷ now (window .entry) ∷ now (tables .entry) ∷ []) (now (window .exit) ∷ now (tables .exit) ∷ []) ⌝ }
+    requires { ⌜ (c ≤ 56) × (half < 2) × (choice .have < 256) × (2 * choice .next + 8 ≤ length (now ws)) × (length (now window) ≡ oneTable) × (length (now tables) ≡ twoTables) ⌝ }
+    ensures { λ r. ⌜ (r .have < 256) × (r .next ≤ choice .next + 4) × (length (now (window .exit)) ≡ oneTable) × (length (now (tables .exit)) ≡ twoTables) × Keeps (now (ws .entry) ∷ now (window .entry) ∷ now (tables .entry) ∷ []) (now (window .exit) ∷ now (tables .exit) ∷ []) ⌝ }
 {
     let before = choice.have;
     let found = pick_four(ws, window, choice.mine, choice.others, choice.next);
     let last = found.choice;
     let mut four = found.pairs;
-    sweep(&mut four, tables, c, before, 0, 4);
+    bucket_pairs::sweep(&mut four, tables, c, before, 0, 4);
     file(tables, SECOND * half, four, c + 4 * half, last.have);
     Choice {
         mine: last.others,
@@ -237,8 +185,8 @@ fn half_table(
 
 // Both tables, of pivots from the window. Bit k of the result is set where column k of the eight has one.
 fn make_tables(ws: &[u64], window: &mut [u64], tables: &mut [u64], c: usize, next: usize) -> u64
-    requires { do ⌜ (c ≤ 56) × (2 * next + 16 ≤ length (now ws)) × (length (now window) ≡ (← ⟦TABLE⟧)) × (length (now tables) ≡ (← ⟦TABLES⟧)) ⌝ }
-    ensures { λ r. do ⌜ (r < 256) × (length (now (window .exit)) ≡ (← ⟦TABLE⟧ .entry)) × (length (now (tables .exit)) ≡ (← ⟦TABLES⟧ .entry)) × Keeps (now (ws .entry) ∷ now (window .entry) ∷ now (tables .entry) ∷ []) (now (window .exit) ∷ now (tables .exit) ∷ []) ⌝ }
+    requires { ⌜ (c ≤ 56) × (2 * next + 16 ≤ length (now ws)) × (length (now window) ≡ oneTable) × (length (now tables) ≡ twoTables) ⌝ }
+    ensures { λ r. ⌜ (r < 256) × (length (now (window .exit)) ≡ oneTable) × (length (now (tables .exit)) ≡ twoTables) × Keeps (now (ws .entry) ∷ now (window .entry) ∷ now (tables .entry) ∷ []) (now (window .exit) ∷ now (tables .exit) ∷ []) ⌝ }
 {
     let even = packed(window, c, 0);
     let odd = packed(window, c, 8);
@@ -258,15 +206,15 @@ fn make_tables(ws: &[u64], window: &mut [u64], tables: &mut [u64], c: usize, nex
 
 // The pairs of the first table are cleared of their bits at the four columns of the second, which begin at `c`.
 fn join(tables: &mut [u64], c: usize, have: u64)
-    requires { do ⌜ (c < (← ⟦WIDTH⟧)) × (have < 16) × (length (now tables) ≡ (← ⟦TABLES⟧)) ⌝ }
-    ensures { λ _. do ⌜ (length (now (tables .exit)) ≡ (← ⟦TABLES⟧ .entry)) × Keeps (now (tables .entry) ∷ []) (now (tables .exit) ∷ []) ⌝ }
+    requires { ⌜ (c < width) × (have < 16) × (length (now tables) ≡ twoTables) ⌝ }
+    ensures { λ _. ⌜ (length (now (tables .exit)) ≡ twoTables) × Keeps (now (tables .entry) ∷ []) (now (tables .exit) ∷ []) ⌝ }
 {
     let mut a: usize = 0;
     while a < SECOND {
-        let h = SECOND + index_in(tables[2 * a] >> c, have);
+        let h = SECOND + bucket_pairs::index_in(tables[2 * a] >> c, have);
         let left = tables[2 * a] ^ tables[2 * h];
         let right = tables[2 * a + 1] ^ tables[2 * h + 1];
-        put(tables, a, left, right);
+        bucket_pairs::put(tables, a, left, right);
         a += 1;
     }
 }
@@ -281,20 +229,20 @@ fn unit_index(k: usize) -> usize
 
 // The pivot of column k, if there is one in the table that begins with pair `from`, becomes pair `at`. The number of the pair after it.
 fn lay_one(ws: &mut [u64], tables: &[u64], from: usize, have: u64, k: usize, at: usize) -> usize
-    requires { do ⌜ (from ≤ (← ⟦SECOND⟧)) × (k < 4) × (2 * at + 1 < length (now ws)) × (length (now tables) ≡ (← ⟦TABLES⟧)) ⌝ }
+    requires { ⌜ (from ≤ secondTable) × (k < 4) × (2 * at + 1 < length (now ws)) × (length (now tables) ≡ twoTables) ⌝ }
     ensures { λ r. ⌜ (r ≤ at + 1) × (length (now (ws .exit)) ≡ length (now (ws .entry))) × Keeps (now (tables .entry) ∷ now (ws .entry) ∷ []) (now (ws .exit) ∷ []) ⌝ }
 {
     if (have >> k) % 2 == 0 {
         return at;
     }
     let i = from + unit_index(k);
-    put(ws, at, tables[2 * i], tables[2 * i + 1]);
+    bucket_pairs::put(ws, at, tables[2 * i], tables[2 * i + 1]);
     at + 1
 }
 
 // The pivots of four columns, as their table has them, become the pairs from `at` on. The number of the pair after them.
 fn lay(ws: &mut [u64], tables: &[u64], from: usize, have: u64, at: usize) -> usize
-    requires { do ⌜ (from ≤ (← ⟦SECOND⟧)) × (2 * at + 8 ≤ length (now ws)) × (length (now tables) ≡ (← ⟦TABLES⟧)) ⌝ }
+    requires { ⌜ (from ≤ secondTable) × (2 * at + 8 ≤ length (now ws)) × (length (now tables) ≡ twoTables) ⌝ }
     ensures { λ r. ⌜ (r ≤ at + 4) × (length (now (ws .exit)) ≡ length (now (ws .entry))) × Keeps (now (tables .entry) ∷ now (ws .entry) ∷ []) (now (ws .exit) ∷ []) ⌝ }
 {
     let mut p = at;
@@ -308,13 +256,13 @@ fn lay(ws: &mut [u64], tables: &[u64], from: usize, have: u64, at: usize) -> usi
 
 // The pairs before `done` and those to come, before `count`, are swept; between them come the pivots. The number of pairs that are done then.
 fn spread(ws: &mut [u64], tables: &[u64], c: usize, have: u64, done: usize, count: usize) -> usize
-    requires { do ⌜ (c < (← ⟦WIDTH⟧)) × (have < 256) × (2 * done + 16 ≤ length (now ws)) × (2 * count ≤ length (now ws)) × (length (now tables) ≡ (← ⟦TABLES⟧)) ⌝ }
+    requires { ⌜ (c < width) × (have < 256) × (2 * done + 16 ≤ length (now ws)) × (2 * count ≤ length (now ws)) × (length (now tables) ≡ twoTables) ⌝ }
     ensures { λ _. ⌜ (length (now (ws .exit)) ≡ length (now (ws .entry))) × Keeps (now (tables .entry) ∷ now (ws .entry) ∷ []) (now (ws .exit) ∷ []) ⌝ }
 {
-    sweep(ws, tables, c, have, 0, done);
+    bucket_pairs::sweep(ws, tables, c, have, 0, done);
     let middle = lay(ws, tables, 0, have % 16, done);
     let end = lay(ws, tables, SECOND, have / 16, middle);
-    sweep(ws, tables, c, have, end + AHEAD, count);
+    bucket_pairs::sweep(ws, tables, c, have, end + AHEAD, count);
     end
 }
 
@@ -328,8 +276,8 @@ fn block(
     count: usize,
     p: Progress,
 ) -> Progress
-    requires { do ⌜ (c ≤ 56) × (count ≤ (← ⟦WIDTH⟧)) × (length (now ws) ≡ (← ⟦ROOM⟧)) × (length (now window) ≡ (← ⟦TABLE⟧)) × (length (now tables) ≡ (← ⟦TABLES⟧)) ⌝ }
-    ensures { λ _. do ⌜ (length (now (ws .exit)) ≡ (← ⟦ROOM⟧ .entry)) × (length (now (window .exit)) ≡ (← ⟦TABLE⟧ .entry)) × (length (now (tables .exit)) ≡ (← ⟦TABLES⟧ .entry)) × Keeps (now (ws .entry) ∷ now (window .entry) ∷ now (tables .entry) ∷ []) (now (ws .exit) ∷ now (window .exit) ∷ now (tables .exit) ∷ []) ⌝ }
+    requires { ⌜ (c ≤ 56) × (count ≤ width) × (length (now ws) ≡ pairsRoom) × (length (now window) ≡ oneTable) × (length (now tables) ≡ twoTables) ⌝ }
+    ensures { λ _. ⌜ (length (now (ws .exit)) ≡ pairsRoom) × (length (now (window .exit)) ≡ oneTable) × (length (now (tables .exit)) ≡ twoTables) × Keeps (now (ws .entry) ∷ now (window .entry) ∷ now (tables .entry) ∷ []) (now (ws .exit) ∷ now (window .exit) ∷ now (tables .exit) ∷ []) ⌝ }
 {
     let done = p.done;
     if (p.lack >> c) % 256 == 0 {
@@ -340,7 +288,7 @@ fn block(
     }
     let have = make_tables(ws, window, tables, c, done + AHEAD);
     join(tables, c + 4, have / 16);
-    sweep(window, tables, c, have, 0, AHEAD);
+    bucket_pairs::sweep(window, tables, c, have, 0, AHEAD);
     let end = spread(ws, tables, c, have, done, count);
     Progress {
         done: end,
@@ -351,8 +299,8 @@ fn block(
 // The pairs of the occupied rows: a row of the matrix, less its bits outside the mark, beside the vector whose product that is. What a free row
 // would give is 0 and 0. The number of the pairs.
 fn pairs_of(ws: &mut [u64], rows: [u64; WIDTH], mark: u64) -> usize
-    requires { do ⌜ length (now ws) ≡ (← ⟦ROOM⟧) ⌝ }
-    ensures { λ r. do ⌜ (r ≤ (← ⟦WIDTH⟧ .entry)) × (length (now (ws .exit)) ≡ (← ⟦ROOM⟧ .entry)) × PairsOf (← ⟦WIDTH⟧ .entry) mark rows (now (ws .entry)) (now (ws .exit)) ⌝ }
+    requires { ⌜ length (now ws) ≡ pairsRoom ⌝ }
+    ensures { λ r. ⌜ (r ≤ width) × (length (now (ws .exit)) ≡ pairsRoom) × PairsOf width mark rows (now (ws .entry)) (now (ws .exit)) ⌝ }
 {
     let mut count: usize = 0;
     let mut a: usize = 0;
@@ -360,7 +308,7 @@ fn pairs_of(ws: &mut [u64], rows: [u64; WIDTH], mark: u64) -> usize
         let x = rows[a];
         let inside = x & mark;
         let right = bits::power(a) ^ (x ^ inside);
-        put(ws, count, inside, right);
+        bucket_pairs::put(ws, count, inside, right);
         count += ((mark >> a) % 2) as usize;
         a += 1;
     }
@@ -369,7 +317,7 @@ fn pairs_of(ws: &mut [u64], rows: [u64; WIDTH], mark: u64) -> usize
 
 // The first 16 pairs.
 fn window_of(ws: &[u64]) -> [u64; TABLE]
-    requires { do ⌜ length (now ws) ≡ (← ⟦ROOM⟧) ⌝ }
+    requires { ⌜ length (now ws) ≡ pairsRoom ⌝ }
     ensures { λ r. ⌜ Keeps (now (ws .entry) ∷ []) (r ∷ []) ⌝ }
 {
     let mut out = [0u64; TABLE];
@@ -381,82 +329,10 @@ fn window_of(ws: &[u64]) -> [u64; TABLE]
     out
 }
 
-// The bit of a word that has one bit alone, else WIDTH.
-fn only_bit(x: u64) -> usize
-    ensures { λ r. do ⌜ (r < (← ⟦WIDTH⟧ .entry) → x ≡ 2 ^ r) ⌝ }
-{
-    let j = u64::trailing_zeros(x) as usize;
-    if j < WIDTH {
-        if x == bits::power(j) {
-            return j;
-        }
-    }
-    WIDTH
-}
-
-// The right words of the first pairs, as rows, if the left ones are the units of the rows that the mark names. The other rows are units.
-fn rows_in(ws: &[u64], count: usize, mark: u64, cols: [u64; WIDTH]) -> Guess
-    requires { do ⌜ (count ≤ (← ⟦WIDTH⟧)) × (length (now ws) ≡ (← ⟦ROOM⟧)) ⌝ }
-    ensures { λ r. do ⌜ RowsRead (← ⟦WIDTH⟧ .entry) mark cols (now (ws .entry)) r ⌝ }
-{
-    let mut rows = bits::unit_rows();
-    let mut left = mark;
-    let mut k: usize = 0;
-    while k < count {
-        let x = ws[2 * k];
-        let j = only_bit(x);
-        if WIDTH <= j {
-            return Guess {
-                known: false,
-                ok: false,
-                rows: cols,
-            };
-        }
-        rows[j] = ws[2 * k + 1];
-        left = left ^ (left & x);
-        k += 1;
-    }
-    if left != 0 {
-        return Guess {
-            known: false,
-            ok: false,
-            rows: cols,
-        };
-    }
-    Guess {
-        known: true,
-        ok: true,
-        rows: rows,
-    }
-}
-
-// y if x is 0, else 0.
-fn if_zero(x: u64, y: u64) -> u64
-    ensures { λ r. ⌜ Keeps ((x ∷ y ∷ []) ∷ []) ((0 ∷ r ∷ []) ∷ []) ⌝ }
-{
-    if x == 0 { y } else { 0 }
-}
-
-// A right word other than 0 whose left word is 0, if the window has one, else 0.
-fn dependence(window: &[u64]) -> u64
-    requires { do ⌜ length (now window) ≡ (← ⟦TABLE⟧) ⌝ }
-    ensures { λ r. ⌜ Keeps (now (window .entry) ∷ []) ((0 ∷ r ∷ []) ∷ []) ⌝ }
-{
-    let mut i: usize = 0;
-    while i < 16 {
-        let y = if_zero(window[2 * i], window[2 * i + 1]);
-        if y != 0 {
-            return y;
-        }
-        i += 1;
-    }
-    0
-}
-
 // K's rows, or the fact that there are none, or neither. Each column must have, outside the mark, its own bit alone.
 pub fn guess_rows(cols: [u64; WIDTH], mark: u64) -> Guess
-    requires { do ⌜ OwnOutside (← ⟦WIDTH⟧) mark cols ⌝ }
-    ensures { λ r. do ⌜ Guessed (← ⟦WIDTH⟧ .entry) cols r ⌝ }
+    requires { ⌜ OwnOutside width mark cols ⌝ }
+    ensures { λ r. ⌜ Guessed width cols r ⌝ }
 {
     let mut ws = [0u64; ROOM];
     let count = pairs_of(&mut ws, transpose::transpose(cols), mark);
@@ -472,9 +348,9 @@ pub fn guess_rows(cols: [u64; WIDTH], mark: u64) -> Guess
         b += 1;
     }
     if p.lack == 0 {
-        return rows_in(&ws, count, mark, cols);
+        return bucket_pairs::rows_in(&ws, count, mark, cols);
     }
-    let y = dependence(&window);
+    let y = bucket_pairs::dependence(&window);
     Guess {
         known: y != 0,
         ok: false,

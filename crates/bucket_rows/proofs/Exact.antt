@@ -14,8 +14,8 @@ use Rattle.gf2.specs.Vectors.{bit, product, combine, units, Inverse}
 use Rattle.gf2.proofs.Bit.{bit-zero, bit-high, bit-ext, bit-pow-swap, dot-pow}
 use Rattle.gf2.proofs.Linear.{product-bit, combine-zero}
 use Rattle.gf2.proofs.Inverse.{unique, row-is, empty, length-units, getD-units}
-use Rattle.bucket_blocks.specs.declared.Guess.{Guess}
-use Rattle.bucket_blocks.specs.Pairs.{Guessed}
+use Rattle.bucket_pairs.specs.declared.Guess.{Guess}
+use Rattle.bucket_pairs.specs.Pairs.{Guessed}
 use Rattle.bucket_rows.specs.declared.Rows.{Rows}
 use Rattle.bucket_rows.specs.Exact.{FreeRows, Rowed, FoundFree}
 use Rattle.bucket_rows.specs.Elimination.{placed, answer, eliminated, freeCols, onlyIf, soundRows}

@@ -16,7 +16,7 @@ use Rattle.lists.proofs.Tests.{and-one, and-two, and-both}
 use Rattle.gf2.specs.Vectors.{bit, outside}
 use Rattle.gf2.proofs.Bit.{bit-lt, bit-ext}
 use Rattle.gf2.proofs.Lowest.{bit-outside}
-use Rattle.bucket_blocks.specs.Pairs.{OwnOutside}
+use Rattle.bucket_pairs.specs.Pairs.{OwnOutside}
 use Rattle.bucket_rows.specs.Elimination.{freeCols}
 
 -- outside the mark each of n numbers has its own bit alone

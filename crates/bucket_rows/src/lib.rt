@@ -2,7 +2,7 @@
 // guess; where it says nothing, and where few rows are occupied, the elimination column by column decides, without counting ones.
 // The rows that the mark does not name must be units; their columns need no pass, and an empty bucket none at all.
 // The contract is an equation (`soundRows`); proofs/Exact.antt says that it is exact both ways.
-// Cites gf2, bits and bucket_blocks. bucket_settle and table_sound cite it.
+// Cites gf2, bits and bucket_blocks. bucket_settle, table_rows and table_sound cite it.
 use bits::WIDTH;
 ghost use mathlib.Core.Path.{_≡_};
 ghost use mathlib.Core.Bool.{true};
@@ -10,6 +10,7 @@ ghost use Prim.Native.Nat.{_/_, _%_, _^_, _<_};
 ghost use lib.Count.{trailingZeros};
 ghost use lib.ListN.{length, getD};
 ghost use Rattle.gf2.specs.Vectors.{solStep};
+ghost use Rattle.bits.specs.Width.{width};
 ghost use Rattle.bucket_rows.specs.Elimination.{clearFrom, passed, pick, ordered, eliminated, freeCols, soundRows};
 
 // Up to so many occupied rows the elimination takes less time than the guess.
@@ -22,7 +23,7 @@ pub struct Rows {
 
 // `w` is XORed into each number from `j` on that has bit `p`.
 fn clear_from(t: &mut [u64; WIDTH], j: usize, p: usize, w: u64)
-    requires { do ⌜ (p < (← ⟦WIDTH⟧)) × (length (now t) ≡ (← ⟦WIDTH⟧)) ⌝ }
+    requires { ⌜ (p < width) × (length (now t) ≡ width) ⌝ }
     ensures { λ _. ⌜ now (t .exit) ≡ clearFrom j p w (now (t .entry)) ⌝ }
 {
     let mut k = j;
@@ -35,7 +36,7 @@ fn clear_from(t: &mut [u64; WIDTH], j: usize, p: usize, w: u64)
 
 // The same; where row `j` is free, only `y` at `j`.
 fn pass(t: &mut [u64; WIDTH], occupied: u64, j: usize, p: usize, w: u64, y: u64)
-    requires { do ⌜ (j < (← ⟦WIDTH⟧)) × (p < (← ⟦WIDTH⟧)) × (length (now t) ≡ (← ⟦WIDTH⟧)) ⌝ }
+    requires { ⌜ (j < width) × (p < width) × (length (now t) ≡ width) ⌝ }
     ensures { λ _. ⌜ now (t .exit) ≡ passed (occupied / 2 ^ j % 2) j p w y (now (t .entry)) ⌝ }
 {
     if (occupied >> j) % 2 == 0 {
@@ -47,7 +48,7 @@ fn pass(t: &mut [u64; WIDTH], occupied: u64, j: usize, p: usize, w: u64, y: u64)
 
 // `u` is XORed into each number whose bit of `d` is set.
 fn flip_all(t: &mut [u64; WIDTH], u: u64, d: u64)
-    requires { do ⌜ length (now t) ≡ (← ⟦WIDTH⟧) ⌝ }
+    requires { ⌜ length (now t) ≡ width ⌝ }
     ensures { λ _. ⌜ now (t .exit) ≡ solStep u d (now (t .entry)) ⌝ }
 {
     let mut left = d;
@@ -60,8 +61,8 @@ fn flip_all(t: &mut [u64; WIDTH], u: u64, d: u64)
 
 // `j` if `f` has bit `j`, else the lowest bit of `f`, else WIDTH.
 fn pick_of(j: usize, f: u64) -> usize
-    requires { do ⌜ j < (← ⟦WIDTH⟧) ⌝ }
-    ensures { λ r. do ⌜ r ≡ pick (← ⟦WIDTH⟧ .entry) j f ⌝ }
+    requires { ⌜ j < width ⌝ }
+    ensures { λ r. ⌜ r ≡ pick width j f ⌝ }
 {
     if (f >> j) % 2 == 0 {
         return u64::trailing_zeros(f) as usize;
@@ -70,16 +71,16 @@ fn pick_of(j: usize, f: u64) -> usize
 }
 
 fn dual_at(ds: &[u64; WIDTH], x: u64) -> u64
-    requires { do ⌜ length (now ds) ≡ (← ⟦WIDTH⟧) ⌝ }
-    ensures { λ r. do ⌜ r ≡ getD (now (ds .entry)) (trailingZeros (← ⟦WIDTH⟧ .entry) x) 0 ⌝ }
+    requires { ⌜ length (now ds) ≡ width ⌝ }
+    ensures { λ r. ⌜ r ≡ getD (now (ds .entry)) (trailingZeros width x) 0 ⌝ }
 {
     let a = u64::trailing_zeros(x) as usize;
     if a < WIDTH { ds[a] } else { 0 }
 }
 
 fn in_order(ds: &[u64; WIDTH], t: &mut [u64; WIDTH])
-    requires { do ⌜ (length (now ds) ≡ (← ⟦WIDTH⟧)) × (length (now t) ≡ (← ⟦WIDTH⟧)) ⌝ }
-    ensures { λ _. do ⌜ now (t .exit) ≡ ordered (← ⟦WIDTH⟧ .entry) (now (ds .entry)) (now (t .entry)) ⌝ }
+    requires { ⌜ (length (now ds) ≡ width) × (length (now t) ≡ width) ⌝ }
+    ensures { λ _. ⌜ now (t .exit) ≡ ordered width (now (ds .entry)) (now (t .entry)) ⌝ }
 {
     let mut i: usize = 0;
     while i < WIDTH {
@@ -91,7 +92,7 @@ fn in_order(ds: &[u64; WIDTH], t: &mut [u64; WIDTH])
 // The elimination. Outside `occupied` each column has its own bit alone, so the column of a free row needs no pass.
 fn eliminate(cols: [u64; WIDTH], occupied: u64) -> Rows
     requires { ⌜ freeCols 0 occupied cols ≡ true ⌝ }
-    ensures { λ r. do ⌜ r ≡ eliminated (← ⟦WIDTH⟧ .entry) cols ⌝ }
+    ensures { λ r. ⌜ r ≡ eliminated width cols ⌝ }
 {
     let mut prods = cols;
     let mut duals = bits::unit_rows();
@@ -125,7 +126,7 @@ fn eliminate(cols: [u64; WIDTH], occupied: u64) -> Rows
 
 // Each column has, outside `mark`, its own bit alone.
 fn free_cols(cols: &[u64; WIDTH], mark: u64) -> bool
-    requires { do ⌜ length (now cols) ≡ (← ⟦WIDTH⟧) ⌝ }
+    requires { ⌜ length (now cols) ≡ width ⌝ }
     ensures { λ r. ⌜ r ≡ freeCols 0 mark (now (cols .entry)) ⌝ }
 {
     let mut i: usize = 0;
@@ -142,7 +143,7 @@ fn free_cols(cols: &[u64; WIDTH], mark: u64) -> bool
 
 // K's rows, if there are any and those outside `mark` are units. Else `ok` is false, and `rows` are the columns as they came.
 pub fn rows_of(cols: [u64; WIDTH], mark: u64) -> Rows
-    ensures { λ r. do ⌜ r ≡ soundRows (← ⟦WIDTH⟧ .entry) mark cols ⌝ }
+    ensures { λ r. ⌜ r ≡ soundRows width mark cols ⌝ }
 {
     if free_cols(&cols, mark) {
         if mark == 0 {

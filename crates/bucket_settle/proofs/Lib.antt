@@ -4,4 +4,3 @@ pub mod Settling
 pub mod Arrays
 pub mod Leave
 pub mod Sound
-pub mod Run

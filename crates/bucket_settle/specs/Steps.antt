@@ -1,4 +1,4 @@
--- The steps of the inner functions on the words that leave. The contract of settle does not cite them.
+-- The steps of the functions on the words that leave. The contract of bucket_fall::fall does not cite them.
 -- Assumes nothing.
 use Prim.Native.Nat.{ℕ, zero, suc, _+_}
 use mathlib.Core.Bool.{Bool, false, cond}

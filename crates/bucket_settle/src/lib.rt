@@ -1,21 +1,21 @@
 // Settling under a bound: a word that depends in one bucket comes to it, the bound falls while it depends, and the words that leave go one
-// level further. specs/Settle.antt has the definition, in document 01's order, and specs/Outgoing.antt its result as the code keeps it.
+// level further. specs/Settle.antt has the definition, in document 01's order, and specs/Outgoing.antt the words that leave as the code keeps
+// them. The code finds those of one bound, in order, and withdraws them; the fall itself is bucket_fall's.
 // Laws: proofs/Hold.antt (what a bucket holds, as a list of entries), proofs/Settling.antt (where the bound comes to stand, who stays and
 // who leaves), proofs/Sound.antt (`settle-meaning`; the bucket stays sound).
-// Cites gf2, lists, identifier (thresholds), bucket_rows (the rows of K), bucket and bucket_words. table_arrive and table_add build on it.
+// Cites gf2, lists, identifier (thresholds), bucket_rows (the rows of K), bucket and bucket_words. bucket_fall, table and what works on tables
+// build on it.
 use bucket::Bucket;
-use bucket::Tried;
 use identifier::threshold;
 ghost use mathlib.Core.Path.{_≡_};
-ghost use mathlib.Core.Bool.{false};
 ghost use mathlib.Core.List.{[], _∷_};
 ghost use Prim.Native.Nat.{_+_, _<_, _≤_};
 ghost use lib.ListN.{length, take};
 ghost use lib.Seq.{paste};
 ghost use Rattle.gf2.specs.Select.{chosen};
-ghost use Rattle.bucket.specs.Bucket.{add};
-ghost use Rattle.bucket_settle.specs.Settle.{SoundBucket, thresholdOf, leaving, withdrawAll, atBound, settle};
-ghost use Rattle.bucket_settle.specs.Outgoing.{outgoing, settledOf};
+ghost use Rattle.bucket.specs.Bucket.{rows, solutions};
+ghost use Rattle.bucket_settle.specs.Settle.{SoundBucket, thresholdOf, leaving, withdrawAll};
+ghost use Rattle.bucket_settle.specs.Outgoing.{mostOutgoing, outgoing};
 ghost use Rattle.bucket_settle.specs.Steps.{putIn, positionOf, putAt, joined, leaves, leavingOf};
 
 // The words that leave a bucket, with their plans, in order; unused elements are 0.
@@ -23,12 +23,6 @@ pub struct Outgoing {
     pub count: usize,
     pub vectors: [u64; Outgoing::MOST],
     pub plans: [u64; Outgoing::MOST],
-}
-
-// A bucket after an add, and the words that left it.
-pub struct Settled {
-    pub bucket: Bucket,
-    pub out: Outgoing,
 }
 
 // x before element i; the last element goes.
@@ -67,7 +61,7 @@ pub(crate) fn pasted(
     from: [u64; Outgoing::MOST],
     count: usize,
 ) -> [u64; Outgoing::MOST]
-    requires { do ⌜ at + count ≤ (← ⟦Outgoing::MOST⟧) ⌝ }
+    requires { ⌜ at + count ≤ mostOutgoing ⌝ }
     ensures { λ r. ⌜ r ≡ paste words at from count ⌝ }
 {
     let mut out = words;
@@ -83,8 +77,8 @@ impl Outgoing {
     // All rows of a bucket, and the new word.
     pub const MOST: usize = Bucket::ROWS + 1;
 
-    pub(crate) fn none() -> Self
-        ensures { λ r. do ⌜ r ≡ outgoing (← ⟦Outgoing::MOST⟧ .entry) [] ⌝ }
+    pub fn none() -> Self
+        ensures { λ r. ⌜ r ≡ outgoing mostOutgoing [] ⌝ }
     {
         Self {
             count: 0,
@@ -95,7 +89,7 @@ impl Outgoing {
 
     // v with its plan as word i.
     pub(crate) fn put_at(self, i: usize, v: u64, plan: u64) -> Self
-        requires { do ⌜ self .count < (← ⟦Outgoing::MOST⟧) ⌝ }
+        requires { ⌜ self .count < mostOutgoing ⌝ }
         ensures { λ r. ⌜ r ≡ putAt i v plan self ⌝ }
     {
         let mut vectors = self.vectors;
@@ -110,8 +104,8 @@ impl Outgoing {
     }
 
     // v with its plan after all others.
-    pub(crate) fn push(self, v: u64, plan: u64) -> Self
-        requires { do ⌜ self .count < (← ⟦Outgoing::MOST⟧) ⌝ }
+    pub fn push(self, v: u64, plan: u64) -> Self
+        requires { ⌜ self .count < mostOutgoing ⌝ }
         ensures { λ r. ⌜ r ≡ putAt (self .count) v plan self ⌝ }
     {
         self.put_at(self.count, v, plan)
@@ -119,14 +113,14 @@ impl Outgoing {
 
     // v with its plan alone.
     pub fn one(v: u64, plan: u64) -> Self
-        ensures { λ r. do ⌜ r ≡ outgoing (← ⟦Outgoing::MOST⟧ .entry) (record { word = v; plan = plan } ∷ []) ⌝ }
+        ensures { λ r. ⌜ r ≡ outgoing mostOutgoing (record { word = v; plan = plan } ∷ []) ⌝ }
     {
         Self::none().push(v, plan)
     }
 
     // These words, then the next ones.
-    pub(crate) fn followed_by(self, next: Outgoing) -> Self
-        requires { do ⌜ self .count + next .count ≤ (← ⟦Outgoing::MOST⟧) ⌝ }
+    pub fn followed_by(self, next: Outgoing) -> Self
+        requires { ⌜ self .count + next .count ≤ mostOutgoing ⌝ }
         ensures { λ r. ⌜ r ≡ joined self next ⌝ }
     {
         let count = self.count;
@@ -155,7 +149,7 @@ pub(crate) fn leaves(d: u64, v: u64, t: u64) -> bool
 
 // Of the rows that are occupied in b those of threshold t, with their plans, smallest first.
 pub(crate) fn leaving_of(b: Bucket, rows: [u64; Bucket::ROWS], t: u64) -> Outgoing
-    ensures { λ r. do ⌜ r ≡ outgoing (← ⟦Outgoing::MOST⟧ .entry) (leavingOf thresholdOf t b (chosen (b .mark) rows)) ⌝ }
+    ensures { λ r. ⌜ r ≡ outgoing mostOutgoing (leavingOf thresholdOf t b (chosen (b .mark) rows)) ⌝ }
 {
     let mark = b.mark;
     let mut count: usize = 0;
@@ -180,9 +174,9 @@ pub(crate) fn leaving_of(b: Bucket, rows: [u64; Bucket::ROWS], t: u64) -> Outgoi
 }
 
 // The words of threshold t, with their plans, smallest first.
-pub(crate) fn leaving(b: Bucket, t: u64) -> Outgoing
-    requires { do ⌜ SoundBucket (← ⟦Bucket::ROWS⟧) (← ⟦Bucket::SOLUTIONS⟧) b ⌝ }
-    ensures { λ r. do ⌜ r ≡ outgoing (← ⟦Outgoing::MOST⟧ .entry) (leaving (← ⟦Bucket::ROWS⟧ .entry) thresholdOf t b) ⌝ }
+pub fn leaving(b: Bucket, t: u64) -> Outgoing
+    requires { ⌜ SoundBucket rows solutions b ⌝ }
+    ensures { λ r. ⌜ r ≡ outgoing mostOutgoing (leaving rows thresholdOf t b) ⌝ }
 {
     let cols = b.cols;
     let found = bucket_rows::rows_of(cols, b.mark);
@@ -191,9 +185,9 @@ pub(crate) fn leaving(b: Bucket, t: u64) -> Outgoing
 }
 
 // Each of the words is withdrawn.
-pub(crate) fn withdraw_all(b: Bucket, out: Outgoing) -> Bucket
-    requires { do ⌜ out .count ≤ (← ⟦Outgoing::MOST⟧) ⌝ }
-    ensures { λ r. do ⌜ r ≡ withdrawAll (← ⟦Bucket::ROWS⟧ .entry) (take (out .count) (out .vectors)) b ⌝ }
+pub fn withdraw_all(b: Bucket, out: Outgoing) -> Bucket
+    requires { ⌜ out .count ≤ mostOutgoing ⌝ }
+    ensures { λ r. ⌜ r ≡ withdrawAll rows (take (out .count) (out .vectors)) b ⌝ }
 {
     let vectors = out.vectors;
     let count = out.count;
@@ -205,61 +199,4 @@ pub(crate) fn withdraw_all(b: Bucket, out: Outgoing) -> Bucket
         i += 1;
     }
     bucket_words::load(&left)
-}
-
-// The bucket under the bound t.
-pub(crate) fn at_bound(b: Bucket, t: u64) -> Bucket
-    ensures { λ r. ⌜ r ≡ atBound t b ⌝ }
-{
-    let cols = b.cols;
-    let sols = b.sols;
-    Bucket {
-        cols,
-        mark: b.mark,
-        sols,
-        bound: t,
-    }
-}
-
-// The add of k to a bucket that `gone` words have just left. Where none has left, k depends as it did: nothing is tried, and no product is
-// formed.
-pub(crate) fn tried_again(gone: usize, b: Bucket, k: u64, plan: u64) -> Tried
-    requires { do ⌜ (gone ≡ 0 → add (← ⟦Bucket::ROWS⟧) k plan b .done ≡ false) ⌝ }
-    ensures { λ r. do ⌜ r ≡ add (← ⟦Bucket::ROWS⟧ .entry) k plan b ⌝ }
-{
-    if gone == 0 {
-        return Tried {
-            done: false,
-            bucket: b,
-        };
-    }
-    b.add(k, plan)
-}
-
-// The word k comes to the bucket with its plan, and depends there. While it does, the bound falls by one, and the words whose threshold
-// equals the new bound leave, smallest vector first, each withdrawn. If k's threshold is not below the bound, k leaves last.
-pub fn fall(b: Bucket, k: u64, plan: u64) -> Settled
-    requires { do ⌜ SoundBucket (← ⟦Bucket::ROWS⟧) (← ⟦Bucket::SOLUTIONS⟧) b × (add (← ⟦Bucket::ROWS⟧) k plan b .done ≡ false) ⌝ }
-    ensures { λ r. do ⌜ r ≡ settledOf (← ⟦Outgoing::MOST⟧ .entry) (settle (← ⟦Bucket::ROWS⟧ .entry) thresholdOf (record { word = k; plan = plan }) (b .bound) b) ⌝ }
-{
-    let own = threshold(k);
-    let mut bucket = b;
-    let mut out = Outgoing::none();
-    let mut left: usize = 0; // how many words left the bucket last
-    while own < bucket.bound {
-        let tried = tried_again(left, bucket, k, plan);
-        if tried.done {
-            let added = tried.bucket;
-            return Settled { bucket: added, out };
-        }
-        let t = bucket.bound - 1;
-        let gone = leaving(bucket, t);
-        out = out.followed_by(gone);
-        bucket = at_bound(withdraw_all(bucket, gone), t);
-        left = gone.count;
-    }
-    Settled {
-        bucket,
-        out: out.push(k, plan),
-    }
 }

@@ -12,13 +12,17 @@ use Rattle.bucket.specs.declared.Tried.{Tried}
 abbrev pub bucketWords : ℕ → ℕ → ℕ
 bucketWords n r = n + 2 + r
 
+-- the place of its bound among them
+abbrev pub boundAt : ℕ → ℕ → ℕ
+boundAt n r = n + 1 + r
+
 -- the words of a bucket
 unfoldable pub wordsOf : Bucket → List ℕ
 wordsOf b = b .cols ++ b .mark ∷ b .sols ++ b .bound ∷ []
 
 -- the bucket that the first words of a list stand for
 unfoldable pub bucketFrom : ℕ → ℕ → List ℕ → Bucket
-bucketFrom n r xs = record { cols = take n xs; mark = getD xs n 0; sols = take r (drop (n + 1) xs); bound = getD xs (n + 1 + r) 0 }
+bucketFrom n r xs = record { cols = take n xs; mark = getD xs n 0; sols = take r (drop (n + 1) xs); bound = getD xs (boundAt n r) 0 }
 
 -- a bucket of n rows and r solution words
 pub record Shaped (n r : ℕ) (b : Bucket) : Type 0 where

@@ -8,8 +8,8 @@ use bucket::Bucket;
 ghost use mathlib.Core.Path.{_≡_};
 ghost use lib.ListN.{length, getD};
 ghost use Rattle.gf2.specs.Vectors.{product};
-ghost use Rattle.bucket.specs.Bucket.{add, withdraw};
-ghost use Rattle.bucket_words.specs.Words.{bucketFrom, wordsOf, Stepped};
+ghost use Rattle.bucket.specs.Bucket.{rows, solutions, add, withdraw};
+ghost use Rattle.bucket_words.specs.Words.{bucketWords, boundAt, bucketFrom, wordsOf, Stepped};
 
 // The words of `from` into `to`.
 pub fn put(to: &mut [u64], from: &[u64])
@@ -25,7 +25,7 @@ pub fn put(to: &mut [u64], from: &[u64])
 
 // The columns of a bucket from their words.
 pub fn cols_in(part: &[u64]) -> [u64; Bucket::ROWS]
-    requires { do ⌜ length (now part) ≡ (← ⟦Bucket::ROWS⟧) ⌝ }
+    requires { ⌜ length (now part) ≡ rows ⌝ }
     ensures { λ r. ⌜ r ≡ now (part .entry) ⌝ }
 {
     let mut out = [0u64; Bucket::ROWS];
@@ -34,7 +34,7 @@ pub fn cols_in(part: &[u64]) -> [u64; Bucket::ROWS]
 }
 
 pub(crate) fn sols_in(part: &[u64]) -> [u64; Bucket::SOLUTIONS]
-    requires { do ⌜ length (now part) ≡ (← ⟦Bucket::SOLUTIONS⟧) ⌝ }
+    requires { ⌜ length (now part) ≡ solutions ⌝ }
     ensures { λ r. ⌜ r ≡ now (part .entry) ⌝ }
 {
     let mut out = [0u64; Bucket::SOLUTIONS];
@@ -44,8 +44,8 @@ pub(crate) fn sols_in(part: &[u64]) -> [u64; Bucket::SOLUTIONS]
 
 // The bucket that the words of a part of a table stand for.
 pub fn load(part: &[u64]) -> Bucket
-    requires { do ⌜ length (now part) ≡ (← ⟦Bucket::WORDS⟧) ⌝ }
-    ensures { λ r. do ⌜ r ≡ bucketFrom (← ⟦Bucket::ROWS⟧ .entry) (← ⟦Bucket::SOLUTIONS⟧ .entry) (now (part .entry)) ⌝ }
+    requires { ⌜ length (now part) ≡ bucketWords rows solutions ⌝ }
+    ensures { λ r. ⌜ r ≡ bucketFrom rows solutions (now (part .entry)) ⌝ }
 {
     let cols = cols_in(&part[0..Bucket::ROWS]);
     let sols = sols_in(&part[Bucket::SOLUTIONS_AT..Bucket::BOUND_AT]);
@@ -59,8 +59,8 @@ pub fn load(part: &[u64]) -> Bucket
 
 // Columns, mark and solutions into a part of a table; the bound stays.
 pub(crate) fn store_step(part: &mut [u64], cols: &[u64], mark: u64, sols: &[u64])
-    requires { do ⌜ (length (now part) ≡ (← ⟦Bucket::WORDS⟧)) × ((length (now cols) ≡ (← ⟦Bucket::ROWS⟧)) × (length (now sols) ≡ (← ⟦Bucket::SOLUTIONS⟧))) ⌝ }
-    ensures { λ _. do ⌜ now (part .exit) ≡ wordsOf (record { cols = now (cols .entry); mark = mark; sols = now (sols .entry); bound = getD (now (part .entry)) (← ⟦Bucket::BOUND_AT⟧ .entry) 0 }) ⌝ }
+    requires { ⌜ (length (now part) ≡ bucketWords rows solutions) × ((length (now cols) ≡ rows) × (length (now sols) ≡ solutions)) ⌝ }
+    ensures { λ _. ⌜ now (part .exit) ≡ wordsOf (record { cols = now (cols .entry); mark = mark; sols = now (sols .entry); bound = getD (now (part .entry)) (boundAt rows solutions) 0 }) ⌝ }
 {
     put(&mut part[0..Bucket::ROWS], cols);
     part[Bucket::MARK_AT] = mark;
@@ -69,7 +69,7 @@ pub(crate) fn store_step(part: &mut [u64], cols: &[u64], mark: u64, sols: &[u64]
 
 // The words of a bucket into a part of a table.
 pub fn store(part: &mut [u64], b: Bucket)
-    requires { do ⌜ length (now part) ≡ (← ⟦Bucket::WORDS⟧) ⌝ }
+    requires { ⌜ length (now part) ≡ bucketWords rows solutions ⌝ }
     ensures { λ _. ⌜ now (part .exit) ≡ wordsOf b ⌝ }
 {
     let cols = b.cols;
@@ -80,8 +80,8 @@ pub fn store(part: &mut [u64], b: Bucket)
 
 // The add of k, whose product is p, to the bucket of a part of a table. False where k depends on the live vectors: then nothing is written.
 pub fn add_by(part: &mut [u64], k: u64, p: u64, plan: u64) -> bool
-    requires { do ⌜ (length (now part) ≡ (← ⟦Bucket::WORDS⟧)) × (p ≡ product (bucketFrom (← ⟦Bucket::ROWS⟧) (← ⟦Bucket::SOLUTIONS⟧) (now part) .cols) k) ⌝ }
-    ensures { λ r. do ⌜ Stepped (← ⟦Bucket::ROWS⟧ .entry) (← ⟦Bucket::SOLUTIONS⟧ .entry) (add (← ⟦Bucket::ROWS⟧ .entry) k plan) (now (part .entry)) r (now (part .exit)) ⌝ }
+    requires { ⌜ (length (now part) ≡ bucketWords rows solutions) × (p ≡ product (bucketFrom rows solutions (now part) .cols) k) ⌝ }
+    ensures { λ r. ⌜ Stepped rows solutions (add rows k plan) (now (part .entry)) r (now (part .exit)) ⌝ }
 {
     let mark = part[Bucket::MARK_AT];
     let i = bucket::lowest(p ^ (p & mark));
@@ -99,8 +99,8 @@ pub fn add_by(part: &mut [u64], k: u64, p: u64, plan: u64) -> bool
 // The withdrawal of k from the bucket of a part of a table: the row freed is the lowest set bit of k's column, and its plan bits are XORed
 // away along its new column. False where k is not live: then nothing is written.
 pub fn withdraw(part: &mut [u64], k: u64) -> bool
-    requires { do ⌜ length (now part) ≡ (← ⟦Bucket::WORDS⟧) ⌝ }
-    ensures { λ r. do ⌜ Stepped (← ⟦Bucket::ROWS⟧ .entry) (← ⟦Bucket::SOLUTIONS⟧ .entry) (withdraw (← ⟦Bucket::ROWS⟧ .entry) k) (now (part .entry)) r (now (part .exit)) ⌝ }
+    requires { ⌜ length (now part) ≡ bucketWords rows solutions ⌝ }
+    ensures { λ r. ⌜ Stepped rows solutions (withdraw rows k) (now (part .entry)) r (now (part .exit)) ⌝ }
 {
     let mark = part[Bucket::MARK_AT];
     let cols = cols_in(&part[0..Bucket::ROWS]);

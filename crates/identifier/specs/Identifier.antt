@@ -1,10 +1,10 @@
--- Document 01's identifier with document 02's order 4: which bytes are allowed, folding, kinds, the word, and the causes 15, 1 and 2.
+-- Document 01's identifier with document 02's order 4: which bytes are allowed, folding, kinds, the word, and the causes 15, 1 and 2; then order 3's 14.
 use Prim.Native.Nat.{ℕ, suc, _+_, _-_, _%_}
 use mathlib.Core.Bool.{Bool, true, false, cond, not, _&&_, _||_}
 use mathlib.Core.List.{List, [], _∷_, map}
 use lib.Dec.{leb, ltb, eqb}
 use lib.ListN.{length, take}
-use Rattle.answer.specs.declared.Answer.the-variants.{WrongLength, WrongByte, WrongKind}
+use Rattle.answer.specs.declared.Answer.the-variants.{WrongLength, WrongByte, WrongKind, DeskPlanGiven}
 use Rattle.hash.specs.Mix.{mixOf}
 use Rattle.hash.specs.Fnv.{fnvOf}
 use Rattle.identifier.specs.declared.Read.{Read}
@@ -101,6 +101,11 @@ readOf i =
     (cond (not (sized (i .stated))) (Refused (WrongLength (i .stated)))
     (cond (ltb (firstRefused (idBytes i)) (length (idBytes i))) (Refused (WrongByte (firstRefused (idBytes i))))
     (Word (wordOf i))))
+
+-- by what an identifier is read as, for a call that gives a plan: the word, where the plan is allowed, else cause 14 (document 02, order 3: "after cause 2")
+abbrev pub withPlan : Bool → Read → Read
+withPlan given (Refused a) = Refused a
+withPlan given (Word w) = cond given (Word w) (Refused DeskPlanGiven)
 
 -- a and b are equal, or one is a letter a to z and the other its capital
 abbrev pub sameLetter : ℕ → ℕ → Bool

@@ -11,7 +11,7 @@ ghost use mathlib.Core.Path.{_≡_};
 ghost use Prim.Native.Nat.{_≤_};
 ghost use mathlib.Core.Bool.{not};
 ghost use lib.ListN.{length};
-ghost use Rattle.identifier.specs.Identifier.{between, mostBytes, readOf};
+ghost use Rattle.identifier.specs.Identifier.{between, mostBytes, readOf, withPlan};
 ghost use Rattle.identifier.specs.Scan.{scan};
 ghost use Rattle.identifier.specs.Place.{secondOf, firstOf, placeOf, thresholdAt, bucketAt};
 
@@ -97,6 +97,19 @@ fn read_bytes(start: u64, s: &[u8]) -> Read
         i += 1;
     }
     Read::Word(hash::mix(h))
+}
+
+// What was read, for a call that gives a plan: cause 14, after those of the identifier, where the plan may not be given.
+pub fn with_plan(read: Read, allowed: bool) -> Read
+    ensures { λ r. ⌜ r ≡ withPlan allowed read ⌝ }
+{
+    if allowed {
+        return read;
+    }
+    match read {
+        Read::Word(_) => Read::Refused(Answer::DeskPlanGiven),
+        Read::Refused(_) => read,
+    }
 }
 
 // The threshold of the vector v at its level.

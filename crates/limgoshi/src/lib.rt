@@ -92,7 +92,7 @@ pub extern "C" fn limgoshi_write_plane(t: &[u64], out: &mut [u8], value: &mut u6
 pub extern "C" fn limgoshi_plane_lookup(kind: u8, id: &[u8], plane: &[u8], value: &mut u64) -> u64
     ensures { λ r. ⌜ (r ≡ numberOf (lookupCall (token kind (now (id .entry))) (now (plane .entry)))) × (now (value .exit) ≡ valueOf (lookupCall (token kind (now (id .entry))) (now (plane .entry)))) × (now (id .exit) ≡ now (id .entry)) × (now (plane .exit) ≡ now (plane .entry)) ⌝ }
 {
-    let looked_up = plane::lookup(kind, id, plane);
+    let looked_up = plane_lookup::lookup(kind, id, plane);
     *value = answer::value(looked_up);
     answer::number(looked_up)
 }

@@ -1,43 +1,28 @@
 -- The line program prints what it would print if the model took the calls; its table is sound at each line.
 -- Assumes nothing.
 use mathlib.Core.Path.{_≡_, refl, ap, ap₂}
-use mathlib.Core.Bool.{true, false}
 use mathlib.Core.List.{List, [], _∷_, _++_}
 use mathlib.Core.Option.{Option, none, some}
 use Prim.Native.Nat.{ℕ, suc}
 use lib.Dec.{leb}
-use lib.ListN.{length, replicate, length-replicate}
-use borrow.Author.Tests.{eq-eqb}
+use lib.ListN.{length}
 use Rattle.lists.proofs.Tests.{cases}
-use Rattle.answer.specs.declared.Answer.the-variants.{Accepted, WrongBuckets}
 use Rattle.identifier.specs.Identifier.{Token}
 use Rattle.model.specs.Model.{State, Call}
 use Rattle.model.specs.Request as R
 use Rattle.model.specs.Machine.{accepted}
 use Rattle.table.specs.Table.{openTable}
-use Rattle.table.specs.Layout.{inRange, lengthOf, numbersOf}
-use Rattle.table.specs.Calls.{rows, solutions, openCall}
+use Rattle.table.specs.Layout.{inRange, numbersOf}
+use Rattle.table.specs.Calls.{rows, solutions}
 use Rattle.table.specs.History.{flatState}
 use Rattle.table.proofs.Calls.{FlatStands}
 use Rattle.table.proofs.Statements.{refines, opening-stands, stands-sound, sound-stands}
 use Rattle.lines_text.specs.Line.{lf, parted, Command, opening, ask, bad, commandOf}
 use Rattle.lines_text.specs.Printed.{printed}
+use Rattle.lines_open.specs.Desk.{Turn, obey, tables}
+use Rattle.lines_open.proofs.Opening.{zeros, open-is}
 use Rattle.lines_run.specs.Buffer.{AllReady}
-use Rattle.lines_run.specs.Run.{counted, lineLimit, Turn, obey, turn, outputFrom, outputOf, tables, output, states}
-
--- ---- an opening
-
-abbrev pub zeros : ℕ → ℕ → List ℕ
-zeros b1 b2 = replicate (lengthOf rows solutions b1 b2) 0
-
--- the outcome of an opening in the program
-pub open-is : (b1 b2 : ℕ) → (inRange b1 b2 ≡ true → openCall b1 b2 (zeros b1 b2) ≡ record { answer = Accepted 0; table = numbersOf (openTable rows solutions b1 b2) })
-    × (inRange b1 b2 ≡ false → openCall b1 b2 (zeros b1 b2) ≡ record { answer = WrongBuckets; table = zeros b1 b2 })
-unfolding openCall
-open-is b1 b2 = (
-  λ r. rw (r, length-replicate {A = ℕ} (lengthOf rows solutions b1 b2) 0, eq-eqb (lengthOf rows solutions b1 b2) (lengthOf rows solutions b1 b2) refl),
-  λ r. rw r,
-)
+use Rattle.lines_run.specs.Run.{counted, lineLimit, turn, outputFrom, outputOf, output, states}
 
 -- ---- the table beside the model
 

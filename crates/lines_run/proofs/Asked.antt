@@ -5,15 +5,15 @@ use mathlib.Core.Bool.{true}
 use mathlib.Core.List.{List}
 use Prim.Native.Nat.{ℕ}
 use Rattle.answer.specs.declared.Answer.{Answer}
-use Rattle.identifier.specs.Identifier.{Token, readOf}
+use Rattle.identifier.specs.Identifier.{Token, readOf, withPlan}
 use Rattle.identifier.specs.declared.Read.{Read}
 use Rattle.identifier.specs.declared.Read.the-variants.{Word, Refused}
-use Rattle.model.specs.Request.{withPlan, askOf, wordFor}
+use Rattle.model.specs.Request.{askOf, wordFor}
 use Rattle.table.specs.Calls.{turnedDown, served, call}
 use Rattle.table.specs.History.{flatState}
 use Rattle.table.proofs.Statements.{stands-sound, sound-stands}
-use Rattle.table_calls.specs.Ready.{Ready, admitted}
-use Rattle.table_calls.proofs.Calls.{call-word, call-refused, allowed, admits}
+use Rattle.table_edit.specs.Ready.{Ready, admitted}
+use Rattle.table_edit.proofs.Calls.{call-word, call-refused, allowed, admits}
 use Rattle.lines_text.specs.declared.Verb.{Verb}
 use Rattle.lines_text.specs.declared.Verb.the-variants.{Add, Set, Del, Get}
 use Rattle.lines_text.specs.Parsed.{callOf}

@@ -2,6 +2,5 @@ pub mod Lines
 pub mod Agree
 pub mod Session
 pub mod Asked
-pub mod Opening
 pub mod Turns
 pub mod Running

@@ -15,7 +15,8 @@ use Rattle.lines_text.specs.Parsed.{between}
 use Rattle.lines_text.specs.Printed.{mostPrinted, badLine}
 use Rattle.lines_text.proofs.Parted.{parted-some, parted-from, parted-last}
 use Rattle.lines_text.proofs.Printed.{printed-most}
-use Rattle.lines_run.specs.Run.{lineLimit, Desk, refuse, obey, turn, outputFrom}
+use Rattle.lines_open.specs.Desk.{Desk, refuse, obey}
+use Rattle.lines_run.specs.Run.{lineLimit, turn, outputFrom}
 
 -- ---- the longest line that is printed
 

@@ -14,9 +14,11 @@ use Rattle.table.specs.Calls.{rows, solutions}
 use Rattle.lines_text.specs.Line.{lf, placeOf, parted}
 use Rattle.lines_text.specs.Parsed.{between}
 use Rattle.lines_text.specs.Printed.{mostPrinted, badLine}
-use Rattle.lines_run.specs.declared.Progress.{Progress}
-use Rattle.lines_run.specs.Run.{inputLimit, counted, turn, outputFrom, tables, output}
-use Rattle.lines_run.specs.Buffer.{heldIn, AllReady, Holds, Did, Printed}
+use Rattle.lines_open.specs.declared.Progress.{Progress}
+use Rattle.lines_open.specs.Desk.{tables}
+use Rattle.lines_open.specs.Buffer.{heldIn, Did}
+use Rattle.lines_run.specs.Run.{inputLimit, counted, turn, outputFrom, output}
+use Rattle.lines_run.specs.Buffer.{AllReady, Holds, Printed}
 use Rattle.lines_run.proofs.Agree.{ready-next}
 use Rattle.lines_run.proofs.Lines.{turn-most, from-line, from-unfinished, from-end}
 
@@ -40,7 +42,7 @@ running-first s t o end l e = record { long = l; wide = refl; holds = record { f
 
 module _ (s o₀ t o : List ℕ) (held at start end : ℕ) (h : Running s o₀ t o held at start end) where
   -- one line further
-  module _ (k : end < length s) (p : Progress) (t' o' : List ℕ) (d : Did (turn tables (heldIn held t) (between start end s)) at o p t' o') where
+  module _ (k : end < length s) (p : Progress) (t' o' : List ℕ) (d : Did (turn tables (heldIn held t) (between start end s)) at t o p t' o') where
     more : rest s (heldIn held t) start ≡ turn tables (heldIn held t) (between start end s) .output ++ rest s (heldIn (p .held) t') (end + 1)
     more = from-line tables (heldIn held t) s start end (h .ends) k ∙ ap (λ m. turn tables (heldIn held t) (between start end s) .output ++ rest s m (end + 1)) (sym (d .state))
 

@@ -1,13 +1,13 @@
 // The line program of document 01 as a function on byte slices, `run`: calls put to a table that is sound by proof, the lines one after
 // the other.
-// Definitions: specs/Run.antt (what is printed for an input: the calls of the crate table folded over the lines); specs/Buffer.antt has what is
-// open, in the code's buffer, and what the code does at a line.
+// Definitions: specs/Run.antt (what is printed for an input: the calls of the crate table folded over the lines); specs/Buffer.antt has what the code keeps.
 // Laws: proofs/Agree.antt (the model would print the same; the table is sound at each line), proofs/Session.antt (document 01's
 // session; lines with plan 255; lines with each form of a kind).
-// Cites lines_text (a line and what is printed for it), codec, answer, identifier, table_layout, table_open, table_calls and table_add. lines is the program over
-// it, and run_probe has an entry to it.
+// Cites lines_text (a line and what is printed for it), lines_open (the line `open`, and what any line does), codec, answer, identifier, table_layout, table_calls and
+// table_add. lines is the program over it, and run_probe has an entry to it.
 use answer::Answer;
 use identifier::Read;
+use lines_open::Progress;
 use lines_text::Parsed;
 use lines_text::Verb;
 use table_layout::Table;
@@ -18,12 +18,14 @@ ghost use mathlib.Core.Option.{none};
 ghost use lib.ListN.{length};
 ghost use Rattle.identifier.specs.Identifier.{token};
 ghost use Rattle.table.specs.Calls.{served, call};
-ghost use Rattle.table_calls.specs.Ready.{Ready};
-ghost use Rattle.lines_text.specs.Line.{lf, parted, opening, ask};
+ghost use Rattle.table_edit.specs.Ready.{Ready};
+ghost use Rattle.lines_text.specs.Line.{lf, parted, ask};
 ghost use Rattle.lines_text.specs.Parsed.{callOf, meant, Within};
 ghost use Rattle.lines_text.specs.Printed.{mostPrinted};
-ghost use Rattle.lines_run.specs.Run.{inputLimit, counted, obey, turn, outputFrom, tables, output};
-ghost use Rattle.lines_run.specs.Buffer.{heldIn, Holds, verbAllowed, Did, Printed};
+ghost use Rattle.lines_open.specs.Desk.{obey, tables};
+ghost use Rattle.lines_open.specs.Buffer.{heldIn, Did};
+ghost use Rattle.lines_run.specs.Run.{inputLimit, counted, turn, outputFrom, output};
+ghost use Rattle.lines_run.specs.Buffer.{Holds, verbAllowed, Printed};
 
 // The first bytes of an input that count.
 pub const INPUT_LIMIT: usize = 65536;
@@ -53,9 +55,9 @@ pub(crate) fn serve(t: &mut [u64], w: u64, verb: Verb, plan: u64) -> Answer
 {
     match verb {
         Verb::Add => table_add::add_word(t, w, plan),
-        Verb::Set => table_calls::change_word(t, w, plan),
-        Verb::Del => table_calls::withdraw_word(t, w),
-        Verb::Get => table_calls::query_word(t, w),
+        Verb::Set => table_edit::change_word(t, w, plan),
+        Verb::Del => table_edit::withdraw_word(t, w),
+        Verb::Get => table_edit::query_word(t, w),
     }
 }
 
@@ -71,38 +73,6 @@ pub(crate) fn ask(t: &mut [u64], kind: u8, id: &[u8], verb: Verb, plan: u64) -> 
     }
 }
 
-// How far a run has come: the length of the table that is open, 0 if none is, and the number of bytes printed.
-pub(crate) struct Progress {
-    held: usize,
-    printed: usize,
-}
-
-// `open`, in a buffer for the longest table.
-pub(crate) fn open_line(
-    t: &mut [u64],
-    held: usize,
-    b1: u64,
-    b2: u64,
-    out: &mut [u8],
-    at: usize,
-) -> Progress
-    requires { do ⌜ (length (now t) ≡ (← ⟦Table::LONGEST⟧)) × (at < 2 ^ 31) × (held ≤ length (now t)) ⌝ }
-    ensures { λ r. ⌜ Did (obey tables (heldIn held (now (t .entry))) (opening b1 b2)) at (now (out .entry)) r (now (t .exit)) (now (out .exit)) ⌝ }
-{
-    if table_layout::in_range(b1, b2) {
-        let n = table_layout::length_of(b1, b2);
-        let a = table_open::open(&mut t[..n], b1, b2);
-        return Progress {
-            held: n,
-            printed: lines_text::put_answer(out, at, a),
-        };
-    }
-    Progress {
-        held,
-        printed: lines_text::put_answer(out, at, Answer::WrongBuckets),
-    }
-}
-
 // Any other call.
 pub(crate) fn ask_line(
     t: &mut [u64],
@@ -115,7 +85,7 @@ pub(crate) fn ask_line(
     at: usize,
 ) -> Progress
     requires { ⌜ Holds held (now t) × (at < 2 ^ 31) ⌝ }
-    ensures { λ r. ⌜ Did (obey tables (heldIn held (now (t .entry))) (ask (callOf verb (token kind (now (id .entry))) plan))) at (now (out .entry)) r (now (t .exit)) (now (out .exit)) ⌝ }
+    ensures { λ r. ⌜ Did (obey tables (heldIn held (now (t .entry))) (ask (callOf verb (token kind (now (id .entry))) plan))) at (now (t .entry)) (now (out .entry)) r (now (t .exit)) (now (out .exit)) ⌝ }
 {
     if held == 0 {
         return Progress {
@@ -140,10 +110,10 @@ pub(crate) fn obey(
     at: usize,
 ) -> Progress
     requires { do ⌜ (length (now t) ≡ (← ⟦Table::LONGEST⟧)) × Holds held (now t) × (at < 2 ^ 31) × Within (length (now s)) p ⌝ }
-    ensures { λ r. ⌜ Did (obey tables (heldIn held (now (t .entry))) (meant (now (s .entry)) p)) at (now (out .entry)) r (now (t .exit)) (now (out .exit)) ⌝ }
+    ensures { λ r. ⌜ Did (obey tables (heldIn held (now (t .entry))) (meant (now (s .entry)) p)) at (now (t .entry)) (now (out .entry)) r (now (t .exit)) (now (out .exit)) ⌝ }
 {
     match p {
-        Parsed::Open(b1, b2) => open_line(t, held, b1, b2, out, at),
+        Parsed::Open(b1, b2) => lines_open::open_line(t, held, b1, b2, out, at),
         Parsed::Ask {
             verb,
             kind,
@@ -161,7 +131,7 @@ pub(crate) fn obey(
 // A line that had its LF.
 pub(crate) fn turn(t: &mut [u64], held: usize, s: &[u8], out: &mut [u8], at: usize) -> Progress
     requires { do ⌜ (length (now t) ≡ (← ⟦Table::LONGEST⟧)) × Holds held (now t) × (at < 2 ^ 31) ⌝ }
-    ensures { λ r. ⌜ Did (turn tables (heldIn held (now (t .entry))) (now (s .entry))) at (now (out .entry)) r (now (t .exit)) (now (out .exit)) ⌝ }
+    ensures { λ r. ⌜ Did (turn tables (heldIn held (now (t .entry))) (now (s .entry))) at (now (t .entry)) (now (out .entry)) r (now (t .exit)) (now (out .exit)) ⌝ }
 {
     if s.len() < LINE_LIMIT {
         return obey(t, held, s, lines_text::parse(s), out, at);

@@ -9,14 +9,14 @@ use lib.Dec.{eqb, leb}
 use borrow.Author.Tests.{leb-false, eqb-false, ne-eqb}
 use Rattle.lists.proofs.Tests.{by-test}
 use Rattle.answer.specs.Numbers.{numberOf}
-use Rattle.identifier.specs.Identifier.{Token, wordOf}
+use Rattle.identifier.specs.Identifier.{Token, wordOf, withPlan}
 use Rattle.identifier.specs.declared.Read.{Read}
 use Rattle.identifier.specs.declared.Read.the-variants.{Word, Refused}
 use Rattle.identifier.proofs.Causes.{of-identifier, by-reading}
 use Rattle.identifier.proofs.Words.{word-lt}
 use Rattle.model.specs.Levels.{firstLevel, secondLevel}
 use Rattle.model.specs.Model.{State, Call, Outcome, step}
-use Rattle.model.specs.Request.{subject, planAllowed, withPlan, wordFor, askOf, byWord, serveRead, serve, Request, ask, respond, callsOf}
+use Rattle.model.specs.Request.{subject, planAllowed, wordFor, askOf, byWord, serveRead, serve, Request, ask, respond, callsOf}
 use Rattle.model.specs.Machine.{accepted}
 use Rattle.model.specs.History.{model}
 use Rattle.model.proofs.Steps.{refused-keeps, Follows, by-step}

@@ -1,11 +1,10 @@
 -- Calls as they are put, with anything as identifier, at document 01's two levels.
 -- Assumes nothing.
 use Prim.Native.Nat.{ℕ}
-use mathlib.Core.Bool.{Bool, true, cond}
+use mathlib.Core.Bool.{Bool, true}
 use mathlib.Core.List.{List, [], _∷_}
 use Rattle.lists.specs.Entries.{assignable}
-use Rattle.answer.specs.declared.Answer.the-variants.{DeskPlanGiven}
-use Rattle.identifier.specs.Identifier.{Token, wordOf, readOf}
+use Rattle.identifier.specs.Identifier.{Token, wordOf, readOf, withPlan}
 use Rattle.identifier.specs.declared.Read.{Read}
 use Rattle.identifier.specs.declared.Read.the-variants.{Word, Refused}
 use Rattle.model.specs.Levels.{firstLevel, secondLevel}
@@ -31,11 +30,6 @@ planAllowed (add i p) = assignable p
 planAllowed (change i p) = assignable p
 planAllowed (withdraw i) = true
 planAllowed (query i) = true
-
--- by what the identifier is read as: the word, where the plan is allowed, else cause 14 (document 02, order 3: "after cause 2")
-abbrev pub withPlan : Bool → Read → Read
-withPlan allowed (Refused a) = Refused a
-withPlan allowed (Word w) = cond allowed (Word w) (Refused DeskPlanGiven)
 
 -- what a call is for: the word of its identifier, or the cause that is met before the table is looked at
 abbrev pub wordFor : Call Token → Read

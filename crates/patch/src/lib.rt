@@ -4,7 +4,7 @@
 // patch says, made and applied), specs/Wrong.antt (which patches are wrong, what the bytes say), specs/Calls.antt (the two calls),
 // specs/Fits.antt (the limits), specs/Offset.antt (the offset of what is wrong, without the scan), specs/Causes.antt;
 // specs/Cursor.antt is for the inner steps alone. The statements stand in proofs/Statements.antt and proofs/Calls.antt.
-// Cites codec, hash, plane (records, reader) and plane_write (what a call does to its output); patch_apply and patch_make cite it.
+// Cites codec, hash, plane (records, reader) and plane_write (what a call does to its output); patch_fits, patch_check, patch_apply and patch_make cite it.
 use answer::Answer;
 use plane::Record;
 use table_layout::Table;

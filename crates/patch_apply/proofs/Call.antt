@@ -21,10 +21,11 @@ use Rattle.plane.specs.Plane.{planeFrom, wrongAt}
 use Rattle.patch.specs.Patch.{patched}
 use Rattle.patch.specs.Wrong.{patchFrom, patchWrongAt}
 use Rattle.patch.specs.Calls.{applied, applyCall}
-use Rattle.patch_apply.specs.declared.Edited.{Edited}
-use Rattle.patch_apply.specs.declared.Edited.the-variants as E
-use Rattle.patch_apply.specs.Steps.{edited, Lies, summed, appliedRight}
-use Rattle.patch_apply.proofs.Answers.{at-edited, entries-edited, lies-entries}
+use Rattle.patch_check.specs.declared.Edited.{Edited}
+use Rattle.patch_check.specs.declared.Edited.the-variants as E
+use Rattle.patch_check.specs.Steps.{edited, Lies}
+use Rattle.patch_apply.specs.Steps.{summed, appliedRight}
+use Rattle.patch_check.proofs.Answers.{at-edited, entries-edited, lies-entries}
 
 -- ---- the sums
 

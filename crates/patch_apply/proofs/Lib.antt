@@ -1,9 +1,3 @@
 -- The laws of the crate.
 pub mod New
 pub mod Call
-pub mod Cursor
-pub mod Pairs
-pub mod Remove
-pub mod Answers
-pub mod Enter
-pub mod Checked

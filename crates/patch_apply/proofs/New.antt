@@ -39,7 +39,7 @@ use Rattle.patch.proofs.Steps.{written-past, set-bytes}
 use Rattle.patch.proofs.Applied.{every-set, set-all-fit, set-all-length, allowed-each, patched-length1, patched-length2, patched-fits}
 use Rattle.patch.proofs.Exact.{parts, patch-fits}
 use Rattle.patch_apply.specs.Steps.{changed}
-use Rattle.patch_apply.proofs.Checked.{buckets-count, gone-start}
+use Rattle.patch_check.proofs.Checked.{buckets-count, gone-start}
 
 -- ---- one change more
 

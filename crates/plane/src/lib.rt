@@ -1,30 +1,23 @@
-// The plane: the small file that every post reads to find the plan of an identifier. Its records, its reader and the lookup, for any bytes.
+// The plane: the small file that every post reads to find the plan of an identifier. Its records and its reader, for any bytes.
 // Definitions, in document 01's words: specs/Record.antt and specs/Plane.antt (the bytes in each format, which planes are wrong, what the
-// bytes say), specs/Lookup.antt (the call), specs/Fits.antt (its limits), specs/Offset.antt (the offset of what is wrong, without the
+// bytes say), specs/Lookup.antt (the lookup, crate plane_lookup), specs/Fits.antt (its limits), specs/Offset.antt (the offset of what is wrong, without the
 // scan), specs/Causes.antt. Laws: proofs/Scan.antt (a scan of records of any kind), proofs/Round.antt and proofs/Exact.antt (just the
 // planes within the limits have bytes that are wrong nowhere), proofs/Offset.antt, proofs/Causes.antt, proofs/Desk.antt (who gets plan 255);
 // the statements stand with the writer.
 // Cites codec, identifier, bucket, table and table_layout (the numbers of buckets, the plans that a word may be given). The writer,
 // the crates of patches and the library for C cite it.
-use answer::Answer;
 use bucket::Bucket;
-use identifier::Identifier;
-use identifier::Read;
 use table_layout::Table;
 ghost use mathlib.Core.Path.{_≡_};
 ghost use mathlib.Core.Bool.{_&&_};
 ghost use Prim.Native.Nat.{suc, _+_, _*_, _≤_, _<_};
-ghost use lib.ListN.{length, getD, drop};
-ghost use Rattle.lists.specs.Entries.{assignable, find};
-ghost use Rattle.gf2.specs.Vectors.{product};
-ghost use Rattle.identifier.specs.Identifier.{token};
+ghost use lib.ListN.{length, drop};
+ghost use Rattle.lists.specs.Entries.{assignable};
 ghost use Rattle.model.specs.Model.{baseLimit};
 ghost use Rattle.table.specs.Layout.{mostBuckets1, mostBuckets2};
 ghost use Rattle.plane.specs.declared.Wrong.the-variants.{Nowhere};
-ghost use Rattle.plane.specs.Record.{format1, readAll, bucketLength, entryBody, entryLength, bucketFrom, entryFrom};
-ghost use Rattle.plane.specs.Plane.{bucketsAt, whole, headerFits, bucketFits, bucketsWrong, entriesWrong, endFits, endWrong, recordsWrong, wrongAt, planeFrom};
-ghost use Rattle.table.specs.Calls.{solutions};
-ghost use Rattle.plane.specs.Lookup.{orDesk, levelPlan, secondPlan, planFrom, looked, lookupCall};
+ghost use Rattle.plane.specs.Record.{format1, entryBody, entryLength, entryFrom};
+ghost use Rattle.plane.specs.Plane.{bucketsAt, whole, headerFits, bucketFits, bucketsWrong, entriesWrong, endFits, endWrong, recordsWrong, wrongAt};
 
 // Where a plane is wrong first.
 pub enum Wrong {
@@ -93,13 +86,13 @@ impl Record {
 }
 
 // A byte as a length, and as a number.
-fn size(b: u8) -> usize
+pub fn size(b: u8) -> usize
     ensures { λ r. ⌜ r ≡ b ⌝ }
 {
     b as usize
 }
 
-fn wide(b: u8) -> u64
+pub fn wide(b: u8) -> u64
     ensures { λ r. ⌜ r ≡ b ⌝ }
 {
     b as u64
@@ -191,7 +184,7 @@ pub(crate) fn ascending(plane: &[u8], first: usize, k: usize, before: u64) -> Wr
         }
         let word = entry_word(e);
         if word <= last {
-            return Wrong::At(at);
+            return Wrong::At(at); // not above the one before
         }
         last = word;
         at = next;
@@ -288,109 +281,4 @@ pub fn wrong_at(plane: &[u8]) -> Wrong
         size(plane[Record::BUCKETS_1_AT]) + size(plane[Record::BUCKETS_2_AT]),
         size(plane[Record::BASE_COUNT_AT]),
     )
-}
-
-// Solution word i of the bucket in front.
-pub(crate) fn solution(p: &[u8], i: usize) -> u64
-    requires { ⌜ i < solutions ⌝ }
-    ensures { λ r. ⌜ r ≡ getD (bucketFrom format1 (now (p .entry)) .sols) i 0 ⌝ }
-{
-    codec::get_u64(p, Record::SOLUTIONS_AT + i * Record::WORD_LEN)
-}
-
-// The plan that the bucket in front gives for the vector v.
-pub(crate) fn bucket_plan(p: &[u8], v: u64) -> u64
-    ensures { λ r. ⌜ r ≡ product (bucketFrom format1 (now (p .entry)) .sols) v ⌝ }
-{
-    let mut plan: u64 = 0;
-    let mut i = Bucket::SOLUTIONS;
-    while 0 < i {
-        i -= 1;
-        plan = bucket::dot(v, solution(p, i)) + 2 * plan;
-    }
-    plan
-}
-
-// The plan of the word v among the k base entries in front, or the desk's.
-pub(crate) fn base_plan(p: &[u8], k: usize, v: u64) -> u64
-    requires { ⌜ k * entryLength ≤ length (now p) ⌝ }
-    ensures { λ r. ⌜ r ≡ orDesk (find v (readAll entryLength entryFrom k (now (p .entry)))) ⌝ }
-{
-    let mut at = 0;
-    let mut left = k;
-    while 0 < left {
-        let next = at + Record::ENTRY_LEN;
-        let e = &p[at..next];
-        if entry_word(e) == v {
-            return wide(e[Record::ENTRY_BODY]);
-        }
-        at = next;
-        left -= 1;
-    }
-    Table::DESK_PLAN
-}
-
-// The plan that a level of m buckets gives for the vector v, if it holds v.
-pub(crate) fn level_plan(p: &[u8], m: u8, v: u64) -> Held
-    requires { ⌜ (0 < m) × (m * bucketLength format1 ≤ length (now p)) ⌝ }
-    ensures { λ r. ⌜ r ≡ levelPlan (readAll (bucketLength format1) (bucketFrom format1) m (now (p .entry))) v ⌝ }
-{
-    let i = identifier::bucket(v, wide(m)) as usize;
-    let at = i * Record::BUCKET_LEN;
-    let next = at + Record::BUCKET_LEN;
-    let b = &p[at..next];
-    if identifier::threshold(v) < wide(b[Record::BOUND_AT]) {
-        return Held::Plan(bucket_plan(b, v));
-    }
-    Held::Passed
-}
-
-// The plan of the vector v of level 2, in a plane that is right.
-pub(crate) fn second_plan(plane: &[u8], v: u64) -> u64
-    requires { ⌜ wrongAt format1 (now plane) ≡ Nowhere ⌝ }
-    ensures { λ r. ⌜ r ≡ secondPlan (planeFrom format1 (now (plane .entry))) v ⌝ }
-{
-    let at = Record::BUCKETS_AT + size(plane[Record::BUCKETS_1_AT]) * Record::BUCKET_LEN;
-    let held = level_plan(&plane[at..], plane[Record::BUCKETS_2_AT], v);
-    match held {
-        Held::Plan(plan) => plan,
-        Held::Passed => {
-            let entries_at = at + size(plane[Record::BUCKETS_2_AT]) * Record::BUCKET_LEN;
-            base_plan(&plane[entries_at..], size(plane[Record::BASE_COUNT_AT]), v)
-        }
-    }
-}
-
-// The plan of the word w, in a plane that is right.
-pub(crate) fn plan_in(plane: &[u8], w: u64) -> u64
-    requires { ⌜ wrongAt format1 (now plane) ≡ Nowhere ⌝ }
-    ensures { λ r. ⌜ r ≡ planFrom (planeFrom format1 (now (plane .entry))) w ⌝ }
-{
-    let held = level_plan(&plane[Record::BUCKETS_AT..], plane[Record::BUCKETS_1_AT], w);
-    match held {
-        Held::Plan(plan) => plan,
-        Held::Passed => second_plan(plane, identifier::second(w)),
-    }
-}
-
-// The lookup from the word on.
-pub(crate) fn lookup_word(w: u64, plane: &[u8]) -> Answer
-    ensures { λ r. ⌜ r ≡ looked (now (plane .entry)) w (wrongAt format1 (now (plane .entry))) ⌝ }
-{
-    let wrong = wrong_at(plane);
-    match wrong {
-        Wrong::At(at) => Answer::WrongPlane(at as u64),
-        Wrong::Nowhere => Answer::Accepted(plan_in(plane, w)),
-    }
-}
-
-// The plan that the plane gives for the identifier: causes 15, 1, 2, 10.
-pub fn lookup(kind: u8, id: &[u8], plane: &[u8]) -> Answer
-    ensures { λ r. ⌜ r ≡ lookupCall (token kind (now (id .entry))) (now (plane .entry)) ⌝ }
-{
-    let read = Identifier::read(kind, id.len(), id);
-    match read {
-        Read::Word(w) => lookup_word(w, plane),
-        Read::Refused(a) => a,
-    }
 }

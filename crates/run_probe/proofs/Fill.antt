@@ -20,7 +20,7 @@ use Rattle.model.specs.Machine.{accepted}
 use Rattle.table.specs.Layout.{inRange, lengthOf}
 use Rattle.table.specs.Calls.{rows, solutions, Outcome, openCall}
 use Rattle.table.proofs.Statements.{opening-stands, stands-sound, served-sound}
-use Rattle.table_calls.specs.Ready.{Ready}
+use Rattle.table_edit.specs.Ready.{Ready}
 use Rattle.run_probe.specs.Steps.{Probed}
 use Rattle.run_probe.specs.Fill.{addOf, takenFrom, filled}
 

@@ -21,7 +21,7 @@ ghost use Rattle.lines_run.specs.Run.{counted, output};
 ghost use Rattle.lines_run.specs.Buffer.{Printed};
 ghost use Rattle.run_probe.specs.Steps.{probed, probedRow, probedMatrix};
 ghost use Rattle.model.specs.Machine.{accepted};
-ghost use Rattle.table_calls.specs.Ready.{Ready};
+ghost use Rattle.table_edit.specs.Ready.{Ready};
 ghost use Rattle.run_probe.specs.Fill.{takenFrom, filled};
 
 // The number of the answer to the bytes of an identifier of this kind, 0 if they are accepted. What is returned with it goes into value:

@@ -18,7 +18,7 @@ use Rattle.answer.specs.declared.Answer.the-variants.{WrongTable, NotSound, Des
 use Rattle.answer.specs.Numbers.{numberOf, valueOf}
 use Rattle.answer.specs.Causes.{Cause, InOrder, Apart, Exactly}
 use Rattle.answer.proofs.Causes.{One, OneEach, one-value, one-if, Given, exactly, unless-met, if-met, test-apart}
-use Rattle.identifier.specs.Identifier.{oneOf, Token, wordOf, readOf}
+use Rattle.identifier.specs.Identifier.{oneOf, Token, wordOf, readOf, withPlan}
 use Rattle.identifier.specs.Causes.{wrongLength, wrongByte, idCauses, wordAnswer}
 use Rattle.identifier.specs.declared.Read.{Read}
 use Rattle.identifier.specs.declared.Read.the-variants.{Word, Refused}
@@ -27,7 +27,7 @@ use Rattle.identifier.proofs.Words.{word-lt}
 use Rattle.model.specs.Levels.{firstLevel, secondLevel}
 use Rattle.model.specs.Model as M
 use Rattle.model.specs.Model.{baseLimit, Call, add, change, withdraw, query, wouldLeave, base, stepAdd, stepLive, step}
-use Rattle.model.specs.Request.{subject, planAllowed, withPlan, askOf}
+use Rattle.model.specs.Request.{subject, planAllowed, askOf}
 use Rattle.table.specs.Table.{Table, addedTo}
 use Rattle.table.specs.Layout.{leading, buckets1At, buckets2At, totalsAt, inRange, lengthOf}
 use Rattle.table.specs.Test.{shapeTest}

@@ -26,7 +26,7 @@ use Rattle.answer.specs.declared.Answer.the-variants.{Accepted, NotLive, Full}
 use Rattle.answer.specs.Numbers.{numberOf, valueOf}
 use Rattle.answer.specs.Causes.{Cause, NoneMet, InOrder, Apart, Exactly}
 use Rattle.answer.proofs.Causes.{number-exactly, accepted-exactly}
-use Rattle.identifier.specs.Identifier.{Token, wordOf, readOf}
+use Rattle.identifier.specs.Identifier.{Token, wordOf, readOf, withPlan}
 use Rattle.identifier.specs.Causes.{wrongLength, wrongByte, wordAnswer}
 use Rattle.identifier.specs.declared.Read.{Read}
 use Rattle.identifier.proofs.Causes.{OfIdentifier}
@@ -36,7 +36,7 @@ use Rattle.bucket.specs.Bucket.{lookup}
 use Rattle.bucket_words.specs.Words.{bucketWords, wordsOf, bucketFrom}
 use Rattle.model.specs.Levels.{firstLevel, secondLevel, passed, due}
 use Rattle.model.specs.Model.{State, Call, add, change, withdraw, query, opened, wouldLeave, base}
-use Rattle.model.specs.Request.{subject, planAllowed, withPlan, wordFor, askOf, serveRead, Request, callsOf}
+use Rattle.model.specs.Request.{subject, planAllowed, wordFor, askOf, serveRead, Request, callsOf}
 use Rattle.model.specs.Machine.{accepted, after, answers, Alike, Refines}
 use Rattle.model.specs.History.{model, addsIn, withdrawalsIn, told}
 use Rattle.model.proofs.Valid.{valid-opened}

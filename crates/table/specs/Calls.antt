@@ -13,6 +13,7 @@ use Rattle.answer.specs.declared.Answer.the-variants.{Accepted, WrongBuckets, W
 use Rattle.identifier.specs.Identifier.{Token}
 use Rattle.identifier.specs.declared.Read.{Read}
 use Rattle.identifier.specs.declared.Read.the-variants.{Word, Refused}
+pub use Rattle.bucket.specs.Bucket.{rows, solutions}
 use Rattle.model.specs.Model.{baseLimit, Call, add, change, withdraw, query}
 use Rattle.model.specs.Request.{askOf, wordFor}
 use Rattle.table.specs.Table as T
@@ -20,14 +21,6 @@ use Rattle.table.specs.Table.{Table}
 use Rattle.table.specs.Layout as L
 use Rattle.table.specs.Sound as D
 use Rattle.table.specs.Test as E
-
--- document 01's bucket: 64 rows
-abbrev pub rows : ℕ
-rows = 64
-
--- and 8 solution words
-abbrev pub solutions : ℕ
-solutions = 8
 
 -- the solution words of each bucket of the table t: there is one layout
 abbrev pub solutionsIn : List ℕ → ℕ

@@ -19,9 +19,10 @@ use Rattle.lists.proofs.Tests.{cond-true, cond-false}
 use Rattle.hash.specs.Mix.{mixOf}
 use Rattle.bucket.specs.declared.Bucket.{Bucket}
 use Rattle.bucket_words.specs.Words.{bucketWords, bucketFrom}
-use Rattle.bucket_settle.specs.declared.Settled.{Settled}
 use Rattle.bucket_settle.specs.Settle.{SoundBucket}
-use Rattle.bucket_settle.specs.Outgoing.{outgoing, settledOf}
+use Rattle.bucket_settle.specs.Outgoing.{outgoing}
+use Rattle.bucket_fall.specs.declared.Settled.{Settled}
+use Rattle.bucket_fall.specs.Settled.{settledOf}
 use Rattle.model.specs.Model.{baseLimit, add}
 use Rattle.table.specs.Table.{Table, totalNumbers, withFirst, withCount, withOne, thr, index, second, onSecond, put, bucketOf, holds, arriveAt, addedTo}
 use Rattle.table.specs.Layout.{buckets1At, liveCountAt, totalsAt, inRange, numbersOf, bucketPlace, tableFrom}
@@ -29,15 +30,16 @@ use Rattle.table.specs.Calls.{rows, solutions, tableOf, planIn, Outcome, turned
 use Rattle.table.proofs.Numbers.{header-read, write-count, long-numbers, read-total, write-more}
 use Rattle.table.proofs.Calls.{shape-range, sound-shaped}
 use Rattle.table_layout.proofs.Shape.{first-in, first-here, first-stored, stored-same}
-use Rattle.table_calls.specs.Ready.{Ready}
-use Rattle.table_calls.proofs.Touched.{flat-of, live-room}
-use Rattle.table_calls.proofs.Calls.{total-few}
+use Rattle.table_edit.specs.Ready.{Ready}
+use Rattle.table_edit.proofs.Touched.{flat-of, live-room}
+use Rattle.table_edit.proofs.Calls.{total-few}
 use Rattle.table_arrive.specs.Arrival.{settledAt, storedAt, toSecond, Straight, Passed, Kept, FlatKept}
 use Rattle.table_arrive.proofs.Tables.{flat, first-sound, numbers-table, numbers-kept}
 use Rattle.table_arrive.proofs.Settled.{past-settled, straightly, straight-is, bucket-is, out-is, out-few}
-use Rattle.table_add.specs.Arrivals.{seconds, allToSecond, entering, Passing, countedIn, Countable}
-use Rattle.table_add.proofs.Arrivals.{all-law, add-law}
-use Rattle.table_add.proofs.Passing.{pass-none, pass-one}
+use Rattle.table_pass.specs.Passing.{seconds, allToSecond}
+use Rattle.table_add.specs.Arrivals.{entering, Passing, countedIn, Countable}
+use Rattle.table_pass.proofs.Arrivals.{all-law, add-law}
+use Rattle.table_pass.proofs.Passing.{pass-none, pass-one}
 
 pub passed-as : (n r : ℕ) (t : List ℕ) (U : Table) (done b : Bool) (u : List ℕ) → done ≡ b → Passed n r t U done u → Passed n r t U b u
 passed-as n r t U done b u y g = subst (λ (x : Bool). Passed n r t U x u) y g

@@ -1,14 +1,11 @@
 // The call `add`: what leaves level 1 goes to level 2, and what leaves that to the base list. Nothing is written before it is known that
 // the base list has room; then only the stretches of the buckets that changed, the base list and the header are. The word's product in the
 // bucket that holds it is formed once: whether it is live, whether it goes straight in and whether it depends are told by it.
-// specs/Arrivals.antt has the words that go on, one after the other, as the code goes about them. Laws: proofs/Arrivals.antt (they lead to
-// the table of the crate table's `addedTo`), proofs/Passing.antt (the loops over them and the draft),
-// proofs/Added.antt (what a word that arrives at level 1 leaves is the call's table).
-// Cites table_arrive (the arrival of one word), table_calls (the tests of a call, the query), table, table_layout (places), bucket_settle (the words that leave
+// specs/Arrivals.antt has what an add of a word that is not live does. Laws: proofs/Added.antt (what a word that arrives at level 1 leaves is the call's table).
+// Cites table_pass (the words that go on), table_arrive (the arrival of one word), table_calls (the tests of a call, the query), table, table_layout (places), bucket_settle and bucket_fall (the words that leave
 // a bucket), identifier, bucket and table_base. The library, the line program and run_probe build on it.
 use answer::Answer;
 use bucket::Bucket;
-use bucket_settle::Outgoing;
 use identifier::Read;
 use table_base::Found;
 use table_layout::Table;
@@ -16,98 +13,20 @@ ghost use mathlib.Core.Path.{_≡_};
 ghost use mathlib.Core.Bool.{true, false};
 ghost use Prim.Native.Nat.{_+_, _<_, _≤_};
 ghost use lib.ListN.{length, getD, drop};
-ghost use Rattle.lists.specs.Entries.{words, planLimit, assignable};
+ghost use Rattle.lists.specs.Entries.{planLimit, assignable};
 ghost use Rattle.hash.specs.Mix.{mixOf};
 ghost use Rattle.answer.specs.declared.Answer.the-variants.{Accepted};
 ghost use Rattle.identifier.specs.Identifier.{token};
 ghost use Rattle.bucket_words.specs.Words.{bucketFrom};
 ghost use Rattle.bucket_settle.specs.Settle.{planOf};
 ghost use Rattle.model.specs.Model.{add};
-ghost use Rattle.table.specs.Table.{second, withBase, holds};
-ghost use Rattle.table.specs.Layout.{liveCountAt, numbersOf};
+ghost use Rattle.table.specs.Table.{second, holds};
+ghost use Rattle.table.specs.Layout.{liveCountAt};
 ghost use Rattle.table.specs.Calls.{rows, solutions, tableOf, served, call};
 ghost use Rattle.table_base.specs.Base.{foundOf};
-ghost use Rattle.table_calls.specs.Ready.{Ready};
-ghost use Rattle.table_arrive.specs.Arrival.{productAt, productIn, DependsIn, Passed, FlatKept};
-ghost use Rattle.table_add.specs.Arrivals.{seconds, allToSecond, takeOver, Drafted, SameSize, entering, Held, Passing, Depending, countedIn, Countable};
-
-// The words that leave level 1 arrive at level 2 one after the other, on a draft. False as soon as the base list has no room: then nothing is
-// said of the draft.
-pub(crate) fn carry(t: &mut [u64], out: Outgoing) -> bool
-    requires { do ⌜ FlatKept rows solutions (now t) × (out .count ≤ (← ⟦Outgoing::MOST⟧)) ⌝ }
-    ensures { λ r. ⌜ Drafted rows solutions (allToSecond rows solutions mixOf (tableOf (now (t .entry))) (seconds mixOf out)) r (now (t .exit)) ⌝ }
-{
-    let vectors = out.vectors;
-    let plans = out.plans;
-    let count = out.count;
-    let mut i: usize = 0;
-    while i < count {
-        if table_arrive::arrive_second(t, identifier::second(vectors[i]), plans[i]) {
-            i += 1;
-        } else {
-            return false;
-        }
-    }
-    true
-}
-
-// The level 2 buckets of these words become those of another table.
-pub(crate) fn take_buckets(t: &mut [u64], from: &[u64], out: Outgoing)
-    requires { do ⌜ SameSize rows solutions (now t) (now from) × (out .count ≤ (← ⟦Outgoing::MOST⟧)) ⌝ }
-    ensures { λ _. ⌜ now (t .exit) ≡ numbersOf (takeOver rows solutions mixOf (tableOf (now (from .entry))) (words (seconds mixOf out)) (tableOf (now (t .entry)))) ⌝ }
-{
-    let vectors = out.vectors;
-    let count = out.count;
-    let mut i: usize = 0;
-    while i < count {
-        let at = table_layout::second_place(from, identifier::second(vectors[i]));
-        table_arrive::store_at(t, at, table_layout::bucket_at(from, at));
-        i += 1;
-    }
-}
-
-// The base list becomes that of another table.
-pub(crate) fn take_base(t: &mut [u64], from: &[u64])
-    requires { ⌜ SameSize rows solutions (now t) (now from) ⌝ }
-    ensures { λ _. ⌜ now (t .exit) ≡ numbersOf (withBase (tableOf (now (t .entry))) (tableOf (now (from .entry)) .base)) ⌝ }
-{
-    let a = table_layout::base_place(t);
-    bucket_words::put(&mut t[a..], &from[a..]);
-    t[Table::BASE_COUNT_AT] = from[Table::BASE_COUNT_AT];
-}
-
-// The words that leave level 1 go on, each tried on a draft first; then what they changed is written.
-pub(crate) fn pass_drafted(t: &mut [u64], draft: &mut [u64], out: Outgoing) -> bool
-    requires { do ⌜ FlatKept rows solutions (now t) × ((length (now draft) ≡ length (now t)) × (out .count ≤ (← ⟦Outgoing::MOST⟧))) ⌝ }
-    ensures { λ r. ⌜ Passed rows solutions (now (t .entry)) (allToSecond rows solutions mixOf (tableOf (now (t .entry))) (seconds mixOf out)) r (now (t .exit)) ⌝ }
-{
-    bucket_words::put(draft, t);
-    if carry(draft, out) {
-        take_buckets(t, draft, out);
-        take_base(t, draft);
-        return true;
-    }
-    false
-}
-
-// The words that leave level 1 go on, or nothing is written. One word alone needs no draft.
-pub(crate) fn pass_on(t: &mut [u64], out: Outgoing) -> bool
-    requires { do ⌜ FlatKept rows solutions (now t) × (out .count ≤ (← ⟦Outgoing::MOST⟧)) ⌝ }
-    ensures { λ r. ⌜ Passed rows solutions (now (t .entry)) (allToSecond rows solutions mixOf (tableOf (now (t .entry))) (seconds mixOf out)) r (now (t .exit)) ⌝ }
-{
-    let count = out.count;
-    if count == 0 {
-        return true;
-    }
-    if count == 1 {
-        let vectors = out.vectors;
-        let plans = out.plans;
-        return table_arrive::arrive_second(t, identifier::second(vectors[0]), plans[0]);
-    }
-    let n = t.len();
-    let mut draft = [0u64; Table::LONGEST];
-    pass_drafted(t, &mut draft[..n], out)
-}
+ghost use Rattle.table_edit.specs.Ready.{Ready};
+ghost use Rattle.table_arrive.specs.Arrival.{productAt, productIn, DependsIn};
+ghost use Rattle.table_add.specs.Arrivals.{entering, Held, Passing, Depending, countedIn, Countable};
 
 // One more live word, with its plan.
 pub(crate) fn count_one(t: &mut [u64], plan: u64) -> Answer
@@ -139,7 +58,7 @@ pub(crate) fn fall_first(t: &mut [u64], w: u64, plan: u64) -> Answer
     let at = table_layout::first_place(t, w);
     let s = table_arrive::fallen_at(t, at, w, plan);
     let out = s.out;
-    if pass_on(t, out) {
+    if table_pass::pass_on(t, out) {
         let b = s.bucket;
         table_arrive::store_at(t, at, b);
         return count_one(t, plan);
@@ -239,7 +158,7 @@ pub fn add_word(t: &mut [u64], w: u64, plan: u64) -> Answer
     if table_layout::holds_second(t, identifier::second(w)) {
         return add_second(t, w, plan);
     }
-    let found = table_calls::plan_in(t, w); // in the base list: no product is formed
+    let found = table_edit::plan_in(t, w); // in the base list: no product is formed
     match found {
         Found::Plan(q) => Answer::Live(q),
         Found::Nothing => enter_last(t, w, plan),

@@ -18,12 +18,13 @@ use Rattle.bucket.specs.declared.Bucket.{Bucket}
 use Rattle.bucket.specs.Bucket.{add}
 use Rattle.bucket_words.specs.Words.{bucketWords, wordsOf, bucketFrom, Stepped}
 use Rattle.bucket_settle.specs.declared.Outgoing.{Outgoing}
-use Rattle.bucket_settle.specs.declared.Settled.{Settled}
 use Rattle.bucket_settle.specs.Settle.{SoundBucket, Settlement, settle}
-use Rattle.bucket_settle.specs.Outgoing.{plans, outgoing, settledOf}
+use Rattle.bucket_settle.specs.Outgoing.{plans, outgoing}
 use Rattle.bucket_settle.proofs.Arrays.{count-of}
-use Rattle.bucket_settle.proofs.Run.{settle-done, settle-past}
 use Rattle.bucket_settle.proofs.Sound.{settle-sound, settle-few}
+use Rattle.bucket_fall.specs.declared.Settled.{Settled}
+use Rattle.bucket_fall.specs.Settled.{settledOf}
+use Rattle.bucket_fall.proofs.Run.{settle-done, settle-past}
 use Rattle.model.specs.Model.{baseLimit}
 use Rattle.table.specs.Table.{Table, withSecond, withBase, thr, index, put, bucketOf, holds, arriveAt}
 use Rattle.table.specs.Layout.{buckets1At, buckets2At, baseCountAt, numbersOf, bucketPlace, tableFrom}

@@ -4,10 +4,10 @@
 // specs/Arrival.antt has the steps as the code goes about them, at every number of rows and of solution words, and `Kept`, what each of
 // them keeps. Laws: proofs/Tables.antt (such a table and its numbers, words into the pairs of the base list),
 // proofs/Settled.antt (the words that leave a bucket, as the code keeps them; what it finds settled is what the crate table's `arriveAt` leaves).
-// Cites table, table_layout (places), bucket, bucket_words, gf2, identifier (thresholds), bucket_settle (one bucket under its bound) and table_base. table_add cites it.
+// Cites table, table_layout (places), bucket, bucket_words, gf2, identifier (thresholds), bucket_settle and bucket_fall (one bucket under its bound) and table_base. table_add cites it.
 use bucket::Bucket;
+use bucket_fall::Settled;
 use bucket_settle::Outgoing;
-use bucket_settle::Settled;
 use table_layout::Table;
 ghost use mathlib.Core.Path.{_≡_};
 ghost use mathlib.Core.Bool.{true, false, cond};
@@ -19,7 +19,7 @@ ghost use Rattle.hash.specs.Mix.{mixOf};
 ghost use Rattle.bucket.specs.Bucket.{add};
 ghost use Rattle.bucket_words.specs.Words.{bucketFrom};
 ghost use Rattle.bucket_settle.specs.Settle.{SoundBucket, thresholdOf};
-ghost use Rattle.bucket_settle.specs.Outgoing.{settledOf};
+ghost use Rattle.bucket_fall.specs.Settled.{settledOf};
 ghost use Rattle.model.specs.Model.{baseLimit};
 ghost use Rattle.table.specs.Table.{withBase, holds};
 ghost use Rattle.table.specs.Layout.{baseCountAt, pairsFrom, basePairs, numbersOf};
@@ -42,7 +42,7 @@ pub fn fallen_at(t: &[u64], at: usize, v: u64, plan: u64) -> Settled
     requires { do ⌜ (at + (← ⟦Bucket::WORDS⟧) ≤ length (now t)) × (SoundBucket rows solutions (bucketFrom rows solutions (drop at (now t))) × (add rows v plan (bucketFrom rows solutions (drop at (now t))) .done ≡ false)) ⌝ }
     ensures { λ r. do ⌜ r ≡ settledOf (← ⟦Outgoing::MOST⟧ .entry) (settledAt rows solutions thresholdOf at (record { word = v; plan = plan }) (now (t .entry))) ⌝ }
 {
-    bucket_settle::fall(table_layout::bucket_at(t, at), v, plan)
+    bucket_fall::fall(table_layout::bucket_at(t, at), v, plan)
 }
 
 // The bucket into its stretch of the table.

@@ -1,8 +1,8 @@
 // What a table of document 01 has where: its limits, its length, the test of its shape (cause 4), the places of buckets, their bounds, which
 // level holds a vector; and the totals of document 02, order 2, raised and lowered by one. Each function is an equation with a definition of the crate table (specs/Layout.antt, Table.antt, Calls.antt).
 // proofs/Shape.antt has the laws of the places, and what one bucket or the base list changes.
-// Cites table, bucket, identifier and hash; table_sound, table_arrive, table_calls, table_add, plane, plane_write, the crates of
-// patches and lines_run build on it.
+// Cites table, bucket, identifier and hash; table_rows, table_sound, table_arrive, table_calls, table_add, plane, plane_write, the crates of
+// patches, lines_open and lines_run build on it.
 use bucket::Bucket;
 ghost use mathlib.Core.Path.{_≡_};
 ghost use mathlib.Core.Bool.{true};

@@ -1,21 +1,19 @@
--- The parts of the test make the whole; and what its loops ask for: one bucket, one pair, one number or one occupied row, then the rest,
+-- The parts of the test make the whole; and what its loops ask for: one bucket, one pair or one number, then the rest,
 -- at every number n of rows and r of solution words.
 -- Assumes nothing.
 use Prim.Native.Nat.{ℕ, zero, suc, _+_, _-_, _*_, _^_, _≤_, _<_}
 use native.Mathlib.Nat.{zero-add, add-assoc, add-zero, lt-of-lt-of-le}
-use native.Mathlib.Numerals.{add-one}
 use native.Mathlib.Omega.{arith}
-use mathlib.Core.Path.{_≡_, refl, sym, ap, ap₂, _∙_, subst, subst⁻¹, fun-ext}
-use mathlib.Core.Bool.{Bool, true, false, cond, _&&_, and-true, and-false, and-assoc, true≢false}
+use mathlib.Core.Path.{_≡_, refl, sym, ap, ap₂, _∙_, subst, fun-ext}
+use mathlib.Core.Bool.{Bool, true, false, _&&_, and-true, and-false, and-assoc}
 use mathlib.Core.Logic.{⊎-elim}
-use mathlib.Core.Option.{Option, none, some}
 use mathlib.Core.List.{List, [], _∷_, _++_, List·Memᴰ, List·Memᴰ·head, List·Memᴰ·tail, List·Memᴰ·not-nil, List·Memᴰ·append-cases, Memᴰ·of-map}
-use lib.Bits.{bitAnd, bitOr, or-zero-l, or-add-and, and-le-r}
-use lib.Count.{ones, trailingZeros, leadingZeros, leading-length}
+use lib.Bits.{bitOr, or-zero-l, or-add-and, and-le-r}
+use lib.Count.{ones}
 use lib.Dec.{eqb, ltb, leb}
-use lib.ListN.{length, getD, take, drop, replicate, length-set, length-take, length-drop, drop-of-length-le}
+use lib.ListN.{length, getD, take, drop, replicate, length-set, length-take, length-drop}
 use lib.Pow.{pow-mono}
-use lib.Seq.{drop-drop, getD-drop, drop-cons, getD-set-same, length-take-le}
+use lib.Seq.{drop-drop, getD-drop, getD-set-same, length-take-le}
 use borrow.Author.Tests.{leb-true, ltb-true, ltb-false, ne-eqb}
 use Rattle.lists.specs.Lists.{countFrom}
 use Rattle.lists.specs.Entries.{Entry, deskPlan, assignable}
@@ -27,18 +25,11 @@ use Rattle.lists.proofs.Totals as C
 use Rattle.lists.proofs.Totals.{totals-length, totals-none, totals-cons, less-more, more-less}
 use Rattle.hash.specs.Mix.{mixOf, unmixOf}
 use Rattle.gf2.specs.Select.{chosen}
-use Rattle.gf2.proofs.Bit.{bit-set-lt}
-use Rattle.gf2.proofs.Lowest.{tz-bit, tz-lt}
-use Rattle.gf2.proofs.Chosen.{chosen-none, chosen-low}
 use Rattle.gf2.proofs.Linear.{product-lt}
-use Rattle.parities.specs.Several.{products}
-use Rattle.parities.proofs.Several.{products-at}
-use Rattle.bucket_rows.specs.declared.Rows.{Rows}
 use Rattle.bucket_rows.specs.Elimination.{soundRows}
 use Rattle.bucket.specs.declared.Bucket.{Bucket}
 use Rattle.bucket.specs.Bucket.{largestBound, lookup}
 use Rattle.bucket_words.specs.Words.{bucketWords, bucketFrom}
-use Rattle.bucket_settle.specs.Settle.{listed}
 use Rattle.model.specs.Model.{baseLimit}
 use Rattle.table.specs.Table.{Table, totalNumbers, thr, index}
 use Rattle.table.specs.Layout.{buckets1At, buckets2At, baseCountAt, liveCountAt, totalsAt, header, levelFrom, pairsFrom, bucketPlace, tableFrom, unusedIn}
@@ -48,7 +39,9 @@ use Rattle.table.specs.Calls.{rows, solutions, tableOf, shaped, sound}
 use Rattle.table.proofs.Numbers.{header-read, total-read}
 use Rattle.table.proofs.Test.{all-out, zeros-out, zeros-in, totals-exactly}
 use Rattle.table_layout.proofs.Shape.{shape}
-use Rattle.table_sound.specs.Held.{passes, heldTest, rowOf, pairTest, countsSound, gate, next, oneOff, countOff, bucketOff, levelOff, levelLeft, baseLeft, noneLeft, Leaves}
+use Rattle.table_rows.specs.Counting.{passes, rowOf, Counted, ended, stopped, gate, next, oneOff, countOff, bucketOff, levelOff, levelLeft, Leaves}
+use Rattle.table_rows.proofs.Counting.{all-next, all-end, left-is, count-on, count-out, off-one, off-zero, level-next, level-end}
+use Rattle.table_sound.specs.Held.{pairTest, countsSound, baseLeft, noneLeft}
 
 -- a test that holds, then the others; a test that does not
 pub holding : {a b c : Bool} → a ≡ true → b ≡ c → (a && b) ≡ c
@@ -57,155 +50,86 @@ holding h e = ap₂ (λ (x y : Bool). x && y) h e
 pub failing : {a : Bool} (b : Bool) → a ≡ false → (a && b) ≡ false
 failing b h = ap (λ (x : Bool). x && b) h
 
--- a loop of tests: one of them, q, then the others: x is what the loop has left to test, b what was to be tested
-pub go-on : {x q b c : Bool} (a : Bool) → x ≡ (q && a) → q ≡ c → x ≡ b → (c && a) ≡ b
-go-on a e h i = sym (e ∙ ap (λ (c : Bool). c && a) h) ∙ i
-
 -- the bits of two numbers together are 0 exactly where both numbers are
 or-none : (a b : ℕ) → eqb (bitOr a b) 0 ≡ (eqb a 0 && eqb b 0)
 or-none zero b = ap (λ (n : ℕ). eqb n 0) (or-zero-l b)
 or-none (suc a) b =
     ne-eqb (bitOr (suc a) b) 0 (λ e. omega (arith, e, or-add-and (suc a) b, and-le-r (suc a) b)) ∙ sym (failing (eqb b 0) (ne-eqb (suc a) 0 (λ e. omega (arith, e))))
 
--- a row in its bucket and under the bound
-pub row-passes : (t : List ℕ) (second : Bool) (m i bound v : ℕ) → eqb (index mixOf m v) i ≡ true → ltb (thr mixOf v) bound ≡ true
-    → heldTest t second m i bound v ≡ passes t second v
-row-passes t second m i bound v p q = ap₂ (λ (x y : Bool). x && (y && passes t second v)) p q
-
--- ---- what is left, and what the code says
-
--- a test that holds, or that does not
-pub gate-on : {b : Bool} {o u : Option (List ℕ)} → b ≡ true → o ≡ u → gate b o ≡ u
-gate-on h e = ap₂ (λ (x : Bool) (o : Option (List ℕ)). gate x o) h e
-
-pub gate-off : {b : Bool} (o : Option (List ℕ)) → b ≡ false → gate b o ≡ none
-gate-off o h = ap (λ (x : Bool). gate x o) h
-
-pub left-some : {o : Option (List ℕ)} {ts : List ℕ} → o ≡ some ts → Leaves o true ts
-left-some {o} {ts} e = subst⁻¹ (λ (x : Option (List ℕ)). Leaves x true ts) e (refl, refl)
-
-pub left-none : {o : Option (List ℕ)} (ts : List ℕ) → o ≡ none → Leaves o false ts
-left-none {o} ts e = subst⁻¹ (λ (x : Option (List ℕ)). Leaves x false ts) e refl
-
-pub left-as : {o u : Option (List ℕ)} (d : Bool) (ts : List ℕ) → o ≡ u → Leaves u d ts → Leaves o d ts
-left-as d ts e l = subst⁻¹ (λ (x : Option (List ℕ)). Leaves x d ts) e l
-
-some-of : (o : Option (List ℕ)) {d : Bool} {ts : List ℕ} → Leaves o d ts → d ≡ true → o ≡ some ts
-some-of none l h = absurd (true≢false (sym h ∙ l))
-some-of (some us) l h = ap some (sym (l .1))
-
-none-of : (o : Option (List ℕ)) {d : Bool} (ts : List ℕ) → Leaves o d ts → d ≡ false → o ≡ none
-none-of none ts l h = refl
-none-of (some us) ts l h = absurd (true≢false (sym (l .0) ∙ h))
-
--- a loop: x is what it has left to do, o the first of it, b all that it was to do
-count-on : {x b : Option (List ℕ)} (o : Option (List ℕ)) (f : List ℕ → Option (List ℕ)) {d : Bool} {ts : List ℕ} → x ≡ next o f → x ≡ b → Leaves o d ts → d ≡ true → f ts ≡ b
-count-on o f e i l h = sym (ap (λ (y : Option (List ℕ)). next y f) (some-of o l h)) ∙ sym e ∙ i
-
-count-out : {x b : Option (List ℕ)} (o : Option (List ℕ)) (f : List ℕ → Option (List ℕ)) {d : Bool} (ts us : List ℕ) → x ≡ next o f → x ≡ b → Leaves o d ts → d ≡ false → Leaves b false us
-count-out o f ts us e i l h = left-none us (sym i ∙ e ∙ ap (λ (y : Option (List ℕ)). next y f) (none-of o ts l h))
-
--- one entry: the test, then its total
-module _ (p : Entry → Bool) (e : Entry) (ts : List ℕ) where
-  pub off-failed : p e ≡ false → oneOff p e ts ≡ none
-  unfolding oneOff
-  off-failed h = gate-off _ h
-
-  off-one : p e ≡ true → ltb 0 (getD ts (e .plan) 0) ≡ true → oneOff p e ts ≡ some (oneLess (e .plan) ts)
-  unfolding oneOff
-  off-one h l = gate-on h (gate-on l refl)
-
-  off-zero : p e ≡ true → ltb 0 (getD ts (e .plan) 0) ≡ false → oneOff p e ts ≡ none
-  unfolding oneOff
-  off-zero h l = gate-on h (gate-off _ l)
-
-  pub off-counted : p e ≡ true → (d : Bool) (us : List ℕ) → d ≡ ltb 0 (getD ts (e .plan) 0) → us ≡ cond d (oneLess (e .plan) ts) ts → Leaves (oneOff p e ts) d us
-  unfolding oneOff
-  off-counted h d us q w = subst⁻¹ (λ (o : Option (List ℕ)). Leaves o d us) (gate-on h (ap (λ (x : Bool). gate x (some (oneLess (e .plan) ts))) (sym q))) (go d w)
-    where
-      go : (x : Bool) → us ≡ cond x (oneLess (e .plan) ts) ts → Leaves (gate x (some (oneLess (e .plan) ts))) x us
-      go true w = (refl, w)
-      go false w = refl
-
--- a bucket, whose rows were found or not
-module _ (n : ℕ) (row : Entry → Bool) (b : Bucket) (ts : List ℕ) where
-  pub bucket-over : leb (b .bound) largestBound ≡ false → bucketOff n row b ts ≡ none
-  unfolding bucketOff
-  bucket-over l = gate-off _ l
-
-  pub bucket-unclear : leb (b .bound) largestBound ≡ true → clearTest b ≡ false → bucketOff n row b ts ≡ none
-  unfolding bucketOff
-  bucket-unclear l c = gate-on l (gate-off _ c)
-
-  pub bucket-found : leb (b .bound) largestBound ≡ true → clearTest b ≡ true → (found : Rows) → found ≡ soundRows n (b .mark) (b .cols) → {ok : Bool} → found .ok ≡ ok
-      → bucketOff n row b ts ≡ gate ok (countOff row (listed b (chosen (b .mark) (found .rows))) ts)
-  unfolding bucketOff
-  bucket-found l c found e f =
-      gate-on l (gate-on c (ap (λ (r : Rows). gate (r .ok) (countOff row (listed b (chosen (b .mark) (r .rows))) ts)) (sym e)
-      ∙ ap (λ (x : Bool). gate x (countOff row (listed b (chosen (b .mark) (found .rows))) ts)) f))
-
 -- ---- tests that are passed first, and then every entry counted off
 
 abbrev any : Entry → Bool
 any e = true
 
-gate-both : (a b : Bool) (o : Option (List ℕ)) → gate a (gate b o) ≡ gate (a && b) o
-gate-both true b o = refl
-gate-both false b o = refl
+-- each entry was counted off, and what is left passes g
+abbrev ends : Counted → (List ℕ → Bool) → Bool
+ends c g = c .done && g (c .left)
 
-next-gate : (b : Bool) (o : Option (List ℕ)) (f : List ℕ → Option (List ℕ)) → next (gate b o) f ≡ gate b (next o f)
-next-gate true o f = refl
-next-gate false o f = refl
+ends-gate : (b : Bool) (ts : List ℕ) (c : Counted) (g : List ℕ → Bool) → ends (gate b ts c) g ≡ (b && ends c g)
+ends-gate true ts c g = refl
+ends-gate false ts c g = refl
 
-gate-next : (b : Bool) (o : Option (List ℕ)) (f : List ℕ → Option (List ℕ)) → next o (λ ts. gate b (f ts)) ≡ gate b (next o f)
-gate-next true o f = refl
-gate-next false none f = refl
-gate-next false (some ts) f = refl
+ends-next : (c : Counted) (f : List ℕ → Counted) (g : List ℕ → Bool) → ends (next c f) g ≡ ends c (λ ts. ends (f ts) g)
+ends-next c f g = go (c .done) (c .left)
+  where
+    go : (d : Bool) (ts : List ℕ) → ends (next (record { done = d; left = ts }) f) g ≡ (d && ends (f ts) g)
+    go true ts = refl
+    go false ts = refl
 
-next-next : (o : Option (List ℕ)) (f g : List ℕ → Option (List ℕ)) → next (next o f) g ≡ next o (λ ts. next (f ts) g)
-next-next none f g = refl
-next-next (some ts) f g = refl
-
-none-gate : (b : Bool) (o : Option (List ℕ)) → noneLeft (gate b o) ≡ (b && noneLeft o)
-none-gate true o = refl
-none-gate false o = refl
+-- a test that does not look at what is left
+ends-test : (b : Bool) (c : Counted) (g : List ℕ → Bool) → ends c (λ ts. b && g ts) ≡ (b && ends c g)
+ends-test true c g = refl
+ends-test false c g = and-false (c .done)
 
 -- the tests of the entries first
-one-any : (p : Entry → Bool) (e : Entry) (ts : List ℕ) → oneOff p e ts ≡ gate (p e) (oneOff any e ts)
+one-any : (p : Entry → Bool) (e : Entry) (ts : List ℕ) (g : List ℕ → Bool) → ends (oneOff p e ts) g ≡ (p e && ends (oneOff any e ts) g)
 unfolding oneOff
-one-any p e ts = refl
+one-any p e ts g = ends-gate (p e) ts (oneOff any e ts) g
 
-count-any : (p : Entry → Bool) (es : List Entry) (ts : List ℕ) → countOff p es ts ≡ gate (allOf p es) (countOff any es ts)
-count-any p [] ts = refl
-count-any p (e ∷ es) ts =
-    ap₂ (λ (o : Option (List ℕ)) (f : List ℕ → Option (List ℕ)). next o f) (one-any p e ts) (fun-ext (count-any p es))
-    ∙ next-gate (p e) (oneOff any e ts) (λ us. gate (allOf p es) (countOff any es us))
-    ∙ ap (gate (p e)) (gate-next (allOf p es) (oneOff any e ts) (countOff any es)) ∙ gate-both (p e) (allOf p es) _
+count-any : (p : Entry → Bool) (es : List Entry) (ts : List ℕ) (g : List ℕ → Bool) → ends (countOff p es ts) g ≡ (allOf p es && ends (countOff any es ts) g)
+count-any p [] ts g = refl
+count-any p (e ∷ es) ts g =
+    let k : List ℕ → Bool = λ us. ends (countOff any es us) g in
+    ends-next (oneOff p e ts) (countOff p es) g
+    ∙ ap (ends (oneOff p e ts)) (fun-ext (λ us. count-any p es us g))
+    ∙ one-any p e ts (λ us. allOf p es && k us)
+    ∙ ap (λ (x : Bool). p e && x) (ends-test (allOf p es) (oneOff any e ts) k ∙ ap (λ (x : Bool). allOf p es && x) (sym (ends-next (oneOff any e ts) (countOff any es) g)))
+    ∙ sym (and-assoc (p e) (allOf p es) (ends (countOff any (e ∷ es) ts) g))
 
-count-append : (es fs : List Entry) (ts : List ℕ) → countOff any (es ++ fs) ts ≡ next (countOff any es ts) (countOff any fs)
-count-append [] fs ts = refl
-count-append (e ∷ es) fs ts =
-    ap (next (oneOff any e ts)) (fun-ext (count-append es fs)) ∙ sym (next-next (oneOff any e ts) (countOff any es) (countOff any fs))
+count-append : (es fs : List Entry) (ts : List ℕ) (g : List ℕ → Bool) → ends (countOff any (es ++ fs) ts) g ≡ ends (countOff any es ts) (λ us. ends (countOff any fs us) g)
+count-append [] fs ts g = refl
+count-append (e ∷ es) fs ts g =
+    ends-next (oneOff any e ts) (countOff any (es ++ fs)) g
+    ∙ ap (ends (oneOff any e ts)) (fun-ext (λ us. count-append es fs us g))
+    ∙ sym (ends-next (oneOff any e ts) (countOff any es) (λ us. ends (countOff any fs us) g))
 
-bucket-any : (n : ℕ) (row : Entry → Bool) (b : Bucket) (ts : List ℕ) → bucketOff n row b ts ≡ gate (bucketTest n row b) (countOff any (rowsIn n b) ts)
+bucket-any : (n : ℕ) (row : Entry → Bool) (b : Bucket) (ts : List ℕ) (g : List ℕ → Bool) → ends (bucketOff n row b ts) g ≡ (bucketTest n row b && ends (countOff any (rowsIn n b) ts) g)
 unfolding bucketOff bucketTest
-bucket-any n row b ts =
-    ap (λ (o : Option (List ℕ)). gate (leb (b .bound) largestBound) (gate (clearTest b) (gate (soundRows n (b .mark) (b .cols) .ok) o))) (count-any row (rowsIn n b) ts)
-    ∙ ap (λ (o : Option (List ℕ)). gate (leb (b .bound) largestBound) (gate (clearTest b) o)) (gate-both (soundRows n (b .mark) (b .cols) .ok) (allOf row (rowsIn n b)) _)
-    ∙ ap (gate (leb (b .bound) largestBound)) (gate-both (clearTest b) _ _)
-    ∙ gate-both (leb (b .bound) largestBound) _ _
+bucket-any n row b ts g =
+    let low : Bool = leb (b .bound) largestBound in
+    let found : Bool = soundRows n (b .mark) (b .cols) .ok in
+    let held : Bool = allOf row (rowsIn n b) in
+    let k : Bool = ends (countOff any (rowsIn n b) ts) g in
+    ends-gate low ts (gate (clearTest b) ts (gate found ts (countOff row (rowsIn n b) ts))) g
+    ∙ ap (λ (x : Bool). low && x) (ends-gate (clearTest b) ts (gate found ts (countOff row (rowsIn n b) ts)) g
+    ∙ ap (λ (x : Bool). clearTest b && x) (ends-gate found ts (countOff row (rowsIn n b) ts) g ∙ ap (λ (x : Bool). found && x) (count-any row (rowsIn n b) ts g)
+    ∙ sym (and-assoc found held k))
+    ∙ sym (and-assoc (clearTest b) (found && held) k))
+    ∙ sym (and-assoc low (clearTest b && (found && held)) k)
 
-level-any : (n : ℕ) (row : ℕ → Bucket → Entry → Bool) (i : ℕ) (bs : List Bucket) (ts : List ℕ) → levelOff n row i bs ts ≡ gate (levelTest n row i bs) (countOff any (rowsFound n bs) ts)
+level-any : (n : ℕ) (row : ℕ → Bucket → Entry → Bool) (i : ℕ) (bs : List Bucket) (ts : List ℕ) (g : List ℕ → Bool)
+    → ends (levelOff n row i bs ts) g ≡ (levelTest n row i bs && ends (countOff any (rowsFound n bs) ts) g)
 unfolding rowsFound
-level-any n row i [] ts = refl
-level-any n row i (b ∷ bs) ts =
-    let f : List ℕ → Option (List ℕ) = countOff any (rowsIn n b) in
-    let g : List ℕ → Option (List ℕ) = countOff any (rowsFound n bs) in
-    ap₂ (λ (o : Option (List ℕ)) (k : List ℕ → Option (List ℕ)). next o k) (bucket-any n (row i b) b ts) (fun-ext (level-any n row (suc i) bs))
-    ∙ next-gate (bucketTest n (row i b) b) (f ts) (λ us. gate (levelTest n row (suc i) bs) (g us))
-    ∙ ap (gate (bucketTest n (row i b) b)) (gate-next (levelTest n row (suc i) bs) (f ts) g)
-    ∙ gate-both (bucketTest n (row i b) b) (levelTest n row (suc i) bs) _
-    ∙ ap (gate (levelTest n row i (b ∷ bs))) (sym (count-append (rowsIn n b) (rowsFound n bs) ts))
+level-any n row i [] ts g = refl
+level-any n row i (b ∷ bs) ts g =
+    let here : Bool = bucketTest n (row i b) b in
+    let others : Bool = levelTest n row (suc i) bs in
+    let k : List ℕ → Bool = λ us. ends (countOff any (rowsFound n bs) us) g in
+    ends-next (bucketOff n (row i b) b ts) (levelOff n row (suc i) bs) g
+    ∙ ap (ends (bucketOff n (row i b) b ts)) (fun-ext (λ us. level-any n row (suc i) bs us g))
+    ∙ bucket-any n (row i b) b ts (λ us. others && k us)
+    ∙ ap (λ (x : Bool). here && x) (ends-test others (countOff any (rowsIn n b) ts) k ∙ ap (λ (x : Bool). others && x) (sym (count-append (rowsIn n b) (rowsFound n bs) ts g)))
+    ∙ sym (and-assoc here others (ends (countOff any (rowsFound n (b ∷ bs)) ts) g))
 
 -- ---- nothing is left over exactly if each total is the number of its entries
 
@@ -245,16 +169,16 @@ module _ (m : ℕ) where
   counted-off (e ∷ es) ts h l =
       cases (ltb 0 (getD ts (e .plan) 0))
       (λ t.
-      ap (λ (o : Option (List ℕ)). noneLeft (next o (countOff any es))) (one-of t)
+      ap (λ (o : Counted). noneLeft (next o (countOff any es))) (one-of t)
       ∙ counted-off es (oneLess (e .plan) ts) (length-set ts (e .plan) _ ∙ h) (λ x n. l x (List·Memᴰ·tail n)) ∙ more-test e es ts h (ltb-true 0 _ t))
       (λ f.
       let z : getD ts (e .plan) 0 ≤ 0 = ltb-false 0 (getD ts (e .plan) 0) f in
-      ap (λ (o : Option (List ℕ)). noneLeft (next o (countOff any es))) (none-of-it f) ∙ sym (zero-test e es ts h (l e (List·Memᴰ·head refl)) (omega arith)))
+      ap (λ (o : Counted). noneLeft (next o (countOff any es))) (none-of-it f) ∙ sym (zero-test e es ts h (l e (List·Memᴰ·head refl)) (omega arith)))
     where
-      one-of : ltb 0 (getD ts (e .plan) 0) ≡ true → oneOff any e ts ≡ some (oneLess (e .plan) ts)
+      one-of : ltb 0 (getD ts (e .plan) 0) ≡ true → oneOff any e ts ≡ ended (oneLess (e .plan) ts)
       one-of = off-one any e ts refl
 
-      none-of-it : ltb 0 (getD ts (e .plan) 0) ≡ false → oneOff any e ts ≡ none
+      none-of-it : ltb 0 (getD ts (e .plan) 0) ≡ false → oneOff any e ts ≡ stopped ts
       none-of-it = off-zero any e ts refl
 
 -- ---- the whole test
@@ -334,18 +258,18 @@ module _ (t : List ℕ) where
   abbrev R2 : List Entry
   R2 = rowsFound rows (T .level2)
 
-  first-level : (ts : List ℕ) → levelLeft t false b1 header ts ≡ gate (levelTest rows (row1 rows solutions mixOf unmixOf T) 0 (T .level1)) (countOff any R1 ts)
+  first-level : (ts : List ℕ) (g : List ℕ → Bool) → ends (levelLeft t false b1 header ts) g ≡ (levelTest rows (row1 rows solutions mixOf unmixOf T) 0 (T .level1) && ends (countOff any R1 ts) g)
   unfolding tableFrom
-  first-level ts =
-      level-any rows (rowOf t false b1) 0 (T .level1) ts
-      ∙ ap (λ (x : Bool). gate x (countOff any R1 ts))
+  first-level ts g =
+      level-any rows (rowOf t false b1) 0 (T .level1) ts g
+      ∙ ap (λ (x : Bool). x && ends (countOff any R1 ts) g)
       (sym (λ j. levelTest rows (λ i b e. eqb (index mixOf (header-read rows solutions t .0 j) (e .word)) i && sym (and-true (ltb (thr mixOf (e .word)) (b .bound))) j) 0 (T .level1)))
 
-  second-level : (ts : List ℕ) → levelLeft t true b2 (bucketPlace rows solutions b1) ts ≡ gate (levelTest rows (row2 rows solutions mixOf unmixOf T) 0 (T .level2)) (countOff any R2 ts)
+  second-level : (ts : List ℕ) (g : List ℕ → Bool) → ends (levelLeft t true b2 (bucketPlace rows solutions b1) ts) g ≡ (levelTest rows (row2 rows solutions mixOf unmixOf T) 0 (T .level2) && ends (countOff any R2 ts) g)
   unfolding tableFrom
-  second-level ts =
-      level-any rows (rowOf t true b2) 0 (T .level2) ts
-      ∙ ap (λ (x : Bool). gate x (countOff any R2 ts))
+  second-level ts g =
+      level-any rows (rowOf t true b2) 0 (T .level2) ts g
+      ∙ ap (λ (x : Bool). x && ends (countOff any R2 ts) g)
       (sym (λ j. levelTest rows (λ i b e. eqb (index mixOf (header-read rows solutions t .1 j) (e .word)) i && (ltb (thr mixOf (e .word)) (b .bound) && passes t true (e .word))) 0 (T .level2)))
 
   all-rows : occupied (T .level1) + (occupied (T .level2) + length (T .base)) ≡ occupied (levelFrom rows solutions (b1 + b2) (drop header t)) + getD t baseCountAt 0
@@ -355,23 +279,44 @@ module _ (t : List ℕ) where
       omega (arith, header-read rows solutions t .2)
 
   -- what is left once both levels and the base list are counted off
-  abbrev left : Option (List ℕ)
+  abbrev left : Counted
   left = next (baseLeft t (T .totals)) (λ us. next (levelLeft t false b1 header us) (levelLeft t true b2 (bucketPlace rows solutions b1)))
 
-  -- the tests first, then all entries
-  module _ (c d e f z : Bool) (P Q R : List Entry) (ts : List ℕ) where
-    tests-first : next (gate f (gate z (gate e (countOff any P ts)))) (λ us. next (gate c (countOff any Q us)) (λ vs. gate d (countOff any R vs)))
-        ≡ gate f (gate z (gate e (gate c (gate d (countOff any (P ++ (Q ++ R)) ts)))))
-    tests-first =
-        ap (next (gate f (gate z (gate e (countOff any P ts))))) (fun-ext (λ us. next-gate c (countOff any Q us) (λ vs. gate d (countOff any R vs))
-        ∙ ap (gate c) (gate-next d (countOff any Q us) (countOff any R) ∙ ap (gate d) (sym (count-append Q R us)))))
-        ∙ next-gate f _ _ ∙ ap (gate f) (next-gate z _ _ ∙ ap (gate z) (next-gate e _ _ ∙ ap (gate e)
-        (gate-next c (countOff any P ts) (λ us. gate d (countOff any (Q ++ R) us)) ∙ ap (gate c) (gate-next d (countOff any P ts) (countOff any (Q ++ R)) ∙ ap (gate d) (sym (count-append P (Q ++ R) ts))))))
+  -- the tests of both levels, then their rows
+  levels-first : (us : List ℕ) (g : List ℕ → Bool)
+      → ends (next (levelLeft t false b1 header us) (levelLeft t true b2 (bucketPlace rows solutions b1))) g
+      ≡ (levelTest rows (row1 rows solutions mixOf unmixOf T) 0 (T .level1) && (levelTest rows (row2 rows solutions mixOf unmixOf T) 0 (T .level2) && ends (countOff any (R1 ++ R2) us) g))
+  levels-first us g =
+      let c : Bool = levelTest rows (row1 rows solutions mixOf unmixOf T) 0 (T .level1) in
+      let d : Bool = levelTest rows (row2 rows solutions mixOf unmixOf T) 0 (T .level2) in
+      let k : List ℕ → Bool = λ vs. ends (countOff any R2 vs) g in
+      ends-next (levelLeft t false b1 header us) (levelLeft t true b2 (bucketPlace rows solutions b1)) g
+      ∙ ap (ends (levelLeft t false b1 header us)) (fun-ext (λ vs. second-level vs g))
+      ∙ first-level us (λ vs. d && k vs)
+      ∙ ap (λ (x : Bool). c && x) (ends-test d (countOff any R1 us) k ∙ ap (λ (x : Bool). d && x) (sym (count-append R1 R2 us g)))
 
-    tests-none : (o : Option (List ℕ)) → noneLeft (gate f (gate z (gate e (gate c (gate d o))))) ≡ (f && (z && (e && (c && (d && noneLeft o)))))
-    tests-none o =
-        none-gate f _ ∙ ap (λ (x : Bool). f && x) (none-gate z _ ∙ ap (λ (x : Bool). z && x) (none-gate e _ ∙ ap (λ (x : Bool). e && x)
-        (none-gate c _ ∙ ap (λ (x : Bool). c && x) (none-gate d o))))
+  -- all tests, then all entries
+  tests-first : (g : List ℕ → Bool)
+      → ends left g ≡ (ascends (T .base) && (allOf (λ x. eqb x 0) (unusedIn rows solutions t) && (allOf (pairTest t) (T .base)
+      && (levelTest rows (row1 rows solutions mixOf unmixOf T) 0 (T .level1) && (levelTest rows (row2 rows solutions mixOf unmixOf T) 0 (T .level2) && ends (countOff any (T .base ++ (R1 ++ R2)) (T .totals)) g)))))
+  unfolding tableFrom
+  tests-first g =
+      let ts : List ℕ = T .totals in
+      let c : Bool = levelTest rows (row1 rows solutions mixOf unmixOf T) 0 (T .level1) in
+      let d : Bool = levelTest rows (row2 rows solutions mixOf unmixOf T) 0 (T .level2) in
+      let e : Bool = allOf (pairTest t) (T .base) in
+      let f : Bool = ascends (T .base) in
+      let z : Bool = allOf (λ x. eqb x 0) (unusedIn rows solutions t) in
+      let k : List ℕ → Bool = λ us. ends (countOff any (R1 ++ R2) us) g in
+      let h : List ℕ → Bool = λ us. c && (d && k us) in
+      ends-next (baseLeft t ts) (λ us. next (levelLeft t false b1 header us) (levelLeft t true b2 (bucketPlace rows solutions b1))) g
+      ∙ ap (ends (baseLeft t ts)) (fun-ext (λ us. levels-first us g))
+      ∙ ends-gate f ts (gate z ts (countOff (pairTest t) (T .base) ts)) h
+      ∙ ap (λ (x : Bool). f && x) (ends-gate z ts (countOff (pairTest t) (T .base) ts) h
+      ∙ ap (λ (x : Bool). z && x) (count-any (pairTest t) (T .base) ts h
+      ∙ ap (λ (x : Bool). e && x) (ends-test c (countOff any (T .base) ts) (λ us. d && k us)
+      ∙ ap (λ (x : Bool). c && x) (ends-test d (countOff any (T .base) ts) k
+      ∙ ap (λ (x : Bool). d && x) (sym (count-append (T .base) (R1 ++ R2) ts g))))))
 
   module _ (k : shaped t ≡ true) where
     totals-many : length (T .totals) ≡ totalNumbers
@@ -413,119 +358,51 @@ module _ (t : List ℕ) where
         ∙ ap (λ (x : ℕ). leb (getD t baseCountAt 0) baseLimit && (eqb x 0 && eqb (getD t liveCountAt 0) (occupied (levelFrom rows solutions (b1 + b2) (drop header t)) + getD t baseCountAt 0))) (total-read rows solutions t deskPlan (omega arith)))
         (ap (λ (x : Bool). f && (z && x)) (and-under e (λ h. ap (λ (x : Bool). c && (d && x))
         (sym (counted-off totalNumbers es (T .totals) totals-many (plans-fit h) ∙ same-test totalNumbers (T .totals) es _ moved))))
-        ∙ sym (tests-none c d e f z (T .base) R1 R2 (T .totals) (countOff any es (T .totals)))
-        ∙ ap noneLeft (sym (tests-first c d e f z (T .base) R1 R2 (T .totals))
-        ∙ ap₂ (λ (o : Option (List ℕ)) (g : List ℕ → Option (List ℕ)). next (gate f (gate z o)) g) (sym (count-any (pairTest t) (T .base) (T .totals)))
-        (fun-ext (λ us. ap₂ (λ (o : Option (List ℕ)) (g : List ℕ → Option (List ℕ)). next o g) (sym (first-level us)) (fun-ext (λ vs. sym (second-level vs)))))))
+        ∙ sym (tests-first (allOf (λ x. eqb x 0))))
 
     -- what the code finds, step by step
     module _ (h : countsSound t ≡ true) (ts : List ℕ) (z : ts ≡ take totalNumbers (drop totalsAt t)) where
       whole-left : sound t ≡ noneLeft left
       whole-left = whole ∙ holding h refl
 
-      begun : {o : Option (List ℕ)} → baseLeft t ts ≡ o → left ≡ next o (λ us. next (levelLeft t false b1 header us) (levelLeft t true b2 (bucketPlace rows solutions b1)))
+      begun : {o : Counted} → baseLeft t ts ≡ o → left ≡ next o (λ us. next (levelLeft t false b1 header us) (levelLeft t true b2 (bucketPlace rows solutions b1)))
       unfolding tableFrom
       begun e = ap (λ (x : List ℕ). next (baseLeft t x) (λ us. next (levelLeft t false b1 header us) (levelLeft t true b2 (bucketPlace rows solutions b1)))) (sym z)
-          ∙ ap (λ (o : Option (List ℕ)). next o (λ us. next (levelLeft t false b1 header us) (levelLeft t true b2 (bucketPlace rows solutions b1)))) e
+          ∙ ap (λ (o : Counted). next o (λ us. next (levelLeft t false b1 header us) (levelLeft t true b2 (bucketPlace rows solutions b1)))) e
 
       pub base-fails : (d : Bool) (us : List ℕ) → Leaves (baseLeft t ts) d us → d ≡ false → false ≡ sound t
-      base-fails d us l f = sym (whole-left ∙ ap noneLeft (begun (none-of (baseLeft t ts) us l f)))
+      base-fails d us l f = sym (whole-left ∙ ap noneLeft (begun (left-is (baseLeft t ts) l f)))
 
       module _ (d : Bool) (us : List ℕ) (l : Leaves (baseLeft t ts) d us) (on : d ≡ true) where
         past-base : left ≡ next (levelLeft t false b1 header us) (levelLeft t true b2 (bucketPlace rows solutions b1))
-        past-base = begun (some-of (baseLeft t ts) l on)
+        past-base = begun (left-is (baseLeft t ts) l on)
 
         pub first-fails : (d1 : Bool) (vs : List ℕ) → Leaves (levelLeft t false b1 header us) d1 vs → d1 ≡ false → false ≡ sound t
         first-fails d1 vs l1 f =
-            sym (whole-left ∙ ap noneLeft (past-base ∙ ap (λ (o : Option (List ℕ)). next o (levelLeft t true b2 (bucketPlace rows solutions b1))) (none-of (levelLeft t false b1 header us) vs l1 f)))
+            sym (whole-left ∙ ap noneLeft (past-base ∙ ap (λ (o : Counted). next o (levelLeft t true b2 (bucketPlace rows solutions b1))) (left-is (levelLeft t false b1 header us) l1 f)))
 
         module _ (d1 : Bool) (vs : List ℕ) (l1 : Leaves (levelLeft t false b1 header us) d1 vs) (on1 : d1 ≡ true) (p : ℕ) (e : p ≡ bucketPlace rows solutions b1) where
           past-first : left ≡ levelLeft t true b2 p vs
           past-first =
-              past-base ∙ ap (λ (o : Option (List ℕ)). next o (levelLeft t true b2 (bucketPlace rows solutions b1))) (some-of (levelLeft t false b1 header us) l1 on1)
+              past-base ∙ ap (λ (o : Counted). next o (levelLeft t true b2 (bucketPlace rows solutions b1))) (left-is (levelLeft t false b1 header us) l1 on1)
               ∙ ap (λ (q : ℕ). levelLeft t true b2 q vs) (sym e)
 
           pub second-fails : (d2 : Bool) (ws : List ℕ) → Leaves (levelLeft t true b2 p vs) d2 ws → d2 ≡ false → false ≡ sound t
-          second-fails d2 ws l2 f = sym (whole-left ∙ ap noneLeft (past-first ∙ none-of (levelLeft t true b2 p vs) ws l2 f))
+          second-fails d2 ws l2 f = sym (whole-left ∙ ap noneLeft (past-first ∙ left-is (levelLeft t true b2 p vs) l2 f))
 
           pub all-counted : (d2 : Bool) (ws : List ℕ) → Leaves (levelLeft t true b2 p vs) d2 ws → d2 ≡ true → allOf (λ x. eqb x 0) ws ≡ sound t
-          all-counted d2 ws l2 on2 = sym (whole-left ∙ ap noneLeft (past-first ∙ some-of (levelLeft t true b2 p vs) l2 on2))
+          all-counted d2 ws l2 on2 = sym (whole-left ∙ ap noneLeft (past-first ∙ left-is (levelLeft t true b2 p vs) l2 on2))
 
--- ---- the rows that a mark names
-
--- a mark is below the power of two of its length in binary
-pub below-length : (n d : ℕ) → d < 2 ^ n → d < 2 ^ (n - leadingZeros n d)
-below-length n d h =
-    let m = leading-length n d h in
-    let e : m .0 ≡ n - leadingZeros n d = omega (arith, m .1) in
-    subst (λ (k : ℕ). d < 2 ^ k) e (m .2)
-
--- the plan of the row of the lowest bit of d, of the plans of the first m rows, where d names none but these
-pub plan-at : (b : Bucket) (n m d : ℕ) (rs : List ℕ) → length rs ≡ n → d < 2 ^ n → d < 2 ^ m → (d ≡ 0 → ⊥)
-    → let a : ℕ = trailingZeros n d in getD (products m (b .sols) rs) a 0 ≡ lookup b (getD rs a 0)
-plan-at b n m d rs h hd hm ne =
-    let l = tz-lt n d hd ne in
-    products-at m (trailingZeros n d) (b .sols) rs (bit-set-lt m (trailingZeros n d) d hm (tz-bit n d l)) (omega arith)
-
-module _ (b : Bucket) (p : Entry → Bool) where
-  -- the row of the lowest bit, then the others
-  module _ (n d : ℕ) (rs ts : List ℕ) (h : length rs ≡ n) (hd : d < 2 ^ n) (ne : d ≡ 0 → ⊥) {x : Option (List ℕ)} (all : countOff p (listed b (chosen d rs)) ts ≡ x) where
-    abbrev low : Entry
-    low = let v : ℕ = getD rs (trailingZeros n d) 0 in record { word = v; plan = lookup b v }
-
-    abbrev others : List ℕ → Option (List ℕ)
-    others = countOff p (listed b (chosen (bitAnd d (d - 1)) rs))
-
-    rows-next : countOff p (listed b (chosen d rs)) ts ≡ next (oneOff p low ts) others
-    rows-next = ap (λ (l : List ℕ). countOff p (listed b l) ts) (chosen-low n d rs h hd ne)
-
-    pub rows-on : {done : Bool} (us : List ℕ) → Leaves (oneOff p low ts) done us → done ≡ true → others us ≡ x
-    rows-on us = count-on (oneOff p low ts) others rows-next all
-
-    pub rows-out : {done : Bool} (us vs : List ℕ) → Leaves (oneOff p low ts) done us → done ≡ false → Leaves x false vs
-    rows-out us vs = count-out (oneOff p low ts) others us vs rows-next all
-
-  pub rows-end : (rs ts : List ℕ) → countOff p (listed b (chosen 0 rs)) ts ≡ some ts
-  rows-end rs ts = ap (λ (l : List ℕ). countOff p (listed b l) ts) (chosen-none rs)
-
--- ---- the buckets of a level, from number i of m on
+-- ---- the occupied rows of the buckets of a level, from number i of m on
 
 module _ (n r : ℕ) (xs : List ℕ) where
-  level-next : (at m i : ℕ) → i < m → levelFrom n r (m - i) (drop at xs) ≡ bucketFrom n r (drop at xs) ∷ levelFrom n r (m - (i + 1)) (drop (at + bucketWords n r) xs)
-  level-next at m i h =
-      let e : m - i ≡ suc (m - (i + 1)) = omega arith in
-      ap (λ (k : ℕ). levelFrom n r k (drop at xs)) e
-      ∙ ap (λ (l : List ℕ). bucketFrom n r (drop at xs) ∷ levelFrom n r (m - (i + 1)) l) (drop-drop (bucketWords n r) at xs)
-
-  level-end : (at m i : ℕ) → m ≤ i → levelFrom n r (m - i) (drop at xs) ≡ []
-  level-end at m i h = let e : m - i ≡ 0 = omega arith in ap (λ (k : ℕ). levelFrom n r k (drop at xs)) e
-
-  module _ (row : ℕ → Bucket → Entry → Bool) (at m i : ℕ) (ts : List ℕ) (h : i < m) {x : Option (List ℕ)} (all : levelOff n row i (levelFrom n r (m - i) (drop at xs)) ts ≡ x) where
-    abbrev here : Option (List ℕ)
-    here = bucketOff n (row i (bucketFrom n r (drop at xs))) (bucketFrom n r (drop at xs)) ts
-
-    abbrev past : List ℕ → Option (List ℕ)
-    past = levelOff n row (i + 1) (levelFrom n r (m - (i + 1)) (drop (at + bucketWords n r) xs))
-
-    off-next : levelOff n row i (levelFrom n r (m - i) (drop at xs)) ts ≡ next here past
-    off-next = rw (level-next at m i h, add-one i)
-
-    pub level-on : {done : Bool} (us : List ℕ) → Leaves here done us → done ≡ true → past us ≡ x
-    level-on us = count-on here past off-next all
-
-    pub level-out : {done : Bool} (us vs : List ℕ) → Leaves here done us → done ≡ false → Leaves x false vs
-    level-out us vs = count-out here past us vs off-next all
-
-  pub off-end : (row : ℕ → Bucket → Entry → Bool) (at m i : ℕ) (ts : List ℕ) → m ≤ i → levelOff n row i (levelFrom n r (m - i) (drop at xs)) ts ≡ some ts
-  off-end row at m i ts h = ap (λ (bs : List Bucket). levelOff n row i bs ts) (level-end at m i h)
-
   pub occupied-next : (at m i : ℕ) → i < m
       → occupied (levelFrom n r (m - i) (drop at xs)) ≡ ones (getD xs (at + n) 0) + occupied (levelFrom n r (m - (i + 1)) (drop (at + bucketWords n r) xs))
   unfolding bucketFrom
-  occupied-next at m i h = ap occupied (level-next at m i h) ∙ ap (λ (x : ℕ). ones x + occupied (levelFrom n r (m - (i + 1)) (drop (at + bucketWords n r) xs))) (getD-drop at xs n 0)
+  occupied-next at m i h = ap occupied (level-next n r xs at m i h) ∙ ap (λ (x : ℕ). ones x + occupied (levelFrom n r (m - (i + 1)) (drop (at + bucketWords n r) xs))) (getD-drop at xs n 0)
 
   pub occupied-end : (at m i : ℕ) → m ≤ i → occupied (levelFrom n r (m - i) (drop at xs)) ≡ 0
-  occupied-end at m i h = ap occupied (level-end at m i h)
+  occupied-end at m i h = ap occupied (level-end n r xs at m i h)
 
 -- ---- pairs
 
@@ -537,11 +414,11 @@ module _ (xs : List ℕ) where
       ap₂ {C = List Entry} _∷_ (ap₂ {C = Entry} (λ u v. record { word = u; plan = v }) (getD-drop at xs 0 0 ∙ ap (λ (j : ℕ). getD xs j 0) (add-zero at)) (getD-drop at xs 1 0))
       (ap₂ pairsFrom f (drop-drop 2 at xs))
 
-  module _ (p : Entry → Bool) (at k : ℕ) (ts : List ℕ) (h : 0 < k) {x : Option (List ℕ)} (all : countOff p (pairsFrom k (drop at xs)) ts ≡ x) where
-    abbrev pair : Option (List ℕ)
+  module _ (p : Entry → Bool) (at k : ℕ) (ts : List ℕ) (h : 0 < k) {x : Counted} (all : countOff p (pairsFrom k (drop at xs)) ts ≡ x) where
+    abbrev pair : Counted
     pair = oneOff p (record { word = getD xs at 0; plan = getD xs (at + 1) 0 }) ts
 
-    abbrev later : List ℕ → Option (List ℕ)
+    abbrev later : List ℕ → Counted
     later = countOff p (pairsFrom (k - 1) (drop (at + 2) xs))
 
     next-pair : countOff p (pairsFrom k (drop at xs)) ts ≡ next pair later
@@ -550,8 +427,8 @@ module _ (xs : List ℕ) where
     pub pairs-on : {done : Bool} (us : List ℕ) → Leaves pair done us → done ≡ true → later us ≡ x
     pairs-on us = count-on pair later next-pair all
 
-    pub pairs-out : {done : Bool} (us vs : List ℕ) → Leaves pair done us → done ≡ false → Leaves x false vs
-    pairs-out us vs = count-out pair later us vs next-pair all
+    pub pairs-out : {done : Bool} (us : List ℕ) → Leaves pair done us → done ≡ false → Leaves x false us
+    pairs-out us = count-out pair later us next-pair all
 
   pub ascends-next : (at k : ℕ) → 1 < k → ascends (pairsFrom k (drop at xs)) ≡ (ltb (getD xs at 0) (getD xs (at + 2) 0) && ascends (pairsFrom (k - 1) (drop (at + 2) xs)))
   ascends-next at k h =
@@ -562,13 +439,7 @@ module _ (xs : List ℕ) where
   ascends-end at (suc zero) h = refl
   ascends-end at (suc (suc k)) h = absurd (omega arith)
 
-  -- ---- numbers that all pass a test
-
-  pub all-next : (p : ℕ → Bool) (at : ℕ) → at < length xs → allOf p (drop at xs) ≡ (p (getD xs at 0) && allOf p (drop (at + 1) xs))
-  all-next p at h = rw (add-one, drop-cons xs at 0 h)
-
-  pub all-end : (p : ℕ → Bool) (at : ℕ) → length xs ≤ at → allOf p (drop at xs) ≡ true
-  all-end p at h = ap (allOf p) (drop-of-length-le xs h)
+  -- ---- numbers that are all 0
 
   -- the bits of the numbers so far, seen, and the numbers from a place on
   pub seen-next : (seen at : ℕ) → at < length xs
@@ -576,7 +447,7 @@ module _ (xs : List ℕ) where
   seen-next seen at h =
       ap (λ (c : Bool). c && allOf (λ x. eqb x 0) (drop (at + 1) xs)) (or-none seen (getD xs at 0))
       ∙ and-assoc (eqb seen 0) (eqb (getD xs at 0) 0) (allOf (λ x. eqb x 0) (drop (at + 1) xs))
-      ∙ ap (λ (c : Bool). eqb seen 0 && c) (sym (all-next (λ x. eqb x 0) at h))
+      ∙ ap (λ (c : Bool). eqb seen 0 && c) (sym (all-next xs (λ x. eqb x 0) at h))
 
   pub seen-end : (seen at : ℕ) → length xs ≤ at → (eqb seen 0 && allOf (λ x. eqb x 0) (drop at xs)) ≡ eqb seen 0
-  seen-end seen at h = ap (λ (c : Bool). eqb seen 0 && c) (all-end (λ x. eqb x 0) at h) ∙ and-true (eqb seen 0)
+  seen-end seen at h = ap (λ (c : Bool). eqb seen 0 && c) (all-end xs (λ x. eqb x 0) at h) ∙ and-true (eqb seen 0)

@@ -1,30 +1,32 @@
--- Words shuffled in pairs: a turn of the loop; where each bit of a shuffled word comes from; after six steps bit k of word a is bit a of word k.
+-- Words shuffled in pairs: a turn of the loop; where each bit of a shuffled word comes from; and that m steps are the transpose of 2 ^ m words, by induction.
 -- Assumes nothing.
 use mathlib.Core.Path.{_≡_, refl, sym, ap, ap₂, _∙_, subst}
-use mathlib.Core.Bool.{Bool, _&&_, cond}
-use mathlib.Core.List.{List, [], _∷_}
-use Prim.Native.Nat.{ℕ, zero, suc, _+_, _-_, _*_, _/_, _%_, _^_, _≤_, _<_, min}
-use native.Mathlib.Nat.{lt-of-le-of-lt, mul-le-mul-right, mod-eq-of-lt}
-use native.Mathlib.Decide.{ℕ-discrete, decLt}
+use mathlib.Core.Bool.{Bool}
+use mathlib.Core.List.{List}
+use Prim.Native.Nat.{ℕ, zero, suc, _+_, _-_, _*_, _/_, _%_, _^_, _<_, min}
+use native.Mathlib.Nat.{mod-lt, mod-add-div, div-eq-of-lt, add-mul-div-left, div-lt-iff-lt-mul, pow-suc, mul-comm, mul-one, mul-zero, one-mul, zero-mul, add-zero, zero-add}
+use native.Mathlib.Decide.{ℕ-discrete}
 use native.Mathlib.Omega.{arith}
-use lib.Bits.{bitXor, bitAnd, differ, and-le-r, and-shifted}
-use lib.Pow.{pow-lt, shl-shr, shr-shr}
-use lib.Dec.{T, eqb, ltb, eqb→eq, ltb→lt, lit<}
+use lib.Arith.{lt-one, digits-lt}
+use lib.Bits.{bitAnd, differ, and-shifted, xor-shifted}
+use lib.Pow.{pow-lt, pow-pos, shl-shr, shr-shr, split}
+use lib.Dec.{T, eqb, eqb→eq, lit<}
 use lib.ListN.{length, getD, set, length-set}
 use lib.Seq.{getD-set-same, getD-set-other}
-use borrow.Author.Tests.{lt-ltb, le-ltb}
-use Rattle.lists.proofs.Tests.{and-l, and-r}
 use Rattle.gf2.specs.Vectors.{bit, outside}
-use Rattle.gf2.proofs.Bit.{every2, at2, low2, bit-zero, bit-lt, bit-and, bit-xor, bit-pow-same}
+use Rattle.gf2.proofs.Bit.{two, differ-zero, bit-zero, bit-lt, bit-and, bit-xor, bit-pow-same}
 use Rattle.gf2.proofs.Lowest.{bit-outside}
-use Rattle.transpose.specs.Shuffle.{evenOf, oddOf, Shuffled}
+use Rattle.transpose.specs.Shuffle.{evenOf, oddOf, ShuffledAt, Shuffled}
+use Rattle.transpose.specs.Transposed.{transposed}
 use Rattle.transpose.proofs.Below.{every, every-at}
+use Rattle.transpose.proofs.Transposed.{transposed-is}
 
 -- ---- a turn of the loop
 
-pub shuffle-step : (n h m : ℕ) (t u : List ℕ) (x y : ℕ) → 2 * n + 1 < length u → x ≡ evenOf h m (getD t n 0) (getD t (n + 32) 0) → y ≡ oddOf h m (getD t n 0) (getD t (n + 32) 0)
-    → Shuffled n h m t u → Shuffled (n + 1) h m t (set (set u (2 * n) x) (2 * n + 1) y)
-shuffle-step n h m t u x y hl ex ey s i hi = go (ℕ-discrete i n)
+pub shuffle-step : (half n h m : ℕ) (t u : List ℕ) (x y : ℕ) → 2 * n + 1 < length u → x ≡ evenOf (2 * half) h m (getD t n 0) (getD t (n + half) 0)
+    → y ≡ oddOf h m (getD t n 0) (getD t (n + half) 0) → ((i : ℕ) → i < n → ShuffledAt half h m t u i)
+    → (i : ℕ) → i < n + 1 → ShuffledAt half h m t (set (set u (2 * n) x) (2 * n + 1) y) i
+shuffle-step half n h m t u x y hl ex ey s i hi = go (ℕ-discrete i n)
   where
     v : List ℕ
     v = set u (2 * n) x
@@ -32,12 +34,9 @@ shuffle-step n h m t u x y hl ex ey s i hi = go (ℕ-discrete i n)
     hv : 2 * n + 1 < length v
     hv = subst (λ (l : ℕ). 2 * n + 1 < l) (sym (length-set u (2 * n) x)) hl
 
-    Pair : ℕ → Type 0
-    Pair i = (getD (set v (2 * n + 1) y) (2 * i) 0 ≡ evenOf h m (getD t i 0) (getD t (i + 32) 0)) × (getD (set v (2 * n + 1) y) (2 * i + 1) 0 ≡ oddOf h m (getD t i 0) (getD t (i + 32) 0))
-
-    go : Dec (i ≡ n) → Pair i
+    go : Dec (i ≡ n) → ShuffledAt half h m t (set v (2 * n + 1) y) i
     go (yes e) =
-        subst Pair (sym e) (
+        subst (ShuffledAt half h m t (set v (2 * n + 1) y)) (sym e) (
           getD-set-other v (2 * n + 1) (2 * n) y 0 (λ q. omega arith) ∙ getD-set-same u (2 * n) x 0 (omega arith) ∙ ex,
           getD-set-same v (2 * n + 1) y 0 hv ∙ ey,
         )
@@ -51,139 +50,155 @@ shuffle-step n h m t u x y hl ex ey s i hi = go (ℕ-discrete i n)
 bit-down : (h k x : ℕ) → bit k (x / 2 ^ h) ≡ bit (h + k) x
 bit-down h k x = ap (λ (y : ℕ). y % 2) (shr-shr x h k)
 
-bit-up-high : (h k z : ℕ) → h ≤ k → bit k (z * 2 ^ h) ≡ bit (k - h) z
-bit-up-high h k z l =
-    let e : k ≡ h + (k - h) = omega arith in
-    ap (λ (j : ℕ). bit j (z * 2 ^ h)) e ∙ sym (bit-down h (k - h) (z * 2 ^ h)) ∙ ap (bit (k - h)) (shl-shr z h)
+bit-up : (h k z : ℕ) → bit (h + k) (z * 2 ^ h) ≡ bit k z
+bit-up h k z = sym (bit-down h k (z * 2 ^ h)) ∙ ap (bit k) (shl-shr z h)
 
 bit-up-low : (h k z : ℕ) → k < h → bit k (z * 2 ^ h) ≡ 0
 bit-up-low h k z l =
     let e : min (bit k (z * 2 ^ h)) (bit k (2 ^ k)) ≡ 0 = sym (bit-and k (z * 2 ^ h) (2 ^ k)) ∙ ap (bit k) (and-shifted z h (2 ^ k) (pow-lt l)) ∙ bit-zero k in
     omega (arith, bit-pow-same k)
 
--- ---- where bit k of a shuffled word comes from: d is 1 where the block is odd, e where the word is
+-- the bits below the width are kept
+bit-mod : (w k x : ℕ) → k < w → bit k (x % 2 ^ w) ≡ bit k x
+bit-mod w k x l =
+    sym (ap (bit k) (sym (split x w) ∙ sym (xor-shifted (x / 2 ^ w) w (x % 2 ^ w) (mod-lt x (pow-pos w)))) ∙ bit-xor k (x / 2 ^ w * 2 ^ w) (x % 2 ^ w)
+    ∙ ap (λ (a : ℕ). differ a (bit k (x % 2 ^ w))) (bit-up-low w k (x / 2 ^ w) l))
 
--- a, or b where d is set
-abbrev either : ℕ → ℕ → ℕ → ℕ
-either zero a b = a
-either (suc d) a b = b
+-- ---- where the bits of a pair of shuffled words come from
 
--- its place in the word that it comes from
+-- bit r of block d, 0 or 1, of pair p of blocks of h bits
 abbrev place : ℕ → ℕ → ℕ → ℕ → ℕ
-place d zero h k = either d k (k - h)
-place d (suc e) h k = either d (h + k) k
+place h r p d = r + h * (d + 2 * p)
 
--- each bit of u comes from its place in t: d was the highest digit of the word's number, and e the digit of the bit's place
-abbrev Stage : ℕ → List ℕ → List ℕ → Type 0
-Stage h t u = (b k : ℕ) → b < 64 → k < 64 → bit k (getD u b 0) ≡ bit (place (k / h % 2) (b % 2) h k) (getD t (either (k / h % 2) (b / 2) (b / 2 + 32)) 0)
+place-digit : (h r p d : ℕ) → r < h → d < 2 → place h r p d / h % 2 ≡ d
+place-digit h r p d hr hd =
+    let z : 0 < h = omega arith in
+    ap (λ (n : ℕ). n % 2) (add-mul-div-left r (d + 2 * p) z ∙ ap (λ (n : ℕ). n + (d + 2 * p)) (div-eq-of-lt hr)) ∙ omega arith
+
+-- bit k of the mask is that of an even block
+unfoldable pub maskTest : ℕ → ℕ → ℕ → Bool
+maskTest h m k = eqb (bit k m) (1 - k / h % 2)
+
+even-bit : (w h m x y k : ℕ) → k < w → bit k (evenOf w h m x y) ≡ differ (min (bit k x) (bit k m)) (bit k (bitAnd y m * 2 ^ h))
+unfolding evenOf
+even-bit w h m x y k l = bit-xor k (bitAnd x m) ((bitAnd y m * 2 ^ h) % 2 ^ w) ∙ ap₂ differ (bit-and k x m) (bit-mod w k (bitAnd y m * 2 ^ h) l)
+
+odd-bit : (h m x y k : ℕ) → bit k (oddOf h m x y) ≡ differ (min (bit (h + k) x) (bit k m)) (bit k y - bit k m)
+unfolding oddOf
+odd-bit h m x y k =
+    bit-xor k (bitAnd (x / 2 ^ h) m) (outside y m)
+    ∙ ap₂ differ (bit-and k (x / 2 ^ h) m ∙ ap (λ (a : ℕ). min a (bit k m)) (bit-down h k x)) (bit-outside k y m)
 
 -- the XOR of two bits of which one is masked away is the other
-picks : T (every2 (λ d. every2 (λ a. every2 (λ b. eqb (differ (min a (1 - d)) (min b d)) (either d a b) && eqb (differ (min a (1 - d)) (b - (1 - d))) (either d a b)))))
-unfolding every2
-picks = tt
+mask-on : (a b m : ℕ) → a < 2 → m ≡ 1 → b ≡ 0 → differ (min a m) b ≡ a
+mask-on a b m ha hm hb = let e : min a m ≡ a = omega arith in ap₂ differ e hb ∙ differ-zero a
 
-pick : (d a b : ℕ) → d < 2 → a < 2 → b < 2 → (differ (min a (1 - d)) (min b d) ≡ either d a b) × (differ (min a (1 - d)) (b - (1 - d)) ≡ either d a b)
-pick d a b hd ha hb =
-    let w = at2 _ (at2 _ (at2 _ picks d hd) a ha) b hb in
-    (eqb→eq _ _ (and-l (eqb (differ (min a (1 - d)) (min b d)) (either d a b)) _ w), eqb→eq _ _ (and-r (eqb (differ (min a (1 - d)) (min b d)) (either d a b)) _ w))
+mask-off : (a b m : ℕ) → m ≡ 0 → differ (min a m) b ≡ b
+mask-off a b m hm = let e : min a m ≡ 0 = omega arith in ap (λ (x : ℕ). differ x b) e
 
--- the mask has bit k where its block is even, and bit k - h where it is odd
-maskTest : ℕ → ℕ → ℕ → Bool
-maskTest h m k = eqb (bit k m) (1 - k / h % 2) && eqb (cond (ltb k h) 0 (bit (k - h) m)) (k / h % 2)
-
-module _ (h m : ℕ) (hm : m * 2 ^ h < 2 ^ 64) (mt : T (every 64 (maskTest h m))) (t u : List ℕ) (s : Shuffled 32 h m t u) where
-  at-mask : (k : ℕ) → k < 64 → (bit k m ≡ 1 - k / h % 2) × (cond (ltb k h) 0 (bit (k - h) m) ≡ k / h % 2)
+-- the blocks of the even word and of the odd one, in words of w bits
+module _ (w h m : ℕ) (mt : T (every w (maskTest h m))) (x y r : ℕ) (hr : r < h) where
+  at-mask : (p d : ℕ) → d < 2 → place h r p d < w → bit (place h r p d) m ≡ 1 - d
   unfolding maskTest
-  at-mask k l =
-      let w = every-at 64 (maskTest h m) mt k l in
-      (eqb→eq _ _ (and-l (eqb (bit k m) (1 - k / h % 2)) _ w), eqb→eq _ _ (and-r (eqb (bit k m) (1 - k / h % 2)) _ w))
+  at-mask p d hd l = eqb→eq _ _ (every-at w (maskTest h m) mt (place h r p d) l) ∙ ap (λ (n : ℕ). 1 - n) (place-digit h r p d hr hd)
 
-  up : (k y : ℕ) → k < 64 → bit k ((bitAnd y m * 2 ^ h) % 2 ^ 64) ≡ min (bit (k - h) y) (k / h % 2)
-  up k y l = ap (bit k) (mod-eq-of-lt (lt-of-le-of-lt (mul-le-mul-right (2 ^ h) (and-le-r y m)) hm)) ∙ go (decLt k h)
-    where
-      go : Dec (k < h) → bit k (bitAnd y m * 2 ^ h) ≡ min (bit (k - h) y) (k / h % 2)
-      go (yes a) =
-          let e : 0 ≡ k / h % 2 = subst (λ (b : Bool). cond b 0 (bit (k - h) m) ≡ k / h % 2) (lt-ltb k h a) (at-mask k l .1) in
-          bit-up-low h k (bitAnd y m) a ∙ omega arith
-      go (no a) =
-          let e : bit (k - h) m ≡ k / h % 2 = subst (λ (b : Bool). cond b 0 (bit (k - h) m) ≡ k / h % 2) (le-ltb k h (omega arith)) (at-mask k l .1) in
-          bit-up-high h k (bitAnd y m) (omega arith) ∙ bit-and (k - h) y m ∙ ap (min (bit (k - h) y)) e
+  shifted : (k : ℕ) → bit (h + k) (bitAnd y m * 2 ^ h) ≡ min (bit k y) (bit k m)
+  shifted k = bit-up h k (bitAnd y m) ∙ bit-and k y m
 
-  even-bit : (k x y : ℕ) → k < 64 → bit k (evenOf h m x y) ≡ either (k / h % 2) (bit k x) (bit (k - h) y)
-  unfolding evenOf
-  even-bit k x y l =
-      bit-xor k (bitAnd x m) ((bitAnd y m * 2 ^ h) % 2 ^ 64)
-      ∙ ap₂ differ (bit-and k x m ∙ ap (min (bit k x)) (at-mask k l .0)) (up k y l)
-      ∙ pick (k / h % 2) (bit k x) (bit (k - h) y) (low2 (k / h)) (bit-lt k x) (bit-lt (k - h) y) .0
+  -- nothing is shifted into an even block
+  under : (p : ℕ) → place h r p 0 < w → bit (place h r p 0) (bitAnd y m * 2 ^ h) ≡ 0
+  under zero l = bit-up-low h (place h r 0 0) (bitAnd y m) (omega arith)
+  under (suc p) l =
+      let e : place h r (suc p) 0 ≡ h + place h r p 1 = omega arith in
+      ap (λ (k : ℕ). bit k (bitAnd y m * 2 ^ h)) e ∙ shifted (place h r p 1) ∙ omega (arith, at-mask p 1 (lit< tt) (omega arith))
 
-  odd-bit : (k x y : ℕ) → k < 64 → bit k (oddOf h m x y) ≡ either (k / h % 2) (bit (h + k) x) (bit k y)
-  unfolding oddOf
-  odd-bit k x y l =
-      bit-xor k (bitAnd (x / 2 ^ h) m) (outside y m)
-      ∙ ap₂ differ (bit-and k (x / 2 ^ h) m ∙ ap₂ min (bit-down h k x) (at-mask k l .0)) (bit-outside k y m ∙ ap (λ (b : ℕ). bit k y - b) (at-mask k l .0))
-      ∙ pick (k / h % 2) (bit (h + k) x) (bit k y) (low2 (k / h)) (bit-lt (h + k) x) (bit-lt k y) .1
+  even-0 : (p : ℕ) → place h r p 0 < w → bit (place h r p 0) (evenOf w h m x y) ≡ bit (place h r p 0) x
+  even-0 p l = even-bit w h m x y (place h r p 0) l ∙ mask-on (bit (place h r p 0) x) _ _ (bit-lt _ x) (at-mask p 0 (lit< tt) l) (under p l)
 
-  stage : Stage h t u
-  stage b k hb hk = go (k / h % 2) (b % 2) refl refl
-    where
-      x : ℕ
-      x = getD t (b / 2) 0
+  even-1 : (p : ℕ) → place h r p 1 < w → bit (place h r p 1) (evenOf w h m x y) ≡ bit (place h r p 0) y
+  even-1 p l =
+      let e : place h r p 1 ≡ h + place h r p 0 = omega arith in
+      even-bit w h m x y (place h r p 1) l ∙ mask-off (bit (place h r p 1) x) _ _ (at-mask p 1 (lit< tt) l)
+      ∙ ap (λ (k : ℕ). bit k (bitAnd y m * 2 ^ h)) e ∙ shifted (place h r p 0) ∙ omega (arith, at-mask p 0 (lit< tt) (omega arith))
 
-      y : ℕ
-      y = getD t (b / 2 + 32) 0
+  odd-0 : (p : ℕ) → place h r p 0 < w → bit (place h r p 0) (oddOf h m x y) ≡ bit (place h r p 1) x
+  odd-0 p l =
+      let e : h + place h r p 0 ≡ place h r p 1 = omega arith in
+      let z : bit (place h r p 0) m ≡ 1 = at-mask p 0 (lit< tt) l in
+      odd-bit h m x y (place h r p 0) ∙ mask-on (bit (h + place h r p 0) x) _ _ (bit-lt _ x) z (omega arith) ∙ ap (λ (k : ℕ). bit k x) e
 
-      even : b % 2 ≡ 0 → bit k (getD u b 0) ≡ either (k / h % 2) (bit k x) (bit (k - h) y)
-      even e = let q : b ≡ 2 * (b / 2) = omega arith in ap (λ (b : ℕ). bit k (getD u b 0)) q ∙ ap (bit k) (s (b / 2) (omega arith) .0) ∙ even-bit k x y hk
+  odd-1 : (p : ℕ) → place h r p 1 < w → bit (place h r p 1) (oddOf h m x y) ≡ bit (place h r p 1) y
+  odd-1 p l = odd-bit h m x y (place h r p 1) ∙ mask-off (bit (h + place h r p 1) x) _ _ (at-mask p 1 (lit< tt) l) ∙ omega (arith, at-mask p 1 (lit< tt) l)
 
-      odd : b % 2 ≡ 1 → bit k (getD u b 0) ≡ either (k / h % 2) (bit (h + k) x) (bit k y)
-      odd e = let q : b ≡ 2 * (b / 2) + 1 = omega arith in ap (λ (b : ℕ). bit k (getD u b 0)) q ∙ ap (bit k) (s (b / 2) (omega arith) .1) ∙ odd-bit k x y hk
+-- ---- a step
 
-      go : (d e : ℕ) → k / h % 2 ≡ d → b % 2 ≡ e → bit k (getD u b 0) ≡ bit (place d e h k) (getD t (either d (b / 2) (b / 2 + 32)) 0)
-      go zero zero p q = even q ∙ ap (λ (d : ℕ). either d (bit k x) (bit (k - h) y)) p
-      go (suc d) zero p q = even q ∙ ap (λ (d : ℕ). either d (bit k x) (bit (k - h) y)) p
-      go zero (suc zero) p q = odd q ∙ ap (λ (d : ℕ). either d (bit (h + k) x) (bit k y)) p
-      go (suc d) (suc zero) p q = odd q ∙ ap (λ (d : ℕ). either d (bit (h + k) x) (bit k y)) p
-      go d (suc (suc e)) p q = absurd (omega (arith, low2 b))
+-- the lowest digit e of a word's number and the digit d of a block change places, and d goes to the top of the word's number
+abbrev Swap : ℕ → ℕ → List ℕ → List ℕ → ℕ → ℕ → ℕ → ℕ → ℕ → Type 0
+Swap half h t u c p r e d = place h r p d < 2 * half → bit (place h r p d) (getD u (2 * c + e) 0) ≡ bit (place h r p e) (getD t (c + d * half) 0)
 
--- ---- six steps
+-- so each bit of u comes from t
+abbrev pub Stage : ℕ → ℕ → List ℕ → List ℕ → Type 0
+Stage half h t u = (c p r e d : ℕ) → c < half → r < h → e < 2 → d < 2 → Swap half h t u c p r e d
 
--- u comes from t by steps with blocks of hs, the last step first
-abbrev Steps : List ℕ → List ℕ → List ℕ → Type 0
-Steps [] u t = u ≡ t
-Steps (h ∷ hs) u t = (v : List ℕ) × Stage h v u × Steps hs v t
+pub stage : (half h m : ℕ) (t u : List ℕ) → Shuffled half h m t u → T (every (2 * half) (maskTest h m)) → Stage half h t u
+stage half h m t u s mt c p r e d hc hr he hd =
+    let w = 2 * half in
+    let x = getD t c 0 in
+    let y = getD t (c + half) 0 in
+    two (λ e. Swap half h t u c p r e d)
+    (two (Swap half h t u c p r 0)
+    (λ l. rw (add-zero (2 * c), zero-mul half, add-zero c) (ap (bit (place h r p 0)) (s c hc .0) ∙ even-0 w h m mt x y r hr p l))
+    (λ l. rw (add-zero (2 * c), one-mul half) (ap (bit (place h r p 1)) (s c hc .0) ∙ even-1 w h m mt x y r hr p l)) d hd)
+    (two (Swap half h t u c p r 1)
+    (λ l. rw (zero-mul half, add-zero c) (ap (bit (place h r p 0)) (s c hc .1) ∙ odd-0 w h m mt x y r hr p l))
+    (λ l. rw (one-mul half) (ap (bit (place h r p 1)) (s c hc .1) ∙ odd-1 w h m mt x y r hr p l)) d hd) e he
 
--- bit k of word b comes from bit k₀ of word b₀
-reach : List ℕ → ℕ → ℕ → ℕ → ℕ → Bool
-reach [] b k b₀ k₀ = eqb b b₀ && eqb k k₀
-reach (h ∷ hs) b k b₀ k₀ = ltb b 64 && ltb k 64 && reach hs (either (k / h % 2) (b / 2) (b / 2 + 32)) (place (k / h % 2) (b % 2) h k) b₀ k₀
+-- ---- m steps
 
-reach-bit : (hs u t : List ℕ) (b k b₀ k₀ : ℕ) → Steps hs u t → T (reach hs b k b₀ k₀) → bit k (getD u b 0) ≡ bit k₀ (getD t b₀ 0)
-unfolding reach
-reach-bit [] u t b k b₀ k₀ w r =
-    ap₂ bit (eqb→eq _ _ (and-r (eqb b b₀) (eqb k k₀) r)) (ap₂ (λ (l : List ℕ) (a : ℕ). getD l a 0) w (eqb→eq _ _ (and-l (eqb b b₀) (eqb k k₀) r)))
-reach-bit (h ∷ hs) u t b k b₀ k₀ w r =
-    let p : T (ltb b 64 && ltb k 64) = and-l (ltb b 64 && ltb k 64) _ r in
-    w .1 b k (ltb→lt _ _ (and-l (ltb b 64) (ltb k 64) p)) (ltb→lt _ _ (and-r (ltb b 64) (ltb k 64) p))
-    ∙ reach-bit hs (w .0) t (either (k / h % 2) (b / 2) (b / 2 + 32)) (place (k / h % 2) (b % 2) h k) b₀ k₀ (w .2) (and-r (ltb b 64 && ltb k 64) _ r)
+-- u comes from t by i steps with blocks of 2 ^ (i - 1), .., 2, 1 bits
+abbrev pub Steps : ℕ → ℕ → List ℕ → List ℕ → Type 0
+Steps half zero u t = u ≡ t
+Steps half (suc i) u t = (v : List ℕ) × Steps half i u v × Stage half (2 ^ i) t v
 
--- bit k of word b comes from bit b of word k
-mirrored : ℕ → ℕ → Bool
-mirrored b k = reach (1 ∷ 2 ∷ 4 ∷ 8 ∷ 16 ∷ 32 ∷ []) b k k b
+-- n * q words of n * q bits, in blocks of n: bit k of block p in word b + n * c comes from bit b of that block, in word c + q * k
+abbrev Moved : ℕ → ℕ → List ℕ → List ℕ → Type 0
+Moved n q u t = (b k c p : ℕ) → b < n → k < n → c < q → p < q → bit (k + n * p) (getD u (b + n * c) 0) ≡ bit (b + n * p) (getD t (c + q * k) 0)
 
--- each of the 64 times 64 bits does, by computation
-mirror : T (every 64 (λ b. every 64 (mirrored b)))
-unfolding every reach mirrored
-mirror = tt
+-- the same bit
+same : (l : List ℕ) {j k a b : ℕ} → j ≡ k → a ≡ b → bit j (getD l a 0) ≡ bit k (getD l b 0)
+same l e f = ap₂ (λ (j a : ℕ). bit j (getD l a 0)) e f
 
-pub six-steps : (t u₁ u₂ u₃ u₄ u₅ u₆ : List ℕ) → Shuffled 32 32 0xffffffff t u₁ → Shuffled 32 16 0xffff0000ffff u₁ u₂ → Shuffled 32 8 0xff00ff00ff00ff u₂ u₃
-    → Shuffled 32 4 0xf0f0f0f0f0f0f0f u₃ u₄ → Shuffled 32 2 0x3333333333333333 u₄ u₅ → Shuffled 32 1 0x5555555555555555 u₅ u₆
-    → (a k : ℕ) → a < 64 → k < 64 → bit k (getD u₆ a 0) ≡ bit a (getD t k 0)
-unfolding every maskTest mirrored
-six-steps t u₁ u₂ u₃ u₄ u₅ u₆ s₁ s₂ s₃ s₄ s₅ s₆ a k ha hk =
-    let w₁ : Steps (32 ∷ []) u₁ t = (t, stage 32 _ (lit< tt) tt t u₁ s₁, refl) in
-    let w₂ : Steps (16 ∷ 32 ∷ []) u₂ t = (u₁, stage 16 _ (lit< tt) tt u₁ u₂ s₂, w₁) in
-    let w₃ : Steps (8 ∷ 16 ∷ 32 ∷ []) u₃ t = (u₂, stage 8 _ (lit< tt) tt u₂ u₃ s₃, w₂) in
-    let w₄ : Steps (4 ∷ 8 ∷ 16 ∷ 32 ∷ []) u₄ t = (u₃, stage 4 _ (lit< tt) tt u₃ u₄ s₄, w₃) in
-    let w₅ : Steps (2 ∷ 4 ∷ 8 ∷ 16 ∷ 32 ∷ []) u₅ t = (u₄, stage 2 _ (lit< tt) tt u₄ u₅ s₅, w₄) in
-    let w₆ : Steps (1 ∷ 2 ∷ 4 ∷ 8 ∷ 16 ∷ 32 ∷ []) u₆ t = (u₅, stage 1 _ (lit< tt) tt u₅ u₆ s₆, w₅) in
-    reach-bit _ u₆ t a k k a w₆ (every-at 64 (mirrored a) (every-at 64 (λ b. every 64 (mirrored b)) mirror a ha) k hk)
+-- a number by its digits: that below n, the next, which is binary, and the rest
+digits : (n x p : ℕ) → x + 2 * n * p ≡ place n (x % n) p (x / n)
+digits n x p = omega (arith, mod-add-div x n)
+
+-- one step more, before them
+moved-more : (n q : ℕ) (u v t : List ℕ) → Moved n (2 * q) u v → Stage (n * q) n t v → Moved (2 * n) q u t
+moved-more n q u v t f g b k c p hb hk hc hp =
+    let z : 0 < n = omega arith in
+    let d : k / n < 2 = div-lt-iff-lt-mul z .1 hk in
+    let e : b / n < 2 = div-lt-iff-lt-mul z .1 hb in
+    let h : k / n + 2 * p < 2 * q = omega arith in
+    let q₁ : b / n + 2 * c + 2 * q * (k % n) ≡ 2 * (c + q * (k % n)) + b / n = omega arith in
+    let q₂ : c + q * (k % n) + k / n * (n * q) ≡ c + q * k = omega (arith, ap (λ (k : ℕ). q * k) (mod-add-div k n)) in
+    same u (digits n k p) (digits n b c)
+    ∙ f (b % n) (k % n) (b / n + 2 * c) (k / n + 2 * p) (mod-lt b z) (mod-lt k z) (omega arith) h
+    ∙ same v refl q₁
+    ∙ g (c + q * (k % n)) p (b % n) (b / n) (k / n) (omega (arith, digits-lt (mod-lt k z) hc)) (mod-lt b z) e d (omega (arith, digits-lt h (mod-lt b z)))
+    ∙ same t (sym (digits n b p)) q₂
+
+-- i steps, by induction
+moved : (half i q : ℕ) (u t : List ℕ) → 2 * half ≡ 2 ^ i * q → Steps half i u t → Moved (2 ^ i) q u t
+moved half zero q u t e s = subst (Moved 1 q u) s (λ b k c p hb hk hc hp. same u (omega arith) (omega (arith, ap (λ (k : ℕ). q * k) (lt-one hk))))
+moved half (suc i) q u t e s =
+    let e₁ : 2 ^ suc i ≡ 2 * 2 ^ i = pow-suc 2 i ∙ mul-comm (2 ^ i) 2 in
+    let e₂ : half ≡ 2 ^ i * q = omega (arith, ap (λ (n : ℕ). n * q) e₁) in
+    subst (λ (n : ℕ). Moved n q u t) (sym e₁)
+    (moved-more (2 ^ i) q u (s .0) t (moved half i (2 * q) u (s .0) (omega arith) (s .1)) (subst (λ (n : ℕ). Stage n (2 ^ i) t (s .0)) e₂ (s .2)))
+
+-- m steps are the transpose of 2 ^ m words of 2 ^ m bits
+pub steps-transposed : (half m : ℕ) (t u : List ℕ) → 2 * half ≡ 2 ^ m → length t ≡ 2 * half → length u ≡ 2 * half → ((a : ℕ) → getD u a 0 < 2 ^ (2 * half))
+    → Steps half m u t → u ≡ transposed (2 * half) t
+steps-transposed half m t u e ht hu f s =
+    transposed-is (2 * half) (2 * half) t u ht hu f
+    (λ a k ha hk. simp (mul-zero, add-zero, one-mul, zero-add) at (moved half m 1 u t (e ∙ sym (mul-one (2 ^ m))) s a k 0 0 (omega arith) (omega arith) (lit< tt) (lit< tt)))

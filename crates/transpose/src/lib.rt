@@ -1,11 +1,13 @@
 // The transpose of a matrix of bits: the rows of the matrix whose columns are the words. In six steps words are shuffled in pairs, by blocks of 32, 16, 8, 4, 2
 // and 1 bits: the first of the two new words has the even blocks of both in turn, the second the odd ones.
-// specs/Transposed.antt has the transpose, at every number of rows, and specs/Shuffle.antt the step. proofs/Transposed.antt has the rows of the transpose;
-// proofs/Shuffling.antt that six steps are the transpose; proofs/Below.antt a test of each number below n.
+// specs/Transposed.antt has the transpose, at every number of rows, and specs/Shuffle.antt the step, at every number of pairs. proofs/Transposed.antt has the rows
+// of the transpose; proofs/Shuffling.antt that m steps are the transpose of 2 ^ m words, for every m; proofs/Below.antt a test of each number below n.
+// That m is 6 here, and that the six masks are right, is shown in the proof of `transpose` alone.
 // Cites lists, gf2 and bits; bucket_blocks cites it.
 use bits::WIDTH;
 ghost use mathlib.Core.Path.{_≡_};
-ghost use Prim.Native.Nat.{_<_};
+ghost use Prim.Native.Nat.{_/_, _<_};
+ghost use Rattle.bits.specs.Width.{width};
 ghost use Rattle.transpose.specs.Shuffle.{Shuffled};
 ghost use Rattle.transpose.specs.Transposed.{transposed};
 
@@ -14,8 +16,8 @@ const HALF: usize = WIDTH / 2;
 
 // Words `i` and `i + HALF` become words `2 * i` and `2 * i + 1`: their even blocks of `h` bits, and their odd ones. `mask` has the bits of the even blocks.
 fn shuffle(words: [u64; WIDTH], h: usize, mask: u64) -> [u64; WIDTH]
-    requires { do ⌜ h < (← ⟦WIDTH⟧) ⌝ }
-    ensures { λ r. do ⌜ Shuffled (← ⟦HALF⟧ .entry) h mask words r ⌝ }
+    requires { ⌜ h < width ⌝ }
+    ensures { λ r. ⌜ Shuffled (width / 2) h mask words r ⌝ }
 {
     let mut out = [0u64; WIDTH];
     let mut i: usize = 0;
@@ -31,7 +33,7 @@ fn shuffle(words: [u64; WIDTH], h: usize, mask: u64) -> [u64; WIDTH]
 
 // Bit `a` of word `i` becomes bit `i` of word `a`.
 pub fn transpose(words: [u64; WIDTH]) -> [u64; WIDTH]
-    ensures { λ r. do ⌜ r ≡ transposed (← ⟦WIDTH⟧ .entry) words ⌝ }
+    ensures { λ r. ⌜ r ≡ transposed width words ⌝ }
 {
     let a = shuffle(words, 32, 0xffff_ffff);
     let b = shuffle(a, 16, 0xffff_0000_ffff);

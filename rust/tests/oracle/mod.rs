@@ -2,7 +2,6 @@
 //! library (but for its `Answer` and `Bucket` structs, to compare by): hashes
 //! in 128-bit arithmetic, K kept as a plain list of rows, independence by
 //! rank, bounds by trying all of them.
-#![allow(dead_code)]
 
 pub mod patches;
 

@@ -1,7 +1,8 @@
 -- `bucket_blocks::block` meets its contract.
 -- Assumes nothing.
-use mathlib.Core.Path.{_≡_, refl, sym, ap, _∙_, subst}
+use mathlib.Core.Path.{_∙_}
 use native.Mathlib.Omega.{arith}
+use Rattle.bucket_pairs.proofs.Swept.{length-swept, swept-keeps}
 use borrow.Author.Needs.{needs}
 use Rattle.bucket_blocks.proofs.block.Statement.{statement}
 use Rattle.bucket_blocks.proofs.block.Tie as tie
@@ -52,12 +53,12 @@ returns-3 c =
     let s = c .before .before .before .before .before .before .before .before .sweep .ensures in
     let r = c .before .before .before .spread .ensures in (
       r .0 ∙ c .before .before .before .before .before .before .before .before .before .before .before .before .before .before .before .before .before .before .before .before .before .before .before .before .before .before .before .before .before .pre .2,
-      s .0 ∙ e .1,
+      length-swept _ _ _ 0 16 _ _ s ∙ e .1,
       j .0,
       λ f lf t.
           let p = e .3 f lf t in
           let q = j .1 f lf (p .1 .0, tt) .0 in
-          (r .1 f lf (q, (t .0, tt)) .0, (s .1 f lf (q, (p .0, tt)) .0, (q, tt))),
+          (r .1 f lf (q, (t .0, tt)) .0, (swept-keeps _ _ _ 0 16 _ _ s (omega (arith, e .1)) f lf (q, (p .0, tt)) .0, (q, tt))),
     )
 
 pub block-spec : {M : Type 1} → statement M

@@ -4,8 +4,8 @@ use mathlib.Core.Path.{_≡_, refl, sym, ap, _∙_, subst}
 use mathlib.Core.List.{[], _∷_}
 use native.Mathlib.Omega.{arith}
 use lib.ListN.{length}
-use Rattle.bucket_blocks.specs.Pairs.{Tied}
-use Rattle.bucket_blocks.proofs.Tied.{tied-zeros, tied-pair}
+use Rattle.bucket_pairs.specs.Pairs.{Tied}
+use Rattle.bucket_pairs.proofs.Tied.{tied-zeros, tied-pair}
 use borrow.Author.Needs.{needs}
 use Rattle.bucket_blocks.proofs.file.Statement.{statement}
 use Rattle.bucket_blocks.proofs.file.Tie as tie

@@ -3,13 +3,14 @@
 use mathlib.Core.Path.{_≡_, refl, sym, ap, _∙_, subst}
 use mir.Syntax.{w64}
 use mir.Val.{Fits}
-use Prim.Native.Nat.{_-_, _≤_}
+use Prim.Native.Nat.{_-_}
 use native.Mathlib.Omega.{arith}
 use lib.ListN.{length}
 use Rattle.gf2.specs.Vectors.{product}
 use Rattle.gf2.proofs.Linear.{product-xor}
-use Rattle.bucket_blocks.specs.Pairs.{Tied}
-use Rattle.bucket_blocks.proofs.Tied.{tied-zeros, pairs-begin, read-guessed, none-guessed}
+use Rattle.bucket_pairs.specs.Pairs.{Tied, Guessed}
+use Rattle.bucket_pairs.proofs.Tied.{tied-zeros, pairs-begin}
+use Rattle.bucket_pairs.proofs.Read.{read-guessed, dependence-zero, none-guessed}
 use borrow.Author.Needs.{needs}
 use Rattle.bucket_blocks.proofs.guess_rows.Statement.{statement}
 use Rattle.bucket_blocks.proofs.guess_rows.Tie as tie
@@ -85,7 +86,8 @@ returns c =
     let g = c .before .before .before .before .before .before .before .before .before .before .before .before in
     let n : length (g .args .cols) ≡ 64 = search (needs, g .good) in
     let m : Fits w64 (g .args .mark) = search (needs, g .good) in
-    read-guessed 64 (g .args .mark) (g .args .cols) (c .before .before .before .before .before .loop .ws) (c .rows-in .result) n (m .fits) (g .pre) (c .before .before .before .before .before .loop .inv .3) (c .rows-in .ensures)
+    let b = c .before .before .before .before .before in
+    subst (Guessed 64 (g .args .cols)) (sym (c .rows-in .ensures)) (read-guessed 64 _ (g .args .mark) (g .args .cols) (b .loop .ws) n (m .fits) (g .pre) (b .loop .inv .3))
 
 slice-aggregate-dependence : tie.Need-slice-aggregate-dependence Inv-loop μ-loop
 slice-aggregate-dependence c = search needs
@@ -98,7 +100,8 @@ returns-2 c =
     let cs = c .before .before .before .before .before .before .before .before .before .before .before .before .args .cols in
     let y = c .dependence in
     let f : Fits w64 (y .result) = search needs in
-    none-guessed 64 cs (y .result) (f .fits) (sym (y .ensures (product cs) (product-xor cs) (c .before .before .before .before .before .loop .inv .4, tt) .0 0))
+    let b = c .before .before .before .before .before in
+    none-guessed 64 cs (y .result) (f .fits) (ap (product cs) (y .ensures) ∙ dependence-zero (product cs) 16 0 (b .loop .window) (product-xor cs) (b .loop .inv .4))
 
 pub guess-rows-spec : {M : Type 1} → statement M
 guess-rows-spec =

@@ -1,8 +1,9 @@
 -- `bucket_blocks::half_table` meets its contract.
 -- Assumes nothing.
-use mathlib.Core.Path.{_≡_, refl, sym, ap, _∙_, subst}
+use mathlib.Core.Path.{_≡_}
 use native.Mathlib.Omega.{arith}
 use lib.ListN.{length}
+use Rattle.bucket_pairs.proofs.Swept.{swept-keeps}
 use borrow.Author.Needs.{needs}
 use Rattle.bucket_blocks.proofs.half_table.Statement.{statement}
 use Rattle.bucket_blocks.proofs.half_table.Tie as tie
@@ -55,7 +56,7 @@ returns c =
       z .0,
       λ f lf t.
           let q = p .3 f lf (t .0, (t .1 .0, tt)) in
-          (q .0, z .1 f lf (s .1 f lf (t .1 .1 .0, (q .1 .0, tt)) .0, (t .1 .1 .0, tt))),
+          (q .0, z .1 f lf (swept-keeps _ _ _ 0 4 _ _ s (omega arith) f lf (t .1 .1 .0, (q .1 .0, tt)) .0, (t .1 .1 .0, tt))),
     )
 
 pub half-table-spec : {M : Type 1} → statement M

@@ -5,8 +5,8 @@ use mathlib.Core.List.{[], _∷_}
 use Prim.Native.Nat.{_+_, _-_, _*_, _≤_, _<_}
 use native.Mathlib.Omega.{arith}
 use lib.ListN.{length}
-use Rattle.bucket_blocks.specs.Pairs.{Tied, Keeps}
-use Rattle.bucket_blocks.proofs.Tied.{length-put, tied-add, tied-put}
+use Rattle.bucket_pairs.specs.Pairs.{Tied, Keeps}
+use Rattle.bucket_pairs.proofs.Tied.{length-put, tied-add, tied-put}
 use borrow.Author.Needs.{needs}
 use Rattle.bucket_blocks.proofs.join.Statement.{statement}
 use Rattle.bucket_blocks.proofs.join.Tie as tie

@@ -5,7 +5,7 @@ use mathlib.Core.List.{[], _∷_}
 use Prim.Native.Nat.{_+_, _-_, _*_, _≤_, _<_}
 use native.Mathlib.Omega.{arith}
 use lib.ListN.{length}
-use Rattle.bucket_blocks.specs.Pairs.{Keeps}
+use Rattle.bucket_pairs.specs.Pairs.{Keeps}
 use borrow.Author.Needs.{needs}
 use Rattle.bucket_blocks.proofs.make_tables.Statement.{statement}
 use Rattle.bucket_blocks.proofs.make_tables.Tie as tie

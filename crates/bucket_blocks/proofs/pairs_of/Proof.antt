@@ -8,8 +8,8 @@ use native.Mathlib.Omega.{arith}
 use lib.Bits.{bitXor}
 use lib.ListN.{length, getD}
 use Rattle.gf2.specs.Vectors.{outside}
-use Rattle.bucket_blocks.specs.Pairs.{Tied, PairsOf}
-use Rattle.bucket_blocks.proofs.Tied.{length-put, tied-put, row-pair}
+use Rattle.bucket_pairs.specs.Pairs.{Tied, PairsOf}
+use Rattle.bucket_pairs.proofs.Tied.{length-put, tied-put, row-pair}
 use borrow.Author.Needs.{needs}
 use Rattle.bucket_blocks.proofs.pairs_of.Statement.{statement}
 use Rattle.bucket_blocks.proofs.pairs_of.Tie as tie

@@ -6,8 +6,8 @@ use native.Mathlib.Omega.{arith}
 use Prim.Native.Nat.{_+_, _-_, _*_, _^_, _≤_, _<_}
 use lib.Pow.{pow-lt}
 use lib.ListN.{length}
-use Rattle.bucket_blocks.specs.Pairs.{Tied}
-use Rattle.bucket_blocks.proofs.Tied.{length-put, tied-put, pow-more}
+use Rattle.bucket_pairs.specs.Pairs.{Tied}
+use Rattle.bucket_pairs.proofs.Tied.{length-put, tied-put, pow-more}
 use borrow.Author.Needs.{needs}
 use Rattle.bucket_blocks.proofs.pick.Statement.{statement}
 use Rattle.bucket_blocks.proofs.pick.Tie as tie

@@ -5,8 +5,8 @@ use mathlib.Core.List.{[], _∷_}
 use Prim.Native.Nat.{ℕ, _+_, _-_, _^_, _≤_, _<_}
 use native.Mathlib.Omega.{arith}
 use lib.ListN.{length}
-use Rattle.bucket_blocks.specs.Pairs.{Keeps}
-use Rattle.bucket_blocks.proofs.Tied.{tied-zeros}
+use Rattle.bucket_pairs.specs.Pairs.{Keeps}
+use Rattle.bucket_pairs.proofs.Tied.{tied-zeros}
 use borrow.Author.Needs.{needs}
 use Rattle.bucket_blocks.proofs.pick_four.Statement.{statement}
 use Rattle.bucket_blocks.proofs.pick_four.Tie as tie

@@ -6,8 +6,8 @@ use native.Mathlib.Omega.{arith}
 use lib.ListN.{length, getD, take, length-set}
 use lib.Seq.{take-all}
 use Rattle.lists.proofs.Loops.{fill-step}
-use Rattle.bucket_blocks.specs.Pairs.{Tied}
-use Rattle.bucket_blocks.proofs.Tied.{tied-take}
+use Rattle.bucket_pairs.specs.Pairs.{Tied}
+use Rattle.bucket_pairs.proofs.Tied.{tied-take}
 use borrow.Author.Needs.{needs}
 use Rattle.bucket_blocks.proofs.window_of.Statement.{statement}
 use Rattle.bucket_blocks.proofs.window_of.Tie as tie

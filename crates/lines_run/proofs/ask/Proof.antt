@@ -2,8 +2,7 @@
 -- Assumes nothing.
 use mathlib.Core.Path.{refl, ap, _∙_}
 use mathlib.Core.Bool.{Bool}
-use Rattle.identifier.specs.Identifier.{token, readOf}
-use Rattle.model.specs.Request.{withPlan}
+use Rattle.identifier.specs.Identifier.{token, readOf, withPlan}
 use Rattle.lines_run.proofs.Asked.{asked-word, asked-refused, asked-allowed}
 use borrow.Author.Needs.{needs}
 use Rattle.lines_run.proofs.ask.Statement.{statement}

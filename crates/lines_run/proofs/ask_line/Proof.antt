@@ -4,8 +4,7 @@ use mathlib.Core.Path.{sym}
 use lib.Seq.{length-take-le}
 use Rattle.identifier.specs.Identifier.{token}
 use Rattle.lines_text.specs.Parsed.{callOf}
-use Rattle.lines_run.proofs.Opening.{held-ready}
-use Rattle.lines_run.proofs.Turns.{ask-bad, ask-did}
+use Rattle.lines_run.proofs.Turns.{held-ready, ask-bad, ask-did}
 use borrow.Author.Needs.{needs}
 use Rattle.lines_run.proofs.ask_line.Statement.{statement}
 use Rattle.lines_run.proofs.ask_line.Tie as tie

@@ -1,6 +1,6 @@
 -- `lines_run::turn` meets its contract.
 -- Assumes nothing.
-use Rattle.lines_run.specs.Run.{tables}
+use Rattle.lines_open.specs.Desk.{tables}
 use Rattle.lines_run.proofs.Lines.{turn-short, turn-long}
 use Rattle.lines_run.proofs.Turns.{bad-did}
 use borrow.Author.Needs.{needs}

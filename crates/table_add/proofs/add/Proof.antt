@@ -2,11 +2,10 @@
 -- Assumes nothing.
 use mathlib.Core.Path.{refl, sym, ap, _∙_}
 use mathlib.Core.Bool.{Bool}
-use Rattle.identifier.specs.Identifier.{token, readOf}
+use Rattle.identifier.specs.Identifier.{token, readOf, withPlan}
 use Rattle.model.specs.Model.{add}
-use Rattle.model.specs.Request.{withPlan}
-use Rattle.table_calls.specs.Ready.{admitted}
-use Rattle.table_calls.proofs.Calls.{ready, allowed, call-word, call-refused}
+use Rattle.table_edit.specs.Ready.{admitted}
+use Rattle.table_edit.proofs.Calls.{ready, allowed, call-word, call-refused}
 use borrow.Author.Needs.{needs}
 use Rattle.table_add.proofs.add.Statement.{statement}
 use Rattle.table_add.proofs.add.Tie as tie

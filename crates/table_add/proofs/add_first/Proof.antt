@@ -7,8 +7,8 @@ use Rattle.bucket.specs.declared.Bucket.{Bucket}
 use Rattle.table.specs.Calls.{rows, solutions, planIn}
 use Rattle.table_layout.proofs.Shape.{first-in, first-here}
 use Rattle.table_base.specs.Base.{foundOf}
-use Rattle.table_calls.proofs.Touched.{flat-of, plan-first}
-use Rattle.table_calls.proofs.Calls.{live, gone}
+use Rattle.table_edit.proofs.Touched.{flat-of, plan-first}
+use Rattle.table_edit.proofs.Calls.{live, gone}
 use Rattle.table_add.proofs.Added.{added-live, added-gone}
 use borrow.Author.Needs.{needs}
 use Rattle.table_add.proofs.add_first.Statement.{statement}

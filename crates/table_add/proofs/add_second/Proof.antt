@@ -9,8 +9,8 @@ use Rattle.table.specs.Table.{holds}
 use Rattle.table_arrive.specs.Arrival.{productIn}
 use Rattle.table_layout.proofs.Shape.{second-in, second-here}
 use Rattle.table_base.specs.Base.{foundOf}
-use Rattle.table_calls.proofs.Touched.{flat-of, plan-second}
-use Rattle.table_calls.proofs.Calls.{live, gone}
+use Rattle.table_edit.proofs.Touched.{flat-of, plan-second}
+use Rattle.table_edit.proofs.Calls.{live, gone}
 use Rattle.table_add.proofs.Added.{added-live, added-gone}
 use borrow.Author.Needs.{needs}
 use Rattle.table_add.proofs.add_second.Statement.{statement}

@@ -4,7 +4,7 @@ use mathlib.Core.Path.{refl, sym, ap, _∙_}
 use Rattle.hash.specs.Mix.{mixOf}
 use Rattle.table.specs.Table.{holds}
 use Rattle.table.specs.Calls.{rows, solutions, tableOf}
-use Rattle.table_calls.proofs.Calls.{live, gone}
+use Rattle.table_edit.proofs.Calls.{live, gone}
 use Rattle.table_add.specs.Arrivals.{Passing}
 use Rattle.table_add.proofs.Added.{added-live, added-gone}
 use borrow.Author.Needs.{needs}

@@ -9,7 +9,7 @@ use Rattle.hash.specs.Mix.{mixOf}
 use Rattle.bucket_settle.specs.Settle.{SoundBucket}
 use Rattle.table.specs.Calls.{rows, solutions, tableOf}
 use Rattle.table_arrive.specs.Arrival.{Passed}
-use Rattle.table_add.specs.Arrivals.{seconds, allToSecond}
+use Rattle.table_pass.specs.Passing.{seconds, allToSecond}
 use Rattle.table_layout.proofs.Shape.{first-in, first-here}
 use Rattle.table_arrive.proofs.Tables.{flat, first-sound}
 use Rattle.table_add.proofs.Added.{passed-as, enter-few, Counted, enter-full, enter-room, enter-counted, ready-kept, count-room, entered-full, entered-done}

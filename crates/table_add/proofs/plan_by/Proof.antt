@@ -12,7 +12,7 @@ use Rattle.bucket_words.specs.Words.{bucketFrom}
 use Rattle.table_base.specs.Base.{foundOf}
 use Rattle.table_base.specs.declared.Found.the-variants.{Plan}
 use Rattle.table.specs.Calls.{rows, solutions}
-use Rattle.table_calls.proofs.Touched.{plan-live, plan-gone}
+use Rattle.table_edit.proofs.Touched.{plan-live, plan-gone}
 use borrow.Author.Needs.{needs}
 use Rattle.table_add.proofs.plan_by.Statement.{statement}
 use Rattle.table_add.proofs.plan_by.Tie as tie

@@ -4,7 +4,7 @@ use mathlib.Core.Path.{ap, _∙_, subst⁻¹}
 use Rattle.bucket.specs.declared.Bucket.{Bucket}
 use Rattle.bucket.specs.Bucket.{add}
 use Rattle.bucket_settle.specs.Settle.{SoundBucket, thresholdOf, settle}
-use Rattle.bucket_settle.specs.Outgoing.{settledOf}
+use Rattle.bucket_fall.specs.Settled.{settledOf}
 use borrow.Author.Needs.{needs}
 use Rattle.table.specs.Calls.{rows, solutions}
 use Rattle.table_arrive.proofs.fallen_at.Statement.{statement}

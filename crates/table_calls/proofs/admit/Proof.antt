@@ -2,7 +2,7 @@
 -- Assumes nothing.
 use mathlib.Core.Path.{sym, ap, _∙_}
 use borrow.Author.Needs.{needs}
-use Rattle.table_calls.specs.Ready.{admitted}
+use Rattle.table_edit.specs.Ready.{admitted}
 use Rattle.table_calls.proofs.admit.Statement.{statement}
 use Rattle.table_calls.proofs.admit.Tie as tie
 

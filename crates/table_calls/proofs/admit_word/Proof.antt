@@ -2,7 +2,7 @@
 -- Assumes nothing.
 use mathlib.Core.Path.{sym, _∙_}
 use borrow.Author.Needs.{needs}
-use Rattle.table_calls.proofs.Calls.{admits, not-sound, not-shaped}
+use Rattle.table_edit.proofs.Calls.{admits, not-sound, not-shaped}
 use Rattle.table_calls.proofs.admit_word.Statement.{statement}
 use Rattle.table_calls.proofs.admit_word.Tie as tie
 

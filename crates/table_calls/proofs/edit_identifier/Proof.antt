@@ -3,10 +3,9 @@
 use mathlib.Core.Path.{refl, sym, ap, _∙_}
 use mathlib.Core.Bool.{Bool}
 use borrow.Author.Needs.{needs}
-use Rattle.identifier.specs.Identifier.{token, readOf}
-use Rattle.model.specs.Request.{withPlan}
-use Rattle.table_calls.specs.Ready.{admitted}
-use Rattle.table_calls.proofs.Calls.{ready, allowed, edit-word, edit-refused}
+use Rattle.identifier.specs.Identifier.{token, readOf, withPlan}
+use Rattle.table_edit.specs.Ready.{admitted}
+use Rattle.table_edit.proofs.Calls.{ready, allowed, edit-word, edit-refused}
 use Rattle.table_calls.proofs.edit_identifier.Statement.{statement}
 use Rattle.table_calls.proofs.edit_identifier.Tie as tie
 

@@ -3,10 +3,9 @@
 use mathlib.Core.Path.{refl}
 use mathlib.Core.Bool.{true}
 use borrow.Author.Needs.{needs}
-use Rattle.identifier.specs.Identifier.{token, readOf}
+use Rattle.identifier.specs.Identifier.{token, readOf, withPlan}
 use Rattle.model.specs.Model.{query}
-use Rattle.model.specs.Request.{withPlan}
-use Rattle.table_calls.proofs.Calls.{ready, call-word, call-refused}
+use Rattle.table_edit.proofs.Calls.{ready, call-word, call-refused}
 use Rattle.table_calls.proofs.query.Statement.{statement}
 use Rattle.table_calls.proofs.query.Tie as tie
 

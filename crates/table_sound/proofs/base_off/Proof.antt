@@ -6,8 +6,10 @@ use mathlib.Core.Path.{sym, ap, _∙_}
 use lib.ListN.{getD, drop}
 use Rattle.table.specs.Layout.{baseCountAt, pairsFrom}
 use Rattle.table_layout.proofs.Shape.{shape}
-use Rattle.table_sound.specs.Held.{pairTest, countOff}
-use Rattle.table_sound.proofs.Held.{left-none, left-as, gate-on, gate-off, ascending, unused}
+use Rattle.table_rows.specs.Counting.{countOff}
+use Rattle.table_rows.proofs.Counting.{left-stopped, left-as, gate-on, gate-off}
+use Rattle.table_sound.specs.Held.{pairTest}
+use Rattle.table_sound.proofs.Held.{ascending, unused}
 use borrow.Author.Needs.{needs}
 use Rattle.table_sound.proofs.base_off.Statement.{statement}
 use Rattle.table_sound.proofs.base_off.Tie as tie
@@ -44,8 +46,8 @@ returns c =
     let t = a .t .now in
     let at = z .base-place .ensures in
     left-as (k .pairs-off .result) (k .pairs-off .last .1 .1 .1 .0)
-    (gate-on (ascending t at (k .before .before .before .before .before .pairs-ascend .ensures) (k .before .before .before .before .if1 .taken))
-    (gate-on (unused t at (k .before .before .before .zero-from .ensures) (k .before .before .if2 .taken))
+    (gate-on (a .left .now) (ascending t at (k .before .before .before .before .before .pairs-ascend .ensures) (k .before .before .before .before .if1 .taken))
+    (gate-on (a .left .now) (unused t at (k .before .before .before .zero-from .ensures) (k .before .before .if2 .taken))
     (ap (λ (x : ℕ). countOff (pairTest t) (pairsFrom (getD t baseCountAt 0) (drop x t)) (a .left .now)) (sym at)))) (k .pairs-off .ensures)
 
 returns-2 : tie.Need-returns-2
@@ -54,13 +56,13 @@ returns-2 c =
     let a = z .before .before .before .before .args in
     let t = a .t .now in
     let at = z .base-place .ensures in
-    left-none (a .left .now) (gate-on (ascending t at (c .before .before .before .pairs-ascend .ensures) (c .before .before .if1 .taken)) (gate-off _ (unused t at (c .before .zero-from .ensures) (c .if2 .left))))
+    left-stopped (a .left .now) (gate-on (a .left .now) (ascending t at (c .before .before .before .pairs-ascend .ensures) (c .before .before .if1 .taken)) (gate-off (a .left .now) _ (unused t at (c .before .zero-from .ensures) (c .if2 .left))))
 
 returns-3 : tie.Need-returns-3
 returns-3 c =
     let z = c .before .before in
     let a = z .before .before .before .before .args in
-    left-none (a .left .now) (gate-off _ (ascending (a .t .now) (z .base-place .ensures) (c .before .pairs-ascend .ensures) (c .if1 .left)))
+    left-stopped (a .left .now) (gate-off (a .left .now) _ (ascending (a .t .now) (z .base-place .ensures) (c .before .pairs-ascend .ensures) (c .if1 .left)))
 
 pub base-off-spec : {M : Type 1} → statement M
 base-off-spec =

@@ -4,8 +4,8 @@ use mathlib.Core.Path.{sym, _∙_}
 use Rattle.lists.specs.Entries.{assignable}
 use Rattle.lists.proofs.Tests.{and-one}
 use Rattle.lists.proofs.Entries.{assignable-byte}
+use Rattle.table_rows.proofs.Counting.{left-stopped, off-failed, off-counted}
 use Rattle.table_sound.specs.Held.{pairTest}
-use Rattle.table_sound.proofs.Held.{left-none, off-failed, off-counted}
 use borrow.Author.Needs.{needs}
 use Rattle.table_sound.proofs.pair_off.Statement.{statement}
 use Rattle.table_sound.proofs.pair_off.Tie as tie
@@ -31,7 +31,7 @@ returns c =
 returns-2 : tie.Need-returns-2
 returns-2 c =
     let a = c .before .before .before .before .args in
-    left-none (a .left .now) (off-failed (pairTest (a .t .now)) (record { word = a .word; plan = a .plan }) (a .left .now) (sym (c .before .pair-held .ensures) ∙ c .if1 .left))
+    left-stopped (a .left .now) (off-failed (pairTest (a .t .now)) (record { word = a .word; plan = a .plan }) (a .left .now) (sym (c .before .pair-held .ensures) ∙ c .if1 .left))
 
 pub pair-off-spec : {M : Type 1} → statement M
 pair-off-spec =

@@ -8,7 +8,8 @@ use borrow.Author.Tests.{lt-ltb, le-ltb}
 use borrow.Author.Needs.{needs}
 use Rattle.table.specs.Layout.{pairsFrom}
 use Rattle.table.specs.Test.{ascends}
-use Rattle.table_sound.proofs.Held.{go-on, ascends-next, ascends-end}
+use Rattle.table_rows.proofs.Counting.{go-on}
+use Rattle.table_sound.proofs.Held.{ascends-next, ascends-end}
 use Rattle.table_sound.proofs.pairs_ascend.Statement.{statement}
 use Rattle.table_sound.proofs.pairs_ascend.Tie as tie
 

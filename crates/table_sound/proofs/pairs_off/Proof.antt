@@ -6,8 +6,10 @@ use mathlib.Core.Path.{_≡_, sym}
 use lib.ListN.{length, drop}
 use Rattle.table.specs.Table.{totalNumbers}
 use Rattle.table.specs.Layout.{pairsFrom}
-use Rattle.table_sound.specs.Held.{pairTest, countOff}
-use Rattle.table_sound.proofs.Held.{left-some, pairs-on, pairs-out}
+use Rattle.table_rows.specs.Counting.{countOff}
+use Rattle.table_rows.proofs.Counting.{left-ended}
+use Rattle.table_sound.specs.Held.{pairTest}
+use Rattle.table_sound.proofs.Held.{pairs-on, pairs-out}
 use borrow.Author.Needs.{needs}
 use Rattle.table_sound.proofs.pairs_off.Statement.{statement}
 use Rattle.table_sound.proofs.pairs_off.Tie as tie
@@ -65,7 +67,7 @@ returns c =
     let k = d .before .before .before .before in
     let b = k .before in
     let t = b .before .before .before .args .t .now in
-    pairs-out t (pairTest t) (b .loop .at) (b .loop .rest) (b .loop .left) (k .loop-test .taken) (b .loop .inv .2) (d .pair-off .last .1 .1 .1 .0) _ (d .pair-off .ensures) (c .if1 .left)
+    pairs-out t (pairTest t) (b .loop .at) (b .loop .rest) (b .loop .left) (k .loop-test .taken) (b .loop .inv .2) (d .pair-off .last .1 .1 .1 .0) (d .pair-off .ensures) (c .if1 .left)
 
 same-length-2 : tie.Need-same-length-2 Inv-loop μ-loop
 same-length-2 c = search needs
@@ -74,7 +76,7 @@ returns-2 : tie.Need-returns-2 Inv-loop μ-loop
 returns-2 c =
     let b = c .before in
     let z : b .loop .rest ≡ 0 = omega arith in
-    left-some (sym (rw z at (b .loop .inv .2)))
+    left-ended (sym (rw z at (b .loop .inv .2)))
 
 pub pairs-off-spec : {M : Type 1} → statement M
 pairs-off-spec =

@@ -1,17 +1,17 @@
 -- `transpose::shuffle` meets its contract. The loop's invariant: the first `i` pairs are shuffled.
 -- Assumes nothing.
 use mathlib.Core.Path.{_≡_, refl}
-use Prim.Native.Nat.{_+_, _*_, _-_, _≤_, _<_}
+use Prim.Native.Nat.{ℕ, _+_, _*_, _-_, _≤_, _<_}
 use native.Mathlib.Omega.{arith}
 use lib.ListN.{length, length-set}
-use Rattle.transpose.specs.Shuffle.{evenOf, oddOf, Shuffled}
+use Rattle.transpose.specs.Shuffle.{evenOf, oddOf, ShuffledAt}
 use Rattle.transpose.proofs.Shuffling.{shuffle-step}
 use borrow.Author.Needs.{needs}
 use Rattle.transpose.proofs.shuffle.Statement.{statement}
 use Rattle.transpose.proofs.shuffle.Tie as tie
 
 abbrev Inv-loop : tie.InvT-loop
-Inv-loop h mask words out₀ i₀ out i = (i ≤ 32) × (length out ≡ 64) × Shuffled i h mask words out
+Inv-loop h mask words out₀ i₀ out i = (i ≤ 32) × (length out ≡ 64) × ((j : ℕ) → j < i → ShuffledAt 32 h mask words out j)
 
 abbrev μ-loop : tie.MeasureT-loop
 μ-loop h mask words out₀ i₀ out i = 32 - i
@@ -73,7 +73,7 @@ loop-again c =
     let b = c .before in
     let g = b .before .args in
     let h : 2 * b .loop .i + 1 < length (b .loop .out) = omega arith in
-    (omega arith, simp length-set (b .loop .inv .1), shuffle-step (b .loop .i) (g .h) (g .mask) (g .t1) (b .loop .out) _ _ h refl refl (b .loop .inv .2))
+    (omega arith, simp length-set (b .loop .inv .1), shuffle-step 32 (b .loop .i) (g .h) (g .mask) (g .t1) (b .loop .out) _ _ h refl refl (b .loop .inv .2))
 
 returns : tie.Need-returns Inv-loop μ-loop
 returns c =

@@ -1,12 +1,12 @@
--- `transpose::transpose` meets its contract: six steps, and the words of the last result fit.
+-- `transpose::transpose` meets its contract: six steps at 64 words, the mask of each by one computed test; and the words of the last result fit.
 -- Assumes nothing.
-use mathlib.Core.Path.{_≡_}
+use mathlib.Core.Path.{_≡_, refl}
 use mir.Syntax.{w64}
 use mir.Val.{Fits}
 use Prim.Native.Nat.{ℕ}
 use lib.ListN.{length, getD}
-use Rattle.transpose.proofs.Transposed.{transposed-is}
-use Rattle.transpose.proofs.Shuffling.{six-steps}
+use Rattle.transpose.proofs.Below.{every}
+use Rattle.transpose.proofs.Shuffling.{maskTest, stage, steps-transposed}
 use borrow.Author.Needs.{needs}
 use Rattle.transpose.proofs.transpose.Statement.{statement}
 use Rattle.transpose.proofs.transpose.Tie as tie
@@ -30,6 +30,7 @@ shuffle-requires-6 : tie.Need-shuffle-requires-6
 shuffle-requires-6 c κs = search needs
 
 returns : tie.Need-returns
+unfolding every maskTest
 returns c =
     let s₁ = c .before .before .before .before .before .shuffle in
     let s₂ = c .before .before .before .before .shuffle2 in
@@ -42,8 +43,14 @@ returns c =
     let lw : length ws ≡ 64 = search (needs, start .good) in
     let lr : length (s₆ .result) ≡ 64 = search needs in
     let fits : (i : ℕ) → Fits w64 (getD (s₆ .result) i 0) = λ i. search needs in
-    transposed-is 64 64 ws (s₆ .result) lw lr (λ i. fits i .fits)
-    (six-steps ws (s₁ .result) (s₂ .result) (s₃ .result) (s₄ .result) (s₅ .result) (s₆ .result) (s₁ .ensures) (s₂ .ensures) (s₃ .ensures) (s₄ .ensures) (s₅ .ensures) (s₆ .ensures))
+    let g₁ = stage 32 _ _ ws (s₁ .result) (s₁ .ensures) tt in
+    let g₂ = stage 32 _ _ (s₁ .result) (s₂ .result) (s₂ .ensures) tt in
+    let g₃ = stage 32 _ _ (s₂ .result) (s₃ .result) (s₃ .ensures) tt in
+    let g₄ = stage 32 _ _ (s₃ .result) (s₄ .result) (s₄ .ensures) tt in
+    let g₅ = stage 32 _ _ (s₄ .result) (s₅ .result) (s₅ .ensures) tt in
+    let g₆ = stage 32 _ _ (s₅ .result) (s₆ .result) (s₆ .ensures) tt in
+    steps-transposed 32 6 ws (s₆ .result) refl lw lr (λ i. fits i .fits)
+    (s₁ .result, (s₂ .result, (s₃ .result, (s₄ .result, (s₅ .result, (s₆ .result, refl, g₆), g₅), g₄), g₃), g₂), g₁)
 
 pub transpose-spec : {M : Type 1} → statement M
 transpose-spec =

@@ -1,4 +1,0 @@
--- The laws of the crate.
-pub mod Shifts
-pub mod Packed
-pub mod Several

@@ -1,3 +1,0 @@
--- The definitions that the contracts of the crate cite.
-pub mod Packed
-pub mod Several

@@ -1,0 +1,3 @@
+-- The laws of the crate.
+pub mod Several
+pub mod Counting
