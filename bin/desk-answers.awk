@@ -105,7 +105,7 @@ function cause(n,  id) {
         return "it is not live" other_kinds()
     }
     if (n == 8) {
-        return "no room for it, the base list is full; a table with more buckets has more room"
+        return "no room for it, the base list is full; open a table with a bucket for each 50 identifiers, 3 at level 1 to 2 at level 2"
     }
     if (n == 14) {
         return "plan 255 is given to no identifier: it means \"call the desk\""

@@ -107,7 +107,7 @@ static void say_cause(uint64_t cause, uint64_t value)
         fprintf(stderr, "identifier was given before, with plan %" PRIu64 " (capitals make no difference)\n", value);
         break;
     case LIMGOSHI_FULL:
-        fprintf(stderr, "no room: the table needs more buckets\n");
+        fprintf(stderr, "no room: take a bucket for each 50 cards, 3 at level 1 (B1) to 2 at level 2 (B2)\n");
         break;
     default:
         fprintf(stderr, "turned down with cause %" PRIu64 ", value %" PRIu64 "\n", cause, value);

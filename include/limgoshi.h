@@ -7,6 +7,10 @@
  * a plan of its own. Tables and planes made before there were kinds hold other words. Nothing in them shows that and no call turns them down for it:
  * make them anew from the identifiers and their kinds.
  *
+ * Bytes. A kind and a plan are bytes. C and C++ cut any larger number to its lowest 8 bits before the call sees it, and no cause tells that they did: an
+ * int of 300 is plan 44, one of 258 is kind 2. gcc and clang warn of such a constant, but of a variable only with -Wconversion, not with -Wall -Wextra:
+ * compile with -Wconversion. A cast silences the warning and cuts all the same: test the range before it.
+ *
  * Buffers. Any bytes may be handed in as identifier, table, plane, patch or output. Nothing is kept between calls. A pointer whose length is 0 may
  * be NULL; value may not. The buffers of one call must not overlap, and value must not point into one of them.
  *
@@ -20,6 +24,10 @@
  * present-day processor; where there are two, for the smallest and the largest table. */
 #ifndef LIMGOSHI_H
 #define LIMGOSHI_H
+
+#if !defined __x86_64__ || !defined __linux__ || defined __ILP32__
+#error "limgoshi.h: x86-64 Linux only, with 64-bit pointers (not x32): the library is built for no other target"
+#endif
 
 #include <stddef.h>
 #include <stdint.h>
@@ -93,31 +101,34 @@ enum {
 #define LIMGOSHI_ANSWER uint64_t
 #endif
 
-/* Opens an empty table with b1 and b2 buckets in a buffer of LIMGOSHI_TABLE_NUMBERS(b1, b2) numbers, whatever these were.
+/* Opens an empty table with b1 and b2 buckets in a buffer of LIMGOSHI_TABLE_NUMBERS(b1, b2) numbers, whatever these were. Take a bucket
+ * for each 50 identifiers, or each 40 where many come and go, 3 of level 1 to 2 of level 2 (README.md, Limits): the numbers are fixed from then on.
  * Value: 0. Causes: 3, 4 (for another length alone). Time: 0.1 to 1 microseconds. Stack: LIMGOSHI_STACK. */
 LIMGOSHI_ANSWER limgoshi_open(uint64_t *table, size_t table_len, uint64_t b1, uint64_t b2, uint64_t *value);
 
-/* Adds an identifier with its plan, 0 to 254.
+/* Adds an identifier with its plan, 0 to 254. Kind and plan are bytes: a larger number is cut before the call sees it.
  * Value: the number of live identifiers. Causes: 15, 1, 2, 14, 4, 5, 6, 8. Time: 5 to 200 microseconds. Stack: LIMGOSHI_STACK_ADD. */
 LIMGOSHI_ANSWER limgoshi_add(uint64_t *table, size_t table_len, uint8_t kind, const uint8_t *id, size_t id_len, uint8_t plan,
                              uint64_t *value);
 
-/* Changes the plan of a live identifier, to 0 to 254.
+/* Changes the plan of a live identifier, to 0 to 254. Kind and plan are bytes: a larger number is cut before the call sees it.
  * Value: the earlier plan. Causes: 15, 1, 2, 14, 4, 5, 7. Time: 5 to 200 microseconds. Stack: LIMGOSHI_STACK. */
 LIMGOSHI_ANSWER limgoshi_change(uint64_t *table, size_t table_len, uint8_t kind, const uint8_t *id, size_t id_len, uint8_t plan,
                                 uint64_t *value);
 
-/* Withdraws a live identifier. Planes written from then on do not depend on the plan that it had; see limgoshi_plane_lookup.
+/* Withdraws a live identifier. Planes written from then on do not depend on the plan that it had; see limgoshi_plane_lookup. The kind is a byte: a
+ * larger number is cut before the call sees it.
  * Value: the earlier plan. Causes: 15, 1, 2, 4, 5, 7. Time: 5 to 200 microseconds. Stack: LIMGOSHI_STACK. */
 LIMGOSHI_ANSWER limgoshi_withdraw(uint64_t *table, size_t table_len, uint8_t kind, const uint8_t *id, size_t id_len, uint64_t *value);
 
-/* Finds the plan of a live identifier.
+/* Finds the plan of a live identifier. The kind is a byte: a larger number is cut before the call sees it.
  * Value: the plan. Causes: 15, 1, 2, 4, 5, 7. Time: 5 to 200 microseconds. Stack: LIMGOSHI_STACK. */
 LIMGOSHI_ANSWER limgoshi_query(const uint64_t *table, size_t table_len, uint8_t kind, const uint8_t *id, size_t id_len, uint64_t *value);
 
 /* Reads how many live identifiers have a plan, from the totals that the table keeps. Only the table's length and bucket numbers are tested: of a table
  * that is not sound the answer is the number that stands there, right or wrong. To have the table tested, make any call that has cause 5, as
  * limgoshi_query for an identifier, live or not. Any plan may be asked for: of a sound table the answer for LIMGOSHI_CALL_THE_DESK is 0.
+ * The plan is a byte: a larger number is cut before the call sees it.
  * Value: the number of live identifiers with that plan. Causes: 4. Time: some nanoseconds. Stack: LIMGOSHI_STACK_LOOKUP. */
 LIMGOSHI_ANSWER limgoshi_plan_total(const uint64_t *table, size_t table_len, uint8_t plan, uint64_t *value);
 
@@ -127,7 +138,7 @@ LIMGOSHI_ANSWER limgoshi_write_plane(const uint64_t *table, size_t table_len, ui
 
 /* Finds the plan that a plane gives an identifier: to a live one its plan, to any other LIMGOSHI_CALL_THE_DESK, or some number where a bucket holds
  * it: the XOR of the plans of some live identifiers of that bucket, 0 if of none. So a withdrawn one may get a plan, by chance its former one, and
- * cannot be told from a live one. The whole plane is checked at each call.
+ * cannot be told from a live one. The whole plane is checked at each call. The kind is a byte: a larger number is cut before the call sees it.
  * Value: the plan. Causes: 15, 1, 2, 10. Time: 0.1 microseconds. Stack: LIMGOSHI_STACK_LOOKUP. */
 LIMGOSHI_ANSWER limgoshi_plane_lookup(uint8_t kind, const uint8_t *id, size_t id_len, const uint8_t *plane, size_t plane_len, uint64_t *value);
 

@@ -1,4 +1,4 @@
--- The causes of a call, in the order of document 01's table, and the answer that they settle: that of the first one met.
+-- The causes of a call, in the order in which they are tested, and the answer that they settle: that of the first one met.
 -- Assumes nothing.
 use Prim.Native.Nat.{ℕ, _<_}
 use mathlib.Core.Path.{_≡_}

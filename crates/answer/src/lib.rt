@@ -2,7 +2,6 @@
 // Definitions: specs/Numbers.antt, the number and value of each case by documents 01 and 02; specs/Causes.antt, a list of causes and the first of them
 // that is met. Laws: proofs/Determined.antt, proofs/Causes.antt.
 // A later order's cause gets its case, number and value here; it is tested by the call that can meet it, and stated and proved there too.
-// Cites lists; every crate with a call cites it.
 ghost use mathlib.Core.Path.{_≡_};
 ghost use Rattle.answer.specs.Numbers.{numberOf, valueOf};
 

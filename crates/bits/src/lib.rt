@@ -1,5 +1,5 @@
 // Code on words of bits that the elimination and the bucket share: a power of two, an XOR under a condition, the unit vectors.
-// Each is an equation with a definition of gf2; contracts name the width by specs/Width.antt. Cites gf2; the crates of one bucket cite it.
+// Each is an equation with a definition of gf2; contracts name the width by specs/Width.antt.
 ghost use mathlib.Core.Path.{_≡_};
 ghost use Prim.Native.Nat.{_^_, _<_};
 ghost use Rattle.gf2.specs.Vectors.{flipIf, units};

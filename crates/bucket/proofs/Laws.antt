@@ -91,7 +91,7 @@ module _ (n k : ℕ) (b : Bucket) (hl : live n k b ≡ true) where
       eqb→eq p (2 ^ i) (and-l (eqb p (2 ^ i)) (eqb (bit i (b .mark)) 1) (true→T hl)) ∙ ap (λ (x : ℕ). 2 ^ x) (sym (cond-true i n hl))
 
   pub row-lt : length (b .cols) ≡ n → rowOf n k b < n
-  unfolding rowOf
+  unfolding live rowOf
   row-lt h =
       let p : ℕ = product (b .cols) k in
       subst (λ (x : ℕ). x < n) (sym (cond-true (trailingZeros n p) n hl))
@@ -108,7 +108,7 @@ module _ (n k : ℕ) (b : Bucket) (hl : live n k b ≡ true) where
 module _ (n k : ℕ) (b : Bucket) (h : length (b .cols) ≡ n) where
   -- no row where k is not live
   not-live : live n k b ≡ false → rowOf n k b ≡ n
-  unfolding rowOf
+  unfolding live rowOf
   not-live e = cond-false (trailingZeros n (product (b .cols) k)) n e
 
   -- k is live exactly when its row is one of the rows

@@ -46,7 +46,7 @@ live n k b = liveBy n (product (b .cols) k) (b .mark)
 
 -- the row of a live k; n where k is not live
 unfoldable pub rowOf : ℕ → ℕ → Bucket → ℕ
-rowOf n k b = cond (live n k b) (trailingZeros n (product (b .cols) k)) n
+rowOf n k b = rowBy n (product (b .cols) k) (b .mark)
 
 -- bit c of the plan is the parity of (k AND solution word c)
 abbrev pub lookup : Bucket → ℕ → ℕ

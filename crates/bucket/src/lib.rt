@@ -3,7 +3,6 @@
 // at every number of rows and of solution words; proofs/Steps.antt has what the steps keep (K and its inverse, live vectors, plans),
 // proofs/Answers.antt what a bucket answers to any vector, proofs/Laws.antt an add and a withdrawal by product and row. The step on the
 // columns gets a row and a product, and no vector. A withdrawal is made on a bucket's words alone: bucket_words.
-// Cites gf2 (vectors), lists and bits. bucket_words, bucket_settle, model and table build on it.
 ghost use mathlib.Core.Path.{_≡_};
 ghost use Prim.Native.Nat.{_*_, _/_, _<_, _≤_, _^_};
 ghost use lib.Count.{trailingZeros};

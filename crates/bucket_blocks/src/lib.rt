@@ -1,6 +1,5 @@
 // K's rows from the columns of its inverse, by a guess that is tested: elimination of eight columns at a time, on words in pairs (crate bucket_pairs). Of
 // pivots and tables nothing is proved but that they are sums of pairs: at the end the left words are tested.
-// Cites gf2, bits, transpose and bucket_pairs; bucket_rows cites it.
 use bits::WIDTH;
 use bucket_pairs::Guess;
 use bucket_pairs::ROOM;

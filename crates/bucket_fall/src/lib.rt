@@ -1,7 +1,6 @@
 // The fall of a bucket's bound: a word that depends in one bucket comes to it, the bound falls while it depends, and the words that leave go
 // one level further. The definition is `settle` of bucket_settle; specs/Settled.antt has its result as the code keeps it.
 // Law: proofs/Run.antt (the words that have left so far, ahead of what is to come, are the whole settlement).
-// Cites lists, identifier (thresholds), bucket and bucket_settle (the definition, the words that leave). table_arrive and table_add build on it.
 use bucket::Bucket;
 use bucket::Tried;
 use bucket_settle::Outgoing;

@@ -1,7 +1,6 @@
 // Words in pairs, the left one the product of the right one: what is XORed of them, and what is read off them at the end. Where the left words are the
 // units, the right ones are K's rows; where one is 0 and its right word is not, there is no K. The contracts are equations (specs/Pairs.antt). Pairs are
 // XORed and moved, and nothing else, so the left words stay the products, whichever pairs are chosen: proofs/Swept.antt and proofs/Read.antt say so.
-// Cites gf2, bits and transpose; bucket_blocks and bucket_rows cite it.
 use bits::WIDTH;
 ghost use mathlib.Core.Path.{_≡_};
 ghost use Prim.Native.Nat.{_+_, _*_, _≤_, _<_};

@@ -2,7 +2,6 @@
 // guess; where it says nothing, and where few rows are occupied, the elimination column by column decides, without counting ones.
 // The rows that the mark does not name must be units; their columns need no pass, and an empty bucket none at all.
 // The contract is an equation (`soundRows`); proofs/Exact.antt says that it is exact both ways.
-// Cites gf2, bits and bucket_blocks. bucket_settle, table_rows and table_sound cite it.
 use bits::WIDTH;
 ghost use mathlib.Core.Path.{_≡_};
 ghost use mathlib.Core.Bool.{true};

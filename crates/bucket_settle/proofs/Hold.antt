@@ -189,7 +189,7 @@ module _ {n r : ℕ} {b : Bucket} {rows : List Entry} (h : Holds n r b rows) whe
     is-live = live-elem k l ∙ T→true _ (find-elem k p rows f)
 
     row-is : rowOf n k b ≡ at
-    unfolding rowOf
+    unfolding live rowOf
     row-is = cond-true (trailingZeros n (product (b .cols) k)) n is-live ∙ found-row
 
     withdraw-is : withdraw n k b ≡ record { done = true; bucket = withdrawAt n at k b }

@@ -3,8 +3,6 @@
 // them. The code finds those of one bound, in order, and withdraws them; the fall itself is bucket_fall's.
 // Laws: proofs/Hold.antt (what a bucket holds, as a list of entries), proofs/Settling.antt (where the bound comes to stand, who stays and
 // who leaves), proofs/Sound.antt (`settle-meaning`; the bucket stays sound).
-// Cites gf2, lists, identifier (thresholds), bucket_rows (the rows of K), bucket and bucket_words. bucket_fall, table and what works on tables
-// build on it.
 use bucket::Bucket;
 use identifier::threshold;
 ghost use mathlib.Core.Path.{_≡_};

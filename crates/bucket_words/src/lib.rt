@@ -3,7 +3,6 @@
 // Definitions: specs/Words.antt, at every number of rows and of solution words. Laws: proofs/Words.antt (there and back),
 // proofs/Parts.antt (what each write of columns, mark and solutions leaves) and proofs/OnWords.antt (the bucket after an add, after a
 // withdrawal).
-// Cites bucket, gf2, lists and bits; bucket_settle, table, table_layout and what works on tables build on it.
 use bucket::Bucket;
 ghost use mathlib.Core.Path.{_≡_};
 ghost use lib.ListN.{length, getD};

@@ -2,7 +2,6 @@
 // Definitions: specs/Bytes.antt and specs/Parts.antt. Laws: proofs/Round.antt (numbers and their bytes, both ways, for any
 // number of bytes) and proofs/Part.antt (what a written part leaves of the rest, for lists of bytes and of words alike).
 // No function asks that the place lies within the slice: what lies past the end is not read and not written.
-// Cites nothing of the project; plane, plane_write, the crates of patches, lines_text, lines_open, lines_run and run_probe cite it.
 ghost use mathlib.Core.Path.{_≡_};
 ghost use Prim.Native.Nat.{_+_, _*_, _%_, _^_, _≤_, _<_};
 ghost use lib.ListN.{length, take};

@@ -1,8 +1,6 @@
 // Hashing: FNV-1a 64 over bytes, S (the SplitMix64 output step) and the inverse of S, all modulo 2^64.
 // Definitions: specs/Mix.antt and specs/Fnv.antt, in document 01's words. Laws: proofs/Inverse.antt (each of S and its
 // inverse undoes the other, so S is one to one), proofs/FnvLaws.antt and proofs/FnvOne.antt (FNV is one to one in its first byte).
-// Cites gf2 (the laws of XOR). identifier cites it for the word of an identifier and the places of a word, the crates of
-// patches for the sums of planes.
 ghost use mathlib.Core.Path.{_≡_};
 ghost use Prim.Native.Nat.{_*_, _%_, _^_, _<_};
 ghost use Rattle.hash.specs.Mix.{xorShift, unXorShift, mixOf, unmixOf};

@@ -3,7 +3,6 @@
 // Laws: proofs/Folding.antt (what folding changes), proofs/Causes.antt (each cause is given if and only if it is the first met),
 // proofs/Words.antt (either case of a letter gives the same word, the same letters under two kinds give two, the vector at level 2
 // determines the word).
-// Cites answer (the causes) and hash (the word). table_calls, table_add and plane cite it.
 mod fold;
 
 use answer::Answer;

@@ -1,47 +1,53 @@
 -- The three statements, over the definitions that the contracts of the entries cite: `openCall`, `call`, `totalCall`, `writeCall`, `lookupCall`, `makeCall`, `applyCall`. Each theorem stands
 -- under the words that it is for; the crates named prove it. docs/READING.md lists the definitions that it takes to read this file.
 -- Assumes nothing.
-use Prim.Native.Nat.{ℕ, _^_, _≤_, _<_}
-use mathlib.Core.Path.{_≡_, refl, sym, ap, _∙_}
+use Prim.Native.Nat.{ℕ, suc, _+_, _*_, _^_, _≤_, _<_}
+use mathlib.Core.Path.{_≡_, refl, sym, ap, ap₂, _∙_, subst⁻¹}
 use mathlib.Core.Bool.{true, false}
-use mathlib.Core.Logic.{_⊎_, _↔_}
+use mathlib.Core.Logic.{_⊎_, ⊎-elim, _↔_}
 use mathlib.Core.Option.{none, some}
 use mathlib.Core.List.{List, [], _∷_, _++_}
 use native.Mathlib.Omega.{arith}
-use lib.ListN.{length, getD, take}
-use borrow.Author.Tests.{ltb-true, ltb-false, le-ltb}
+use lib.ListN.{length, getD, take, drop}
+use lib.Dec.{leb}
+use borrow.Author.Tests.{leb-true, ltb-true, ltb-false, le-ltb}
+use Rattle.lists.proofs.Tests.{cases, and-one, and-two}
 use Rattle.lists.specs.Entries.{planLimit, deskPlan, assignable, words, find}
 use Rattle.lists.specs.Totals.{planCount}
-use Rattle.gf2.specs.Vectors.{Clear}
+use Rattle.gf2.specs.Vectors.{product, combine, Inverse, Clear}
 use Rattle.gf2.specs.Bound.{Largest}
+use Rattle.gf2.proofs.Depend.{forth}
 use Rattle.hash.specs.Mix.{mixOf, unmixOf}
+use Rattle.hash.specs.Fnv.{fnvOf}
 use Rattle.answer.specs.declared.Answer.{Answer}
 use Rattle.answer.specs.declared.Answer.the-variants.{Accepted, WrongLength, WrongByte, WrongBuckets, WrongTable, NotSound, Live, NotLive, Full, ShortOutput, WrongPlane, UnlikePlanes, WrongPatch, WrongSum, DeskPlanGiven, WrongKind}
 use Rattle.answer.specs.Numbers.{numberOf, valueOf}
 use Rattle.answer.specs.Causes.{Exactly}
-use Rattle.answer.proofs.Causes.{test-apart, number-exactly}
-use Rattle.identifier.specs.Identifier.{Token, idBytes, wordOf, readOf, onlyCase}
+use Rattle.answer.proofs.Causes.{test-apart, number-exactly, accepted-exactly}
+use Rattle.identifier.specs.Identifier.{between, Token, idBytes, wordOf, readOf, withPlan, onlyCase}
 use Rattle.identifier.specs.Causes.{wrongKind, wrongLength, wrongByte, idCauses, wordAnswer}
 use Rattle.identifier.specs.Place.{secondOf}
 use Rattle.identifier.specs.declared.Read.the-variants.{Word}
-use Rattle.identifier.proofs.Causes.{OfIdentifier, read-exactly}
+use Rattle.identifier.proofs.Causes.{OfIdentifier, range-exactly, read-exactly, read-word}
 use Rattle.identifier.proofs.Words as Words
 use Rattle.identifier.proofs.Words.{read-case, kinds-differ}
 use Rattle.bucket.specs.declared.Bucket.{Bucket}
-use Rattle.bucket.specs.Bucket.{lookup}
-use Rattle.bucket.specs.Answers.{liveIn}
+use Rattle.bucket.specs.Bucket.{Sound, lookup}
+use Rattle.bucket.specs.Answers.{liveIn, combined}
+use Rattle.bucket.proofs.Answers as Bucket
 use Rattle.model.specs.Levels.{firstLevel, secondLevel, passed, due}
-use Rattle.model.specs.Model.{baseLimit, Call, add, change, withdraw, query, wouldLeave, base}
+use Rattle.model.specs.Model.{Call, opened, add, change, withdraw, query, wouldLeave, base}
 use Rattle.model.specs.Request.{subject, wordFor, Request, ask}
-use Rattle.model.specs.Machine.{accepted, after, Alike}
-use Rattle.model.specs.History.{told}
+use Rattle.model.specs.Machine.{accepted, after, answers, Alike}
+use Rattle.model.specs.History.{model, addsIn, withdrawalsIn, told}
 use Rattle.model.proofs.Others.{told-other}
 use Rattle.table.specs.Table as T
 use Rattle.table.specs.Table.{nth, bucketOf}
+use Rattle.table.specs.Layout.{buckets1At, buckets2At, liveCountAt}
 use Rattle.table.specs.Answers.{Answered}
 use Rattle.table.specs.Calls.{rows, solutions, tableOf, planIn, shaped, FlatSound, openCall, queried, call, totalCall}
 use Rattle.table.specs.History.{tables, Opened, acceptedCalls, LiveWith, flatState, Same}
-use Rattle.table.specs.Causes.{openCauses, openReturns, callCauses, callReturns, totalCauses, totalReturns}
+use Rattle.table.specs.Causes.{openCauses, openReturns, callCauses, soundCauses, callReturns, totalCauses, totalReturns}
 use Rattle.table.proofs.Statements as Table
 use Rattle.plane.specs.declared.Wrong.the-variants.{Nowhere}
 use Rattle.plane.specs.Record.{format1}
@@ -50,14 +56,21 @@ use Rattle.plane.specs.Lookup.{holds, lookupCall}
 use Rattle.plane.specs.Causes.{lookupCauses, lookupReturns}
 use Rattle.plane.proofs.Causes as PlaneCauses
 use Rattle.plane.proofs.Desk.{stranger-answer}
-use Rattle.plane_write.specs.Write.{putFront, writeCall, shownTo}
+use Rattle.plane_write.specs.Write.{Written, putFront, writeCall, shownTo}
 use Rattle.plane_write.specs.Causes.{writeCauses, writeReturns}
+use Rattle.plane_write.proofs.Accepted.{was-written, front-room}
 use Rattle.plane_write.proofs.Statements as Plane
-use Rattle.patch.specs.Calls.{makeCall, applyCall}
+use Rattle.patch.specs.Patch.{patchBytes, patchOf}
+use Rattle.patch.specs.Wrong.{patchFrom}
+use Rattle.patch.specs.Calls.{alike, makeCall, applyCall}
 use Rattle.patch.specs.Causes.{makeCauses, makeReturns, applyCauses, applyReturns}
 use Rattle.patch.proofs.Causes as Patch
-use Rattle.patch.proofs.Calls.{make-refused, apply-refused}
-use Rattle.patch_make.specs.After.{planeAfter}
+use Rattle.patch.proofs.Longest.{made-most}
+use Rattle.patch.proofs.Statements.{make-made}
+use Rattle.patch.proofs.Calls as Calls
+use Rattle.patch.proofs.Calls.{make-refused, apply-refused, made, done}
+use Rattle.patch_make.specs.After.{planeIn, planeAfter}
+use Rattle.patch_make.proofs.Costs.{change-costs, same-costs, change-length, change-room}
 use Rattle.patch_make.proofs.Lists.{list-follows, list-new, plane-tells}
 
 -- ---- statement 1: "Any bytes as identifier, table or plane are answered or turned down by a number of document 01's table, without fault", and any
@@ -123,6 +136,17 @@ make-keeps p q out = make-refused out p q
 pub apply-keeps : (p d out : List ℕ) → accepted (applyCall p d out .answer) ≡ false → applyCall p d out .output ≡ out
 apply-keeps p d out = apply-refused out p d
 
+-- "output past it is untouched": an accepted call of the writer, of making or of applying returns n, the output has n bytes or more, and those past the
+-- first n are what they were
+pub write-past : (t out : List ℕ) (n : ℕ) → writeCall t out .answer ≡ Accepted n → (n ≤ length out) × (drop n (writeCall t out .output) ≡ drop n out)
+write-past t out n e = let h = was-written t out n e in (h .room, h .rest)
+
+pub make-past : (p q out : List ℕ) (n : ℕ) → makeCall p q out .answer ≡ Accepted n → (n ≤ length out) × (drop n (makeCall p q out .output) ≡ drop n out)
+make-past p q out n e = let h = made p q out n e .patch in (h .room, h .rest)
+
+pub apply-past : (p d out : List ℕ) (n : ℕ) → applyCall p d out .answer ≡ Accepted n → (n ≤ length out) × (drop n (applyCall p d out .output) ≡ drop n out)
+apply-past p d out n e = let h = done p d out n e .plane in (h .room, h .rest)
+
 -- ---- statement 2: t is what an accepted opening left, ps any calls since, refused ones included
 
 module _ (t : List ℕ) (o : Opened t) (ps : List Request) where
@@ -130,6 +154,32 @@ module _ (t : List ℕ) (o : Opened t) (ps : List Request) where
   -- other word"
   pub plan-from-table : (i : Token) (w : ℕ) → wordFor (query i) ≡ Word w → call (after tables t ps) (query i) ≡ queried (after tables t ps) (told w (acceptedCalls t ps))
   plan-from-table = Table.query-tells t o ps
+
+  -- "So the opening and these calls alone settle every answer and bound": they are those of the model, which has the bucket numbers, live words, plans and
+  -- bounds, and no matrix
+  pub settles : (answers tables t ps ≡ answers model (opened (o .size)) ps) × (flatState (after tables t ps) ≡ after model (opened (o .size)) ps)
+  settles = Table.settles t o ps
+
+  -- "the table itself never gives cause 4 or 5 in a list": after any calls it is sound
+  pub always-sound : (shaped (after tables t ps) ≡ true) × FlatSound (after tables t ps)
+  always-sound = let h = Table.always-sound t o ps in (h .0, h .2)
+
+  pub never-4-5 : (c : Call Token) → (numberOf (call (after tables t ps) c .answer) ≡ 4 → ⊥) × (numberOf (call (after tables t ps) c .answer) ≡ 5 → ⊥)
+  never-4-5 c = Table.never-4-5 t o ps (ask c)
+
+  -- "The live count equals accepted adds less accepted withdrawals since opening": the one that the table holds
+  pub count : getD (after tables t ps) liveCountAt 0 + withdrawalsIn (acceptedCalls t ps) ≡ addsIn (acceptedCalls t ps)
+  count = Table.count t o ps
+
+  -- and the one that an accepted add returns, with which it counts itself
+  pub add-counts : (i : Token) (p n : ℕ) → call (after tables t ps) (add i p) .answer ≡ Accepted n → n + withdrawalsIn (acceptedCalls t ps) ≡ suc (addsIn (acceptedCalls t ps))
+  add-counts i p n e =
+      let u : List ℕ = after tables t ps in
+      let x = accepted-exactly (soundCauses u (add i p)) (callReturns u (add i p)) (call u (add i p) .answer) (test-apart (soundCauses u (add i p)) refl) (Table.list-causes t o ps (add i p)) n in
+      let r : n ≡ suc (length (flatState u .live)) = x .0 (ap numberOf e, ap valueOf e) .1 in
+      let l = Table.live-count u (always-sound .0) (always-sound .1) in
+      let c = count in
+      omega arith
 
   module _ (out : List ℕ) (n : ℕ) (e : writeCall (after tables t ps) out .answer ≡ Accepted n) where
     -- "and from the plane": n bytes were written
@@ -150,6 +200,14 @@ head-count = Table.total-told
 -- any sound table, also one handed in from elsewhere: its live words are those of its occupied rows and base entries
 pub head-count-sound : (t : List ℕ) → shaped t ≡ true → FlatSound t → (p : ℕ) → p < planLimit → totalCall t p ≡ Accepted (planCount p (flatState t .live))
 head-count-sound = Table.total-exact
+
+-- "its length is 4 + 256 + 74 × buckets + 128", for all bucket numbers: no other length is accepted by an opening, nor by a call (`shaped`: cause 4 is not
+-- met; `buckets1At`, `buckets2At`: the first two numbers)
+pub opened-length : (b1 b2 : ℕ) (t : List ℕ) → openCall b1 b2 t .answer ≡ Accepted 0 → length t ≡ 4 + 256 + 74 * (b1 + b2) + 128
+opened-length = Table.opened-length
+
+pub table-length : (t : List ℕ) → shaped t ≡ true → length t ≡ 4 + 256 + 74 * (getD t buckets1At 0 + getD t buckets2At 0) + 128
+table-length = Table.table-length
 
 -- ---- strangers, document 02, order 3: plan 255 means "call the desk" (`deskPlan`; `assignable`: below it)
 
@@ -208,6 +266,19 @@ kind-15 i =
     let e = number-exactly [] (wrongKind i) (wrongLength i ∷ wrongByte i ∷ []) (λ v. v ≡ wordOf i) (wordAnswer (readOf i)) (test-apart (idCauses i) refl) (read-exactly i) in
     (λ n. e (valueOf (wordAnswer (readOf i))) .0 (n, refl) .1 .0, λ m. e 0 .1 (tt, (m, refl)) .0)
 
+-- a number that is not found out of range is in it
+in-range : (k : ℕ) → (between 1 7 k ≡ false → ⊥) → (0 < k) × (k ≤ 7)
+in-range k n = cases (between 1 7 k) (λ t. (leb-true 1 k (and-one (leb 1 k) (leb k 7) t), leb-true k 7 (and-two (leb 1 k) (leb k 7) t))) (λ f. absurd (n f))
+
+-- "The limit in cause 1 becomes 36 bytes": 1 is given exactly if the kind is 1 to 7 and the length 0 or over 36
+pub length-36 : (i : Token) → (numberOf (wordAnswer (readOf i)) ≡ 1) ↔ (((0 < i .kind) × (i .kind ≤ 7)) × ((i .stated ≡ 0) ⊎ (36 < i .stated)))
+length-36 i =
+    let e = number-exactly (wrongKind i ∷ []) (wrongLength i) (wrongByte i ∷ []) (λ v. v ≡ wordOf i) (wordAnswer (readOf i)) (test-apart (idCauses i) refl) (read-exactly i) in
+    let kind = range-exactly 7 (i .kind) in (
+      λ n. let h = e (valueOf (wordAnswer (readOf i))) .0 (n, refl) in (in-range (i .kind) (λ f. h .0 .0 0 (kind .0 f, refl)), h .1 .0),
+      λ m. e (i .stated) .1 ((λ v r. ⊎-elim (λ z. omega (arith, m .0)) (λ z. omega (arith, m .0)) (r .0), tt), (m .1, refl)) .0,
+    )
+
 -- case makes no difference within a kind
 pub case-alike : (i j : Token) → i .kind ≡ j .kind → i .stated ≡ j .stated → onlyCase (idBytes i) (idBytes j) ≡ true → readOf i ≡ readOf j
 case-alike = read-case
@@ -221,9 +292,27 @@ module _ (i j : Token) (v w : ℕ) (read-i : readOf i ≡ Word v) (read-j : read
   pub two-words : v ≡ w → ⊥
   two-words = kinds-differ i j v w read-i read-j letters kinds
 
-  -- and a call for the one may be left out of what the accepted calls tell of the other, so of what table, plane and post give it
+  -- and an accepted call for the one may be left out of what a list of accepted calls tells of the other
   pub two-plans : (c : Call ℕ) → subject c ≡ v → (before later : List (Call ℕ)) → told w (before ++ (c ∷ later)) ≡ told w (before ++ later)
   two-plans c s before later = told-other w c later (λ e. two-words (sym s ∙ sym e)) before
+
+  -- in any sound table, so after any list of calls: c is a call for i, accepted or not
+  module _ (t : List ℕ) (k : shaped t ≡ true) (h : FlatSound t) (c : Call Token) (for : subject c ≡ i) where
+    apart : w ≡ wordOf (subject c) → ⊥
+    apart e = two-words (read-word i v .0 read-i .3 ∙ ap wordOf (sym for) ∙ sym e)
+
+    -- it changes nothing of what a query says of j
+    pub other-query : call (call t c .table) (query j) .answer ≡ call t (query j) .answer
+    other-query = Table.other-query t k h c j w (ap (withPlan true) read-j) apart
+
+    -- nor of what the plane gives j while j is live: its plan, in the plane written before c and in the one written after. (Where j is not live, the
+    -- one may give j another number than the other)
+    module _ (p : ℕ) (live : planIn t w ≡ some p) (out : List ℕ) (n : ℕ) where
+      pub plane-before : writeCall t out .answer ≡ Accepted n → lookupCall j (take n (writeCall t out .output)) ≡ Accepted p
+      plane-before e = Plane.live-plan t out n e h j w p read-j live
+
+      pub plane-after : writeCall (call t c .table) out .answer ≡ Accepted n → lookupCall j (take n (writeCall (call t c .table) out .output)) ≡ Accepted p
+      plane-after = Plane.other-plane t k h c j w p read-j apart live out n
 
 -- ---- lost cards, document 02, order 6: what a plane gives an identifier that is live no more, or never was
 
@@ -239,6 +328,14 @@ pub free-rows : (t : List ℕ) → shaped t ≡ true → FlatSound t
     × ((i : ℕ) → i < length (tableOf t .level2) → Clear (nth rows solutions (tableOf t .level2) i .mark) (nth rows solutions (tableOf t .level2) i .sols))
 free-rows = Table.free-rows-clear
 
+-- "in its combination of K's rows", for n rows: the product of a vector chooses rows of K that XOR to it (`combine`), and no other choice does
+pub one-combination : (n : ℕ) (K cs : List ℕ) → Inverse n K cs → (v : ℕ) → v < 2 ^ n → (combine K (product cs v) ≡ v) × ((p : ℕ) → p < 2 ^ n → combine K p ≡ v → p ≡ product cs v)
+one-combination n K cs inv v l = (inv .back v l, λ p m e. sym (forth n K cs inv p m) ∙ ap (product cs) e)
+
+-- "A bucket then answers any vector with the XOR of the plans of the live vectors in its combination of K's rows" (`combined`)
+pub answers-combined : (n : ℕ) (K : List ℕ) (b : Bucket) → Sound n K b → (v : ℕ) → v < 2 ^ n → lookup b v ≡ combined K b v
+answers-combined = Bucket.answers-combined
+
 module _ (t : List ℕ) (o : Opened t) (ps : List Request) (out : List ℕ) (n : ℕ) (e : writeCall (after tables t ps) out .answer ≡ Accepted n) (id : Token) (w : ℕ) (i : readOf id ≡ Word w) where
   -- the bucket of the word at level 1, and at level 2 by w'
   abbrev first : Bucket
@@ -247,8 +344,7 @@ module _ (t : List ℕ) (o : Opened t) (ps : List Request) (out : List ℕ) (n :
   abbrev second : Bucket
   second = bucketOf rows solutions mixOf (tableOf (after tables t ps) .level2) (secondOf w)
 
-  -- "A bucket then answers any vector with the XOR of the plans of the live vectors in its combination of K's rows" (`Answered`: the last accepted
-  -- plans of live words): where level 1 holds the word
+  -- so does the plane, and the plans are the last accepted ones of live words (`Answered`): where level 1 holds the word
   pub answer-first : T.holds rows solutions mixOf (tableOf (after tables t ps) .level1) w ≡ true
       → (lookupCall id (take n (writeCall (after tables t ps) out .output)) ≡ Accepted (lookup first w)) × Answered rows (λ v. told v (acceptedCalls t ps)) first w (lookup first w)
   answer-first = Plane.plane-first t o ps out n e id w i
@@ -268,9 +364,58 @@ module _ (t : List ℕ) (o : Opened t) (ps : List Request) (out : List ℕ) (n :
       → liveIn second (secondOf w) ≡ 0 → lookupCall id (take n (writeCall (after tables t ps) out .output)) ≡ Accepted 0
   lost-second = Plane.plane-second-none t o ps out n e id w i
 
--- ---- patches, document 02, order 1: a post that has the plane after the calls ps and applies the patch to the plane after the calls qs, of the same
--- opening (qs may begin with ps), has that plane and answers by it
+-- ---- patches, document 02, order 1
 
+-- any two planes that are right and have equal bucket numbers (`alike`); a plane is bytes, as every `&[u8]`
+module _ (p q : List ℕ) (bytes-p : (i : ℕ) → getD p i 0 < 256) (bytes-q : (i : ℕ) → getD q i 0 < 256) (right-p : wrongAt format1 p ≡ Nowhere) (right-q : wrongAt format1 q ≡ Nowhere) (like : alike p q ≡ true) where
+  -- "from two planes of equal format and bucket numbers a patch is made": an output of 6,598 bytes is never refused
+  pub make-accepted : (out : List ℕ) → 6598 ≤ length out → accepted (makeCall p q out .answer) ≡ true
+  make-accepted out l =
+      ap (λ (w : Written). accepted (w .answer)) (make-made p q bytes-p bytes-q right-p right-q like out)
+      ∙ ap accepted (front-room (patchBytes format1 (patchOf format1 p q)) out (let m = made-most p q bytes-p bytes-q right-p right-q in omega arith))
+
+  -- "applied to the old plane it gives the new plane": n bytes were made; applying them is refused for nothing but a short output, and gives q
+  pub make-apply : (out : List ℕ) (n : ℕ) → makeCall p q out .answer ≡ Accepted n → (into : List ℕ) → applyCall p (take n (makeCall p q out .output)) into ≡ putFront q into
+  make-apply out n = Calls.make-apply p q out n bytes-p bytes-q
+
+-- whoever made the patch d: an accepted patch leaves a plane that is right, with the sums that d has of the old plane and of the new one
+module _ (p d out : List ℕ) (bytes-p : (i : ℕ) → getD p i 0 < 256) (bytes-d : (i : ℕ) → getD d i 0 < 256) (n : ℕ) (e : applyCall p d out .answer ≡ Accepted n) where
+  pub apply-right : wrongAt format1 (take n (applyCall p d out .output)) ≡ Nowhere
+  apply-right = Calls.apply-right p d out bytes-p bytes-d n e
+
+  pub apply-sums : (fnvOf p ≡ patchFrom format1 d .oldSum) × (fnvOf (take n (applyCall p d out .output)) ≡ patchFrom format1 d .newSum)
+  apply-sums = Calls.apply-sums p d out bytes-p bytes-d n e
+
+-- "Changing one plan costs at most 89 bytes, and 22 if the plan was that already": of any sound table, so after any list of calls. The planes are those
+-- that the writer wrote before the change and after it
+module _ (t : List ℕ) (h : FlatSound t) (id : Token) (p q : ℕ) (e : call t (change id p) .answer ≡ Accepted q)
+    (a b : List ℕ) (i j : ℕ) (before : writeCall t a .answer ≡ Accepted i) (after : writeCall (call t (change id p) .table) b .answer ≡ Accepted j) (out : List ℕ) where
+  abbrev madeOf : Written
+  madeOf = makeCall (take i (writeCall t a .output)) (take j (writeCall (call t (change id p) .table) b .output)) out
+
+  same : madeOf ≡ makeCall (planeIn t) (planeIn (call t (change id p) .table)) out
+  same = ap₂ (λ (x y : List ℕ). makeCall x y out) (was-written t a i before .front) (was-written (call t (change id p) .table) b j after .front)
+
+  pub change-89 : (n : ℕ) → madeOf .answer ≡ Accepted n → n ≤ 89
+  change-89 n f = subst⁻¹ (λ (x : ℕ). x ≤ 89) (change-length t h id p q e out n (ap (λ (w : Written). w .answer) (sym same) ∙ f)) (change-costs t h id p q e)
+
+  -- an output of 89 bytes is never refused
+  pub room-89 : 89 ≤ length out → accepted (madeOf .answer) ≡ true
+  room-89 l = ap (λ (w : Written). accepted (w .answer)) same ∙ change-room t h id p q e out (let m = change-costs t h id p q e in omega arith)
+
+  pub same-22 : p ≡ q → (n : ℕ) → madeOf .answer ≡ Accepted n → n ≡ 22
+  same-22 s n f = change-length t h id p q e out n (ap (λ (w : Written). w .answer) (sym same) ∙ f) ∙ same-costs t h id p q e s
+
+  -- nor one of 22
+  pub room-22 : p ≡ q → 22 ≤ length out → accepted (madeOf .answer) ≡ true
+  room-22 s l = ap (λ (w : Written). accepted (w .answer)) same ∙ change-room t h id p q e out (let m = same-costs t h id p q e s in omega arith)
+
+-- `planeAfter` is what the writer wrote: n bytes
+pub plane-written : (t : List ℕ) (ps : List Request) (out : List ℕ) (n : ℕ) → writeCall (after tables t ps) out .answer ≡ Accepted n → take n (writeCall (after tables t ps) out .output) ≡ planeAfter t ps
+plane-written t ps out n e = was-written (after tables t ps) out n e .front
+
+-- a post that has the plane after the calls ps and applies the patch to the plane after the calls qs, of the same opening (qs may begin with ps), has that
+-- plane and answers by it
 module _ (t : List ℕ) (o : Opened t) (ps qs : List Request) (out : List ℕ) (n : ℕ) (made : makeCall (planeAfter t ps) (planeAfter t qs) out .answer ≡ Accepted n) (into : List ℕ) where
   -- applying what was made meets no cause but 9, and gives the new plane byte for byte
   pub post-follows : applyCall (planeAfter t ps) (take n (makeCall (planeAfter t ps) (planeAfter t qs) out .output)) into ≡ putFront (planeAfter t qs) into
@@ -281,6 +426,20 @@ module _ (t : List ℕ) (o : Opened t) (ps qs : List Request) (out : List ℕ) (
       → (id : Token) (w p : ℕ) → readOf id ≡ Word w → told w (acceptedCalls t qs) ≡ some p
       → lookupCall id (take m (applyCall (planeAfter t ps) (take n (makeCall (planeAfter t ps) (planeAfter t qs) out .output)) into .output)) ≡ Accepted p
   plan-from-post m e id w p i h = ap (lookupCall id) (list-new t o ps qs out n made into m e) ∙ plane-tells t o qs id w p i h
+
+-- depot, patch and post by their calls alone: the depot wrote i bytes after the calls ps and j after qs and made n bytes of patch from them; a post that
+-- has the first plane applied these and got m bytes: the second plane. So it answers as `plan-from-plane` and `plane-as-table` say of qs
+module _ (t : List ℕ) (o : Opened t) (ps qs : List Request) (a b : List ℕ) (i j : ℕ) (first : writeCall (after tables t ps) a .answer ≡ Accepted i) (second : writeCall (after tables t qs) b .answer ≡ Accepted j) where
+  abbrev oldPlane : List ℕ
+  oldPlane = take i (writeCall (after tables t ps) a .output)
+
+  abbrev newPlane : List ℕ
+  newPlane = take j (writeCall (after tables t qs) b .output)
+
+  pub depot-to-post : (out : List ℕ) (n : ℕ) → makeCall oldPlane newPlane out .answer ≡ Accepted n
+      → (into : List ℕ) (m : ℕ) → applyCall oldPlane (take n (makeCall oldPlane newPlane out .output)) into .answer ≡ Accepted m
+      → take m (applyCall oldPlane (take n (makeCall oldPlane newPlane out .output)) into .output) ≡ newPlane
+  depot-to-post = rw (plane-written t ps a i first, plane-written t qs b j second) (λ out n made into m. list-new t o ps qs out n made into m)
 
 -- ---- statement 3
 
@@ -318,5 +477,5 @@ module _ (t : List ℕ) (k : shaped t ≡ true) (h : FlatSound t) (i : Token) (p
 
   -- "An add with no earlier cause is refused as full exactly when, under those bounds, more than 64 words would fall to the base list"
   pub full-exactly : (w : ℕ) → wordFor (add i p) ≡ Word w → find w (flatState t .live) ≡ none
-      → (call t (add i p) .answer ≡ Full) ↔ (baseLimit < length (base firstLevel secondLevel (wouldLeave firstLevel secondLevel (flatState t) (record { word = w; plan = p }))))
+      → (call t (add i p) .answer ≡ Full) ↔ (64 < length (base firstLevel secondLevel (wouldLeave firstLevel secondLevel (flatState t) (record { word = w; plan = p }))))
   full-exactly = Table.full-exactly t k h i p

@@ -1,20 +1,19 @@
 // The library for C and Rust: one entry for each call, over table, plane and patch. Each returns the number of the answer (0: accepted) and puts
 // the number that goes with it into `value`; include/limgoshi.h declares them. No entry has a `requires`; each contract says what every buffer
 // that is handed in holds afterwards.
-// Cites answer, table_open, table_calls, table_add, plane, plane_write, patch_make and patch_apply. Programs in other languages call it.
 ghost use mathlib.Core.Path.{_≡_};
-ghost use Rattle.answer.specs.Numbers.{numberOf, valueOf};
 ghost use Rattle.identifier.specs.Identifier.{token};
 ghost use Rattle.model.specs.Model.{add, change, withdraw, query};
 ghost use Rattle.table.specs.Calls.{openCall, call, totalCall};
 ghost use Rattle.plane.specs.Lookup.{lookupCall};
 ghost use Rattle.plane_write.specs.Write.{writeCall};
 ghost use Rattle.patch.specs.Calls.{makeCall, applyCall};
+ghost use Rattle.limgoshi.specs.Entry.{Gives, GivesTable, GivesOutput};
 
 // Opens an empty table with b1 and b2 buckets.
 #[no_mangle]
 pub extern "C" fn limgoshi_open(t: &mut [u64], b1: u64, b2: u64, value: &mut u64) -> u64
-    ensures { λ r. ⌜ (r ≡ numberOf (openCall b1 b2 (now (t .entry)) .answer)) × (now (value .exit) ≡ valueOf (openCall b1 b2 (now (t .entry)) .answer)) × (now (t .exit) ≡ openCall b1 b2 (now (t .entry)) .table) ⌝ }
+    ensures { λ r. ⌜ GivesTable (openCall b1 b2 (now (t .entry))) r (now (value .exit)) (now (t .exit)) ⌝ }
 {
     let opened = table_open::open(t, b1, b2);
     *value = answer::value(opened);
@@ -24,7 +23,7 @@ pub extern "C" fn limgoshi_open(t: &mut [u64], b1: u64, b2: u64, value: &mut u64
 // Adds an identifier with its plan.
 #[no_mangle]
 pub extern "C" fn limgoshi_add(t: &mut [u64], kind: u8, id: &[u8], plan: u8, value: &mut u64) -> u64
-    ensures { λ r. ⌜ (r ≡ numberOf (call (now (t .entry)) (add (token kind (now (id .entry))) plan) .answer)) × (now (value .exit) ≡ valueOf (call (now (t .entry)) (add (token kind (now (id .entry))) plan) .answer)) × (now (t .exit) ≡ call (now (t .entry)) (add (token kind (now (id .entry))) plan) .table) × (now (id .exit) ≡ now (id .entry)) ⌝ }
+    ensures { λ r. ⌜ GivesTable (call (now (t .entry)) (add (token kind (now (id .entry))) plan)) r (now (value .exit)) (now (t .exit)) × (now (id .exit) ≡ now (id .entry)) ⌝ }
 {
     let added = table_add::add(t, kind, id, plan);
     *value = answer::value(added);
@@ -34,7 +33,7 @@ pub extern "C" fn limgoshi_add(t: &mut [u64], kind: u8, id: &[u8], plan: u8, val
 // The plan of a live identifier.
 #[no_mangle]
 pub extern "C" fn limgoshi_query(t: &[u64], kind: u8, id: &[u8], value: &mut u64) -> u64
-    ensures { λ r. ⌜ (r ≡ numberOf (call (now (t .entry)) (query (token kind (now (id .entry)))) .answer)) × (now (value .exit) ≡ valueOf (call (now (t .entry)) (query (token kind (now (id .entry)))) .answer)) × (now (t .exit) ≡ call (now (t .entry)) (query (token kind (now (id .entry)))) .table) × (now (id .exit) ≡ now (id .entry)) ⌝ }
+    ensures { λ r. ⌜ GivesTable (call (now (t .entry)) (query (token kind (now (id .entry))))) r (now (value .exit)) (now (t .exit)) × (now (id .exit) ≡ now (id .entry)) ⌝ }
 {
     let found = table_calls::query(t, kind, id);
     *value = answer::value(found);
@@ -50,7 +49,7 @@ pub extern "C" fn limgoshi_change(
     plan: u8,
     value: &mut u64,
 ) -> u64
-    ensures { λ r. ⌜ (r ≡ numberOf (call (now (t .entry)) (change (token kind (now (id .entry))) plan) .answer)) × (now (value .exit) ≡ valueOf (call (now (t .entry)) (change (token kind (now (id .entry))) plan) .answer)) × (now (t .exit) ≡ call (now (t .entry)) (change (token kind (now (id .entry))) plan) .table) × (now (id .exit) ≡ now (id .entry)) ⌝ }
+    ensures { λ r. ⌜ GivesTable (call (now (t .entry)) (change (token kind (now (id .entry))) plan)) r (now (value .exit)) (now (t .exit)) × (now (id .exit) ≡ now (id .entry)) ⌝ }
 {
     let changed = table_calls::change(t, kind, id, plan);
     *value = answer::value(changed);
@@ -60,7 +59,7 @@ pub extern "C" fn limgoshi_change(
 // Withdraws a live identifier.
 #[no_mangle]
 pub extern "C" fn limgoshi_withdraw(t: &mut [u64], kind: u8, id: &[u8], value: &mut u64) -> u64
-    ensures { λ r. ⌜ (r ≡ numberOf (call (now (t .entry)) (withdraw (token kind (now (id .entry)))) .answer)) × (now (value .exit) ≡ valueOf (call (now (t .entry)) (withdraw (token kind (now (id .entry)))) .answer)) × (now (t .exit) ≡ call (now (t .entry)) (withdraw (token kind (now (id .entry)))) .table) × (now (id .exit) ≡ now (id .entry)) ⌝ }
+    ensures { λ r. ⌜ GivesTable (call (now (t .entry)) (withdraw (token kind (now (id .entry))))) r (now (value .exit)) (now (t .exit)) × (now (id .exit) ≡ now (id .entry)) ⌝ }
 {
     let withdrawn = table_calls::withdraw(t, kind, id);
     *value = answer::value(withdrawn);
@@ -70,7 +69,7 @@ pub extern "C" fn limgoshi_withdraw(t: &mut [u64], kind: u8, id: &[u8], value: &
 // The number of live identifiers with a plan, as the table has it.
 #[no_mangle]
 pub extern "C" fn limgoshi_plan_total(t: &[u64], plan: u8, value: &mut u64) -> u64
-    ensures { λ r. ⌜ (r ≡ numberOf (totalCall (now (t .entry)) plan)) × (now (value .exit) ≡ valueOf (totalCall (now (t .entry)) plan)) × (now (t .exit) ≡ now (t .entry)) ⌝ }
+    ensures { λ r. ⌜ Gives (totalCall (now (t .entry)) plan) r (now (value .exit)) × (now (t .exit) ≡ now (t .entry)) ⌝ }
 {
     let total = table_calls::plan_total(t, plan);
     *value = answer::value(total);
@@ -80,7 +79,7 @@ pub extern "C" fn limgoshi_plan_total(t: &[u64], plan: u8, value: &mut u64) -> u
 // Writes the plane of a table to the front of the output.
 #[no_mangle]
 pub extern "C" fn limgoshi_write_plane(t: &[u64], out: &mut [u8], value: &mut u64) -> u64
-    ensures { λ r. ⌜ (r ≡ numberOf (writeCall (now (t .entry)) (now (out .entry)) .answer)) × (now (value .exit) ≡ valueOf (writeCall (now (t .entry)) (now (out .entry)) .answer)) × (now (out .exit) ≡ writeCall (now (t .entry)) (now (out .entry)) .output) × (now (t .exit) ≡ now (t .entry)) ⌝ }
+    ensures { λ r. ⌜ GivesOutput (writeCall (now (t .entry)) (now (out .entry))) r (now (value .exit)) (now (out .exit)) × (now (t .exit) ≡ now (t .entry)) ⌝ }
 {
     let written = plane_write::write(t, out);
     *value = answer::value(written);
@@ -90,7 +89,7 @@ pub extern "C" fn limgoshi_write_plane(t: &[u64], out: &mut [u8], value: &mut u6
 // The plan that a plane gives an identifier.
 #[no_mangle]
 pub extern "C" fn limgoshi_plane_lookup(kind: u8, id: &[u8], plane: &[u8], value: &mut u64) -> u64
-    ensures { λ r. ⌜ (r ≡ numberOf (lookupCall (token kind (now (id .entry))) (now (plane .entry)))) × (now (value .exit) ≡ valueOf (lookupCall (token kind (now (id .entry))) (now (plane .entry)))) × (now (id .exit) ≡ now (id .entry)) × (now (plane .exit) ≡ now (plane .entry)) ⌝ }
+    ensures { λ r. ⌜ Gives (lookupCall (token kind (now (id .entry))) (now (plane .entry))) r (now (value .exit)) × (now (id .exit) ≡ now (id .entry)) × (now (plane .exit) ≡ now (plane .entry)) ⌝ }
 {
     let looked_up = plane_lookup::lookup(kind, id, plane);
     *value = answer::value(looked_up);
@@ -105,7 +104,7 @@ pub extern "C" fn limgoshi_make_patch(
     out: &mut [u8],
     value: &mut u64,
 ) -> u64
-    ensures { λ r. ⌜ (r ≡ numberOf (makeCall (now (old .entry)) (now (new .entry)) (now (out .entry)) .answer)) × (now (value .exit) ≡ valueOf (makeCall (now (old .entry)) (now (new .entry)) (now (out .entry)) .answer)) × (now (out .exit) ≡ makeCall (now (old .entry)) (now (new .entry)) (now (out .entry)) .output) × (now (old .exit) ≡ now (old .entry)) × (now (new .exit) ≡ now (new .entry)) ⌝ }
+    ensures { λ r. ⌜ GivesOutput (makeCall (now (old .entry)) (now (new .entry)) (now (out .entry))) r (now (value .exit)) (now (out .exit)) × (now (old .exit) ≡ now (old .entry)) × (now (new .exit) ≡ now (new .entry)) ⌝ }
 {
     let made = patch_make::make(old, new, out);
     *value = answer::value(made);
@@ -120,7 +119,7 @@ pub extern "C" fn limgoshi_apply_patch(
     out: &mut [u8],
     value: &mut u64,
 ) -> u64
-    ensures { λ r. ⌜ (r ≡ numberOf (applyCall (now (old .entry)) (now (patch .entry)) (now (out .entry)) .answer)) × (now (value .exit) ≡ valueOf (applyCall (now (old .entry)) (now (patch .entry)) (now (out .entry)) .answer)) × (now (out .exit) ≡ applyCall (now (old .entry)) (now (patch .entry)) (now (out .entry)) .output) × (now (old .exit) ≡ now (old .entry)) × (now (patch .exit) ≡ now (patch .entry)) ⌝ }
+    ensures { λ r. ⌜ GivesOutput (applyCall (now (old .entry)) (now (patch .entry)) (now (out .entry))) r (now (value .exit)) (now (out .exit)) × (now (old .exit) ≡ now (old .entry)) × (now (patch .exit) ≡ now (patch .entry)) ⌝ }
 {
     let applied = patch_apply::apply(old, patch, out);
     *value = answer::value(applied);

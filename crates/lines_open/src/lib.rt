@@ -1,7 +1,6 @@
 // The line `open` of the line program, in a buffer for the longest table: only the numbers that the new table needs are lent to the opening.
 // Definitions: specs/Desk.antt (what takes openings and calls, and what a command does), specs/Buffer.antt (what is open, in the code's buffer, and what the code
 // does at a line). proofs/Opening.antt has what an opening leaves there.
-// Cites lines_text (an answer printed), codec, answer, identifier and model (definitions), table, table_layout and table_open. lines_run builds on it.
 use answer::Answer;
 use table_layout::Table;
 ghost use mathlib.Core.Path.{_≡_};

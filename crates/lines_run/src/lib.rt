@@ -3,8 +3,6 @@
 // Definitions: specs/Run.antt (what is printed for an input: the calls of the crate table folded over the lines); specs/Buffer.antt has what the code keeps.
 // Laws: proofs/Agree.antt (the model would print the same; the table is sound at each line), proofs/Session.antt (document 01's
 // session; lines with plan 255; lines with each form of a kind).
-// Cites lines_text (a line and what is printed for it), lines_open (the line `open`, and what any line does), codec, answer, identifier, table_layout, table_calls and
-// table_add. lines is the program over it, and run_probe has an entry to it.
 use answer::Answer;
 use identifier::Read;
 use lines_open::Progress;
@@ -17,7 +15,7 @@ ghost use mathlib.Core.Bool.{true};
 ghost use mathlib.Core.Option.{none};
 ghost use lib.ListN.{length};
 ghost use Rattle.identifier.specs.Identifier.{token};
-ghost use Rattle.table.specs.Calls.{served, call};
+ghost use Rattle.table.specs.Calls.{served, call, Performs};
 ghost use Rattle.table_edit.specs.Ready.{Ready};
 ghost use Rattle.lines_text.specs.Line.{lf, parted, ask};
 ghost use Rattle.lines_text.specs.Parsed.{callOf, meant, Within};
@@ -51,7 +49,7 @@ pub(crate) fn plan_allowed(verb: Verb, plan: u64) -> bool
 // A call put to a sound table by its word.
 pub(crate) fn serve(t: &mut [u64], w: u64, verb: Verb, plan: u64) -> Answer
     requires { ⌜ Ready (now t) × (verbAllowed verb plan ≡ true) ⌝ }
-    ensures { λ r. ⌜ (r ≡ served (now (t .entry)) (callOf verb w plan) .answer) × (now (t .exit) ≡ served (now (t .entry)) (callOf verb w plan) .table) ⌝ }
+    ensures { λ r. ⌜ Performs (served (now (t .entry)) (callOf verb w plan)) r (now (t .exit)) ⌝ }
 {
     match verb {
         Verb::Add => table_add::add_word(t, w, plan),
@@ -64,7 +62,7 @@ pub(crate) fn serve(t: &mut [u64], w: u64, verb: Verb, plan: u64) -> Answer
 // A call put to a sound table.
 pub(crate) fn ask(t: &mut [u64], kind: u8, id: &[u8], verb: Verb, plan: u64) -> Answer
     requires { ⌜ Ready (now t) ⌝ }
-    ensures { λ r. ⌜ (r ≡ call (now (t .entry)) (callOf verb (token kind (now (id .entry))) plan) .answer) × (now (t .exit) ≡ call (now (t .entry)) (callOf verb (token kind (now (id .entry))) plan) .table) ⌝ }
+    ensures { λ r. ⌜ Performs (call (now (t .entry)) (callOf verb (token kind (now (id .entry))) plan)) r (now (t .exit)) ⌝ }
 {
     let word = table_calls::word_for(kind, id, plan_allowed(verb, plan));
     match word {

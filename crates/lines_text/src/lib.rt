@@ -3,7 +3,6 @@
 // specs/Parsed.antt has the forms that the code gives a line.
 // Laws: proofs/Exact.antt (a field is read as a number exactly if it is its decimal, not above the limit; KIND exactly if it is one digit),
 // proofs/Parted.antt (the parts between single bytes), proofs/Printed.antt (the longest line that is printed).
-// Cites lists, codec, answer, identifier (an identifier as it is handed in) and model (the calls that a line asks for). lines_open, lines_run and run_probe cite it.
 use answer::Answer;
 ghost use mathlib.Core.Path.{_≡_};
 ghost use Prim.Native.Nat.{_+_, _^_, _≤_, _<_};

@@ -7,7 +7,6 @@ use Prim.Native.Nat.{ℕ}
 use native.Mathlib.Omega.{arith}
 use lib.Dec.{eqb, ltb}
 use lib.ListN.{length, take, drop}
-use lib.Seq.{take-at, drop-at}
 use borrow.Author.Tests.{eqb-true}
 use Rattle.lists.proofs.Tests.{by-test}
 use Rattle.hash.specs.Fnv.{fnvOf}
@@ -21,6 +20,7 @@ use Rattle.plane.specs.Plane.{planeFrom, wrongAt}
 use Rattle.plane.proofs.Scan.{both}
 use Rattle.plane.proofs.Exact.{AllBytes}
 use Rattle.plane_write.specs.Write.{Written, turnedDown, putFront}
+use Rattle.plane_write.proofs.Accepted.{InFront, in-front}
 use Rattle.patch.specs.Patch.{patchBytes, patchOf}
 use Rattle.patch.specs.Wrong.{patchFrom, patchWrongAt}
 use Rattle.patch.specs.Calls.{unlessWrong, alike, applied, sumsFit, makeCall, applyCall}
@@ -32,23 +32,10 @@ abbrev pub left : List ℕ → (ℕ → Answer) → Answer → List ℕ → Wron
 left out cause a bytes x y b = unlessWrong WrongPlane out x (unlessWrong cause out y (cond b (putFront bytes out) (turnedDown a out)))
 
 module _ (n : ℕ) (out : List ℕ) where
-  -- what stands in the output of one that is accepted
-  pub record InFront (bytes after : List ℕ) : Type 0 where
-    pub size : n ≡ length bytes
-    pub front : take n after ≡ bytes
-    pub rest : drop n after ≡ drop n out
-
-  pub in-front : (bytes : List ℕ) → putFront bytes out .answer ≡ Accepted n → InFront bytes (putFront bytes out .output)
-  in-front bytes =
-      by-test (λ (o : Written). o .answer ≡ Accepted n → InFront bytes (o .output)) (ltb (length out) (length bytes))
-      (λ t e. let z : _≡_ {A = ℕ} 0 1 = cc in absurd (omega arith))
-      (λ f e. let l : length bytes ≡ n = cc in
-      record { size = sym l; front = take-at bytes (drop (length bytes) out) n l; rest = drop-at bytes (drop (length bytes) out) n l ∙ ap (λ (k : ℕ). drop k out) l })
-
   -- it has met none of the causes before
   past : (cause : ℕ → Answer) (a : Answer) → ((at : ℕ) → cause at ≡ Accepted n → ⊥) → (a ≡ Accepted n → ⊥) → (bytes : List ℕ) (x y : Wrong) (b : Bool)
-      → left out cause a bytes x y b .answer ≡ Accepted n → (x ≡ Nowhere) × (y ≡ Nowhere) × (b ≡ true) × InFront bytes (left out cause a bytes x y b .output)
-  past cause a c d bytes Nowhere Nowhere true e = (refl, refl, refl, in-front bytes e)
+      → left out cause a bytes x y b .answer ≡ Accepted n → (x ≡ Nowhere) × (y ≡ Nowhere) × (b ≡ true) × InFront n out bytes (left out cause a bytes x y b .output)
+  past cause a c d bytes Nowhere Nowhere true e = (refl, refl, refl, in-front n out bytes e)
   past cause a c d bytes Nowhere Nowhere false e = absurd (d e)
   past cause a c d bytes Nowhere (At at) b e = absurd (c at e)
   past cause a c d bytes (At at) y b e = absurd (let z : _≡_ {A = ℕ} 0 1 = cc in omega arith)

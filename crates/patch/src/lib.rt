@@ -4,7 +4,6 @@
 // patch says, made and applied), specs/Wrong.antt (which patches are wrong, what the bytes say), specs/Calls.antt (the two calls),
 // specs/Fits.antt (the limits), specs/Offset.antt (the offset of what is wrong, without the scan), specs/Causes.antt;
 // specs/Cursor.antt is for the inner steps alone. The statements stand in proofs/Statements.antt and proofs/Calls.antt.
-// Cites codec, hash, plane (records, reader) and plane_write (what a call does to its output); patch_fits, patch_check, patch_apply and patch_make cite it.
 use answer::Answer;
 use plane::Record;
 use table_layout::Table;
@@ -16,7 +15,7 @@ ghost use Rattle.table.specs.Layout.{baseNumbers, pairNumbers, pairsFrom};
 ghost use Rattle.plane.specs.declared.Wrong.the-variants.{Nowhere};
 ghost use Rattle.plane.specs.Record.{format1};
 ghost use Rattle.plane.specs.Plane.{planeFrom, wrongAt};
-ghost use Rattle.plane_write.specs.Write.{putFront};
+ghost use Rattle.plane_write.specs.Write.{putFront, Writes};
 ghost use Rattle.patch.specs.Cursor.{below, isFirst};
 ghost use Rattle.patch.specs.Wrong.{run};
 
@@ -101,7 +100,7 @@ pub fn load_base(plane: &[u8], pairs: &mut [u64]) -> usize
         let next = at + Record::ENTRY_LEN;
         let e = &plane[at..next];
         pairs[2 * i] = plane::entry_word(e);
-        pairs[2 * i + 1] = e[Record::ENTRY_BODY] as u64;
+        pairs[2 * i + 1] = e[Record::PLAN_AT] as u64;
         at = next;
         i += 1;
     }
@@ -136,7 +135,7 @@ pub fn is_at(pairs: &[u64], count: usize, i: usize, w: u64) -> bool
 
 // The bytes to the front of the output, if they fit: cause 9.
 pub fn put_front(bytes: &[u8], out: &mut [u8]) -> Answer
-    ensures { λ r. ⌜ (r ≡ putFront (now (bytes .entry)) (now (out .entry)) .answer) × (now (out .exit) ≡ putFront (now (bytes .entry)) (now (out .entry)) .output) ⌝ }
+    ensures { λ r. ⌜ Writes (putFront (now (bytes .entry)) (now (out .entry))) r (now (out .exit)) ⌝ }
 {
     let needed = bytes.len();
     if out.len() < needed {

@@ -1,6 +1,5 @@
 // Applying a patch to a plane: the new plane, the sums, and the call; document 02, order 1.
 // Definitions: those of patch (specs/Calls.antt, `applyCall`); specs/Steps.antt is for the inner steps alone. Nothing is written to the output before all is decided.
-// Cites codec, hash, plane, plane_write, patch and patch_check (the check of a patch for the plane). The library for C cites it.
 use answer::Answer;
 use patch::Patch;
 use patch_check::Edited;
@@ -15,6 +14,7 @@ ghost use Rattle.table.specs.Layout.{pairsFrom};
 ghost use Rattle.plane.specs.declared.Wrong.the-variants.{Nowhere};
 ghost use Rattle.plane.specs.Record.{format1, readAll};
 ghost use Rattle.plane.specs.Plane.{planeFrom, wrongAt};
+ghost use Rattle.plane_write.specs.Write.{Writes};
 ghost use Rattle.patch.specs.Record.{changeLength, changeFrom};
 ghost use Rattle.patch.specs.Patch.{patched};
 ghost use Rattle.patch.specs.Wrong.{changesAt, patchFrom, patchWrongAt};
@@ -64,7 +64,7 @@ pub(crate) fn build(plane: &[u8], d: &[u8], pairs: &[u64], count: usize, new: &m
 
 // The bytes to the front of the output, if `sum` is their sum: causes 13 and 9.
 pub(crate) fn put_summed(bytes: &[u8], sum: u64, out: &mut [u8]) -> Answer
-    ensures { λ r. ⌜ (r ≡ summed sum (now (bytes .entry)) (now (out .entry)) .answer) × (now (out .exit) ≡ summed sum (now (bytes .entry)) (now (out .entry)) .output) ⌝ }
+    ensures { λ r. ⌜ Writes (summed sum (now (bytes .entry)) (now (out .entry))) r (now (out .exit)) ⌝ }
 {
     if sum != hash::fnv(bytes) {
         return Answer::WrongSum;
@@ -81,7 +81,7 @@ pub(crate) fn apply_right(
     out: &mut [u8],
 ) -> Answer
     requires { ⌜ (wrongAt format1 (now plane) ≡ Nowhere) × (patchWrongAt format1 (planeFrom format1 (now plane)) (now d) ≡ Nowhere) × (2 * count ≤ length (now pairs)) × (pairsFrom count (now pairs) ≡ patched (planeFrom format1 (now plane)) (patchFrom format1 (now d)) .base) ⌝ }
-    ensures { λ r. ⌜ (r ≡ appliedRight format1 (now (plane .entry)) (now (d .entry)) (now (out .entry)) .answer) × (now (out .exit) ≡ appliedRight format1 (now (plane .entry)) (now (d .entry)) (now (out .entry)) .output) ⌝ }
+    ensures { λ r. ⌜ Writes (appliedRight format1 (now (plane .entry)) (now (d .entry)) (now (out .entry))) r (now (out .exit)) ⌝ }
 {
     if codec::get_u64(d, Patch::OLD_SUM_AT) != hash::fnv(plane) {
         return Answer::WrongSum;
@@ -94,7 +94,7 @@ pub(crate) fn apply_right(
 
 // Applies the patch d to a plane, to the front of the output: causes 10, 12, 13, 9. Nothing is written where it is turned down.
 pub fn apply(plane: &[u8], d: &[u8], out: &mut [u8]) -> Answer
-    ensures { λ r. ⌜ (r ≡ applyCall (now (plane .entry)) (now (d .entry)) (now (out .entry)) .answer) × (now (out .exit) ≡ applyCall (now (plane .entry)) (now (d .entry)) (now (out .entry)) .output) ⌝ }
+    ensures { λ r. ⌜ Writes (applyCall (now (plane .entry)) (now (d .entry)) (now (out .entry))) r (now (out .exit)) ⌝ }
 {
     let wrong = plane::wrong_at(plane);
     match wrong {

@@ -1,7 +1,6 @@
 // The check of a patch for a plane: where the patch is wrong, or the base list that it leaves; document 02, order 1.
 // Definitions: those of patch (specs/Wrong.antt); specs/Steps.antt is for the inner steps alone. The check edits a copy of the
 // base list as it goes, so that what is accepted is there.
-// Cites codec, table_layout, plane, patch and patch_fits (the tests of its records). patch_apply cites it.
 use patch::Patch;
 use plane::Record;
 use plane::Wrong;
@@ -158,7 +157,7 @@ pub(crate) fn enter_news(
         if !patch_fits::new_fits(old, n, o, kept, m, j, last, l + (m - i)) {
             return Edited::At(at);
         }
-        l = put_next(new, l, kept, i, j, last, p[Patch::NEW_BODY]);
+        l = put_next(new, l, kept, i, j, last, p[Record::PLAN_AT]);
         i = past(kept, m, j, last);
         at += Patch::NEW_LEN;
         left -= 1;

@@ -1,6 +1,5 @@
 // The records of a patch, one by one: which changes, and which entries new or changed, fit; document 02, order 1.
 // Definitions: those of patch (specs/Wrong.antt); specs/Steps.antt is for the inner steps alone.
-// Cites bucket, table_layout, plane and patch. patch_check cites it.
 use bucket::Bucket;
 use patch::Patch;
 use plane::Wrong;

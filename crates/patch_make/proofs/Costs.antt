@@ -24,8 +24,8 @@ use Rattle.identifier.specs.Place.{thresholds}
 use Rattle.identifier.specs.declared.Read.{Read}
 use Rattle.identifier.specs.declared.Read.the-variants.{Word, Refused}
 use Rattle.model.specs.Model.{change}
-use Rattle.model.specs.Request.{wordFor, Request}
-use Rattle.model.specs.Machine.{after}
+use Rattle.model.specs.Request.{wordFor}
+use Rattle.model.specs.Machine.{accepted}
 use Rattle.model.proofs.Requests.{Reads, reads}
 use Rattle.bucket.specs.declared.Bucket.{Bucket}
 use Rattle.bucket.specs.Bucket as B
@@ -34,23 +34,26 @@ use Rattle.table.specs.Table as C
 use Rattle.table.specs.Table.{Table}
 use Rattle.table.specs.Layout.{numbersOf}
 use Rattle.table.specs.Calls.{rows, solutions, tableOf, planIn, shaped, sound, FlatSound, Outcome, replaced, served, callRead, call}
-use Rattle.table.specs.History.{tables, Opened, flatState}
-use Rattle.table.proofs.Calls.{call-match, changed-back}
-use Rattle.table.proofs.Statements.{causes-else, sound-stands, stands-sound, always-sound}
+use Rattle.table.specs.History.{flatState}
+use Rattle.table.proofs.Calls.{changed-back}
+use Rattle.table.proofs.Statements.{causes-else, sound-stands, call-sound, call-size}
 use Rattle.plane.specs.Record.{format1, PlaneBucket, endLength}
 use Rattle.plane.specs.Plane.{Plane, planeBytes}
 use Rattle.plane.specs.Fits.{Fits}
 use Rattle.plane.proofs.Round.{written-read}
-use Rattle.plane_write.specs.Write.{seenOf, planeOf}
+use Rattle.plane_write.specs.Write.{seenOf, planeOf, Written, putFront}
 use Rattle.plane_write.proofs.Shown.{live-plan}
-use Rattle.plane_write.proofs.Accepted.{fits}
+use Rattle.plane_write.proofs.Accepted.{in-front, front-room, fits}
 use Rattle.patch.specs.Base.{goneOf, newsOf}
 use Rattle.patch.specs.Record.{changeLength, goneLength, newLength}
 use Rattle.patch.specs.Wrong.{changesAt}
 use Rattle.patch.specs.Patch.{Patch, patchBytes, patchOf, between, changesOf, bucketsOf}
+use Rattle.patch.specs.Calls.{makeCall}
+use Rattle.patch_make.specs.After.{planeIn, patchBetween}
 use Rattle.patch.proofs.Made.{between-sized}
 use Rattle.patch.proofs.Round.{patch-bytes-length}
 use Rattle.patch.proofs.Statements.{format1-own}
+use Rattle.patch_make.proofs.Lists.{table-make}
 use Rattle.patch_make.proofs.Small.{changes-none, changes-one, set-second, gone-same, news-same, gone-update, news-update, update-same}
 
 -- ---- one bucket
@@ -192,7 +195,7 @@ module _ (t : List ℕ) (flat : FlatSound t) (id : Token) (p q : ℕ) (e : call 
 
   fits-after : Fits format1 Q
   fits-after =
-      let k = stands-sound u _ (call-match t (flatState t) (sound-stands t (h .shape) flat) (change id p) .stands) in
+      let k = call-sound t (h .shape) flat (change id p) in
       fits u (k .0) (k .2)
 
   -- the patch from the plane before to the plane after
@@ -225,10 +228,6 @@ module _ (t : List ℕ) (flat : FlatSound t) (id : Token) (p q : ℕ) (e : call 
       ∙ ap (λ (X : Plane). changesAt + recordsLength P X + endLength) k
       ∙ rw (changes-none 0 (bucketsOf P), gone-same (T .base) (flat .table .ascending), news-same (T .base) (flat .table .ascending))
 
--- the patch from the plane of the table t to that of u
-abbrev pub patchBetween : List ℕ → List ℕ → List ℕ
-patchBetween t u = patchBytes format1 (patchOf format1 (planeBytes format1 (planeOf (tableOf t))) (planeBytes format1 (planeOf (tableOf u))))
-
 -- any sound table
 module _ (t : List ℕ) (flat : FlatSound t) (id : Token) (p q : ℕ) (e : call t (change id p) .answer ≡ Accepted q) where
   -- "changing one plan costs at most 89 bytes"
@@ -239,10 +238,20 @@ module _ (t : List ℕ) (flat : FlatSound t) (id : Token) (p q : ℕ) (e : call 
   pub same-costs : p ≡ q → length (patchBetween t (call t (change id p) .table)) ≡ 22
   same-costs = if-same t flat id p q e
 
--- after any list of calls
-module _ (t : List ℕ) (o : Opened t) (ps : List Request) (id : Token) (p q : ℕ) (e : call (after tables t ps) (change id p) .answer ≡ Accepted q) where
-  pub list-change-costs : length (patchBetween (after tables t ps) (call (after tables t ps) (change id p) .table)) ≤ 89
-  list-change-costs = at-most (after tables t ps) (always-sound t o ps .2) id p q e
+  -- of the call that makes the patch: between the planes before and after the change it meets no cause but 9
+  module _ (out : List ℕ) where
+    abbrev made : Written
+    made = makeCall (planeIn t) (planeIn (call t (change id p) .table)) out
 
-  pub list-same-costs : p ≡ q → length (patchBetween (after tables t ps) (call (after tables t ps) (change id p) .table)) ≡ 22
-  list-same-costs = if-same (after tables t ps) (always-sound t o ps .2) id p q e
+    made-is : made ≡ putFront (patchBetween t (call t (change id p) .table)) out
+    made-is =
+        let k = was t id p q e .shape in
+        let s = call-sound t k flat (change id p) in
+        table-make t (call t (change id p) .table) k flat (s .0) (s .2) (sym (call-size t k flat (change id p))) out
+
+    -- what it returns
+    pub change-length : (n : ℕ) → made .answer ≡ Accepted n → n ≡ length (patchBetween t (call t (change id p) .table))
+    change-length n f = in-front n out (patchBetween t (call t (change id p) .table)) (ap (λ (w : Written). w .answer) (sym made-is) ∙ f) .size
+
+    pub change-room : length (patchBetween t (call t (change id p) .table)) ≤ length out → accepted (made .answer) ≡ true
+    change-room l = ap (λ (w : Written). accepted (w .answer)) made-is ∙ ap accepted (front-room (patchBetween t (call t (change id p) .table)) out l)

@@ -17,53 +17,69 @@ use Rattle.model.specs.Request.{Request}
 use Rattle.model.specs.Machine.{after}
 use Rattle.model.specs.History.{told}
 use Rattle.table.specs.Table.{Table}
-use Rattle.table.specs.Calls.{tableOf}
+use Rattle.table.specs.Calls.{tableOf, shaped, FlatSound}
 use Rattle.table.specs.History.{tables, Opened, acceptedCalls, flatState}
 use Rattle.table.proofs.Statements.{list-size, always-sound}
 use Rattle.plane.specs.declared.Wrong.the-variants.{Nowhere}
 use Rattle.plane.specs.Record.{format1}
 use Rattle.plane.specs.Plane.{planeBytes, wrongAt}
 use Rattle.plane.specs.Lookup.{lookupCall}
-use Rattle.plane.specs.Fits.{Fits}
 use Rattle.plane.proofs.Round.{written-right}
 use Rattle.plane.proofs.Exact.{AllBytes}
 use Rattle.plane.proofs.Octets.{plane-octets}
 use Rattle.plane_write.specs.Write.{seenOf, planeOf, Written, putFront}
-use Rattle.plane_write.proofs.Accepted.{fits, shows}
+use Rattle.plane_write.proofs.Accepted.{in-front, fits, shows}
 use Rattle.plane_write.proofs.Statements.{told-shown}
 use Rattle.patch.specs.Patch.{patchBytes, patchOf}
 use Rattle.patch.specs.Calls.{alike, makeCall, applyCall}
-use Rattle.patch_make.specs.After.{planeAfter}
+use Rattle.patch_make.specs.After.{planeIn, planeAfter, patchBetween}
 use Rattle.patch.proofs.Statements.{make-made, made-accepted}
-use Rattle.patch.proofs.Calls.{in-front, make-apply}
+use Rattle.patch.proofs.Calls.{make-apply}
+
+-- ---- the plane of any sound table
+
+module _ (t : List ℕ) (k : shaped t ≡ true) (h : FlatSound t) where
+  pub plane-right : wrongAt format1 (planeIn t) ≡ Nowhere
+  plane-right = written-right format1 (planeOf (tableOf t)) (fits t k h)
+
+  pub plane-bytes : AllBytes (planeIn t)
+  plane-bytes = plane-octets format1 (lit< tt) (lit< tt) (planeOf (tableOf t)) (fits t k h)
+
+-- tables of equal bucket numbers have planes of equal ones
+same-size : (t u : List ℕ) → flatState t .size ≡ flatState u .size → alike (planeIn t) (planeIn u) ≡ true
+unfolding planeBytes
+same-size t u e =
+    let T : Table = tableOf t in
+    let U : Table = tableOf u in
+    rw (
+      eq-eqb (length (map seenOf (T .level1))) (length (map seenOf (U .level1))) (length-map (T .level1) seenOf ∙ ap (λ (z : Size). z .buckets1) e ∙ sym (length-map (U .level1) seenOf)),
+      eq-eqb (length (map seenOf (T .level2))) (length (map seenOf (U .level2))) (length-map (T .level2) seenOf ∙ ap (λ (z : Size). z .buckets2) e ∙ sym (length-map (U .level2) seenOf)),
+    )
+
+-- so a patch is made from the one to the other, if it fits the output
+pub table-make : (t u : List ℕ) → shaped t ≡ true → FlatSound t → shaped u ≡ true → FlatSound u → flatState t .size ≡ flatState u .size
+    → (out : List ℕ) → makeCall (planeIn t) (planeIn u) out ≡ putFront (patchBetween t u) out
+table-make t u k h j g e = make-made (planeIn t) (planeIn u) (plane-bytes t k h) (plane-bytes u j g) (plane-right t k h) (plane-right u j g) (same-size t u e)
+
+-- ---- the planes of one opening
 
 module _ (t : List ℕ) (o : Opened t) where
-  plane-fits : (ps : List Request) → Fits format1 (planeOf (tableOf (after tables t ps)))
-  plane-fits ps = let h = always-sound t o ps in fits (after tables t ps) (h .0) (h .2)
-
   right : (ps : List Request) → wrongAt format1 (planeAfter t ps) ≡ Nowhere
-  right ps = written-right format1 (planeOf (tableOf (after tables t ps))) (plane-fits ps)
+  right ps = let h = always-sound t o ps in plane-right (after tables t ps) (h .0) (h .2)
 
   octets : (ps : List Request) → AllBytes (planeAfter t ps)
-  octets ps = plane-octets format1 (lit< tt) (lit< tt) (planeOf (tableOf (after tables t ps))) (plane-fits ps)
+  octets ps = let h = always-sound t o ps in plane-bytes (after tables t ps) (h .0) (h .2)
 
   module _ (ps qs : List Request) where
-    same-size : flatState (after tables t ps) .size ≡ flatState (after tables t qs) .size
-    same-size = list-size t o ps ∙ sym (list-size t o qs)
-
     list-alike : alike (planeAfter t ps) (planeAfter t qs) ≡ true
-    unfolding planeBytes
-    list-alike =
-        let T : Table = tableOf (after tables t ps) in
-        let U : Table = tableOf (after tables t qs) in
-        rw (
-          eq-eqb (length (map seenOf (T .level1))) (length (map seenOf (U .level1))) (length-map (T .level1) seenOf ∙ ap (λ (z : Size). z .buckets1) same-size ∙ sym (length-map (U .level1) seenOf)),
-          eq-eqb (length (map seenOf (T .level2))) (length (map seenOf (U .level2))) (length-map (T .level2) seenOf ∙ ap (λ (z : Size). z .buckets2) same-size ∙ sym (length-map (U .level2) seenOf)),
-        )
+    list-alike = same-size (after tables t ps) (after tables t qs) (list-size t o ps ∙ sym (list-size t o qs))
 
     -- "from two planes of equal format and bucket numbers a patch is made": of two planes of one opening it always is, if it fits the output
     pub list-make : (out : List ℕ) → makeCall (planeAfter t ps) (planeAfter t qs) out ≡ putFront (patchBytes format1 (patchOf format1 (planeAfter t ps) (planeAfter t qs))) out
-    list-make = make-made (planeAfter t ps) (planeAfter t qs) (octets ps) (octets qs) (right ps) (right qs) list-alike
+    list-make =
+        let h = always-sound t o ps in
+        let g = always-sound t o qs in
+        table-make (after tables t ps) (after tables t qs) (h .0) (h .2) (g .0) (g .2) (list-size t o ps ∙ sym (list-size t o qs))
 
     -- "applied to the old plane it gives the new plane"
     pub list-apply : (out : List ℕ) → applyCall (planeAfter t ps) (patchBytes format1 (patchOf format1 (planeAfter t ps) (planeAfter t qs))) out ≡ putFront (planeAfter t qs) out

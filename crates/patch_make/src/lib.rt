@@ -2,7 +2,6 @@
 // Definitions: those of patch (specs/Calls.antt, `makeCall`); specs/Steps.antt is for the inner steps alone, specs/After.antt for the
 // statements. proofs/Costs.antt: what a changed plan costs, for any sound table and after any list of calls; proofs/Lists.antt: patches between
 // the planes of one opening.
-// Cites codec, hash, table_layout, plane, plane_write and patch. The library for C cites it.
 use answer::Answer;
 use patch::Patch;
 use plane::Record;
@@ -21,6 +20,7 @@ ghost use Rattle.plane.specs.declared.Wrong.the-variants.{Nowhere};
 ghost use Rattle.plane.specs.Record.{format1, bytesOf, bucketBody};
 ghost use Rattle.plane.specs.Plane.{planeFrom, wrongAt, bucketCount};
 ghost use Rattle.plane.specs.Fits.{FitsEntry};
+ghost use Rattle.plane_write.specs.Write.{Writes};
 ghost use Rattle.patch.specs.Base.{goneOf, newsOf};
 ghost use Rattle.patch.specs.Record.{sumsRecord, changeLength, changeRecord, goneLength, goneRecord, newLength, newRecord};
 ghost use Rattle.patch.specs.Patch.{patchBytes, patchOf, changesOf, bucketsOf};
@@ -118,7 +118,7 @@ pub(crate) fn put_new(out: &mut [u8], at: usize, w: u64, plan: u64, same: bool) 
     }
     out[at] = Patch::NEW;
     codec::put_u64(out, at + 1, w);
-    out[at + Patch::NEW_BODY] = plan as u8;
+    out[at + Record::PLAN_AT] = plan as u8;
     at + Patch::NEW_LEN
 }
 
@@ -187,7 +187,7 @@ pub(crate) fn build(old: &[u8], new: &[u8], out: &mut [u8]) -> usize
 // From two right planes on: causes 11 and 9.
 pub(crate) fn make_right(old: &[u8], new: &[u8], out: &mut [u8]) -> Answer
     requires { ⌜ (wrongAt format1 (now old) ≡ Nowhere) × (wrongAt format1 (now new) ≡ Nowhere) ⌝ }
-    ensures { λ r. ⌜ (r ≡ madeRight format1 (now (old .entry)) (now (new .entry)) (now (out .entry)) .answer) × (now (out .exit) ≡ madeRight format1 (now (old .entry)) (now (new .entry)) (now (out .entry)) .output) ⌝ }
+    ensures { λ r. ⌜ Writes (madeRight format1 (now (old .entry)) (now (new .entry)) (now (out .entry))) r (now (out .exit)) ⌝ }
 {
     if old[Record::BUCKETS_1_AT] != new[Record::BUCKETS_1_AT] {
         return Answer::UnlikePlanes;
@@ -203,7 +203,7 @@ pub(crate) fn make_right(old: &[u8], new: &[u8], out: &mut [u8]) -> Answer
 // The new plane is looked at after the old one: causes 10, 11, 9.
 pub(crate) fn make_from(old: &[u8], new: &[u8], out: &mut [u8]) -> Answer
     requires { ⌜ wrongAt format1 (now old) ≡ Nowhere ⌝ }
-    ensures { λ r. ⌜ (r ≡ madeFrom format1 (now (old .entry)) (now (new .entry)) (now (out .entry)) .answer) × (now (out .exit) ≡ madeFrom format1 (now (old .entry)) (now (new .entry)) (now (out .entry)) .output) ⌝ }
+    ensures { λ r. ⌜ Writes (madeFrom format1 (now (old .entry)) (now (new .entry)) (now (out .entry))) r (now (out .exit)) ⌝ }
 {
     let wrong = plane::wrong_at(new);
     match wrong {
@@ -214,7 +214,7 @@ pub(crate) fn make_from(old: &[u8], new: &[u8], out: &mut [u8]) -> Answer
 
 // Makes the patch from one plane to another, to the front of the output: causes 10 (old), 10 (new), 11, 9. Nothing is written where it is turned down.
 pub fn make(old: &[u8], new: &[u8], out: &mut [u8]) -> Answer
-    ensures { λ r. ⌜ (r ≡ makeCall (now (old .entry)) (now (new .entry)) (now (out .entry)) .answer) × (now (out .exit) ≡ makeCall (now (old .entry)) (now (new .entry)) (now (out .entry)) .output) ⌝ }
+    ensures { λ r. ⌜ Writes (makeCall (now (old .entry)) (now (new .entry)) (now (out .entry))) r (now (out .exit)) ⌝ }
 {
     let wrong = plane::wrong_at(old);
     match wrong {

@@ -4,8 +4,6 @@
 // scan), specs/Causes.antt. Laws: proofs/Scan.antt (a scan of records of any kind), proofs/Round.antt and proofs/Exact.antt (just the
 // planes within the limits have bytes that are wrong nowhere), proofs/Offset.antt, proofs/Causes.antt, proofs/Desk.antt (who gets plan 255);
 // the statements stand with the writer.
-// Cites codec, identifier, bucket, table and table_layout (the numbers of buckets, the plans that a word may be given). The writer,
-// the crates of patches and the library for C cite it.
 use bucket::Bucket;
 use table_layout::Table;
 ghost use mathlib.Core.Path.{_≡_};
@@ -73,6 +71,9 @@ impl Record {
     pub const BOUND_AT: usize = 1;
 
     pub const SOLUTIONS_AT: usize = 2;
+
+    // Where the plan stands in the record of a base entry, after its word.
+    pub const PLAN_AT: usize = 1 + Record::WORD_LEN;
 
     // Where the buckets start.
     pub const BUCKETS_AT: usize = 1 + Record::HEADER_BODY;
@@ -165,7 +166,7 @@ pub fn entry_assignable(p: &[u8], kind: u8) -> bool
     if !whole(p, kind, Record::ENTRY_BODY) {
         return false;
     }
-    table_layout::assignable(wide(p[Record::ENTRY_BODY]))
+    table_layout::assignable(wide(p[Record::PLAN_AT]))
 }
 
 // k base entries from the offset first on, none of them cut, after one of the word before.

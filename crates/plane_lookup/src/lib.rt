@@ -1,5 +1,4 @@
 // The lookup of an identifier in a plane, for any bytes as either: the post's call. Its definition is plane/specs/Lookup.antt.
-// Cites plane (the records, and where a plane is wrong), codec, identifier, bucket, table and table_layout. The library for C cites it.
 use answer::Answer;
 use bucket::Bucket;
 use identifier::Identifier;
@@ -52,7 +51,7 @@ pub(crate) fn base_plan(p: &[u8], k: usize, v: u64) -> u64
         let next = at + Record::ENTRY_LEN;
         let e = &p[at..next];
         if plane::entry_word(e) == v {
-            return plane::wide(e[Record::ENTRY_BODY]);
+            return plane::wide(e[Record::PLAN_AT]);
         }
         at = next;
         left -= 1;

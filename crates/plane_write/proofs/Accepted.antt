@@ -1,18 +1,19 @@
 -- What an accepted call of the writer has done: the table is sound, and its plane, which fits, stands in front of the output.
 -- Assumes nothing.
-use mathlib.Core.Path.{_≡_, refl, ap, _∙_}
+use mathlib.Core.Path.{_≡_, refl, sym, ap, _∙_, subst}
 use mathlib.Core.Bool.{Bool, true, false, cond, _&&_}
 use mathlib.Core.List.{List}
 use mathlib.Core.Option.{some}
 use Prim.Native.Nat.{ℕ, _+_, _≤_, _^_, _<_}
 use native.Mathlib.Omega.{arith}
-use borrow.Author.Tests.{leb-true}
+use borrow.Author.Tests.{leb-true, ltb-false, le-ltb}
 use lib.Dec.{leb, ltb, lit≤}
 use lib.ListN.{length, getD, take, drop, length-map}
-use lib.Seq.{take-at}
+use lib.Seq.{take-at, drop-at}
+use Rattle.lists.proofs.Tests.{by-test}
 use Rattle.hash.specs.Mix.{unmixOf}
 use Rattle.answer.specs.declared.Answer.{Answer}
-use Rattle.answer.specs.declared.Answer.the-variants.{Accepted, WrongTable, NotSound, ShortOutput}
+use Rattle.answer.specs.declared.Answer.the-variants.{Accepted, WrongTable, NotSound}
 use Rattle.identifier.specs.Identifier.{Token, readOf}
 use Rattle.identifier.specs.declared.Read.{Read}
 use Rattle.identifier.specs.declared.Read.the-variants.{Word, Refused}
@@ -25,7 +26,7 @@ use Rattle.plane.specs.Record.{format1}
 use Rattle.plane.specs.Plane.{planeBytes, planeLength}
 use Rattle.plane.specs.Lookup.{lookupRead, lookupCall}
 use Rattle.plane.specs.Fits.{Fits}
-use Rattle.plane_write.specs.Write.{seenOf, planeOf, putFront, Written, turnedDown, inFront, writeCall, shownTo}
+use Rattle.plane_write.specs.Write.{seenOf, planeOf, putFront, Written, turnedDown, writeCall, shownTo}
 use Rattle.plane.proofs.Scan.{both}
 use Rattle.plane.proofs.Round.{plane-length, written-right, written-read}
 use Rattle.plane_write.proofs.Shown.{plane-fits, shown}
@@ -72,10 +73,29 @@ known t w k q =
 
 -- ---- a call that is accepted has written the plane of a sound table, and nothing past it
 
-front-bytes : (b : Bool) (bytes out : List ℕ) (a : Answer) (n : ℕ) → (a ≡ Accepted n → ⊥) → cond b (turnedDown a out) (inFront bytes out) .answer ≡ Accepted n
-    → take n (cond b (turnedDown a out) (inFront bytes out) .output) ≡ bytes
-front-bytes true bytes out a n x e = absurd (x e)
-front-bytes false bytes out a n x e = let l : length bytes ≡ n = cc in take-at bytes (drop (length bytes) out) n l
+module _ (n : ℕ) (out : List ℕ) where
+  -- n bytes stand in front of the output, which has room for them, and past them it is what it was
+  pub record InFront (bytes after : List ℕ) : Type 0 where
+    pub size : n ≡ length bytes
+    pub room : n ≤ length out
+    pub front : take n after ≡ bytes
+    pub rest : drop n after ≡ drop n out
+
+  pub in-front : (bytes : List ℕ) → putFront bytes out .answer ≡ Accepted n → InFront bytes (putFront bytes out .output)
+  in-front bytes =
+      by-test (λ (o : Written). o .answer ≡ Accepted n → InFront bytes (o .output)) (ltb (length out) (length bytes))
+      (λ t e. let z : _≡_ {A = ℕ} 0 1 = cc in absurd (omega arith))
+      (λ f e. let l : length bytes ≡ n = cc in
+      record {
+        size = sym l;
+        room = subst (λ (k : ℕ). k ≤ length out) l (ltb-false (length out) (length bytes) f);
+        front = take-at bytes (drop (length bytes) out) n l;
+        rest = drop-at bytes (drop (length bytes) out) n l ∙ ap (λ (k : ℕ). drop k out) l;
+      })
+
+-- where there is room it is accepted
+pub front-room : (bytes out : List ℕ) → length bytes ≤ length out → putFront bytes out .answer ≡ Accepted (length bytes)
+front-room bytes out l = rw (le-ltb (length out) (length bytes) l) refl
 
 accepted-of : (b : Bool) (o : Written) (a : Answer) (out : List ℕ) (n : ℕ) → (a ≡ Accepted n → ⊥) → cond b o (turnedDown a out) .answer ≡ Accepted n → (b ≡ true) × (o .answer ≡ Accepted n)
 accepted-of true o a out n x e = (refl, e)
@@ -89,8 +109,6 @@ module _ (t out : List ℕ) (n : ℕ) (e : writeCall t out .answer ≡ Accepted 
   pub was-sound : (sound t ≡ true) × (putFront (planeBytes format1 (planeOf (tableOf t))) out .answer ≡ Accepted n)
   was-sound = accepted-of (sound t) _ NotSound out n (λ x. let z : _≡_ {A = ℕ} 0 1 = cc in omega arith) (was-shaped .1)
 
-  pub was-written : take n (writeCall t out .output) ≡ planeBytes format1 (planeOf (tableOf t))
+  pub was-written : InFront n out (planeBytes format1 (planeOf (tableOf t))) (writeCall t out .output)
   unfolding writeCall
-  was-written =
-      let bytes : List ℕ = planeBytes format1 (planeOf (tableOf t)) in
-      rw (was-shaped .0, was-sound .0) (front-bytes (ltb (length out) (length bytes)) bytes out (ShortOutput (length bytes)) n (λ x. let z : _≡_ {A = ℕ} 0 1 = cc in omega arith) (was-sound .1))
+  was-written = rw (was-shaped .0, was-sound .0) (in-front n out (planeBytes format1 (planeOf (tableOf t))) (was-sound .1))

@@ -15,7 +15,7 @@ use Rattle.answer.specs.declared.Answer.the-variants.{Accepted}
 use Rattle.answer.specs.Numbers.{numberOf, valueOf}
 use Rattle.answer.specs.Causes.{NoneMet, InOrder, Exactly}
 use Rattle.answer.proofs.Causes.{test-apart, number-exactly}
-use Rattle.identifier.specs.Identifier.{Token, readOf}
+use Rattle.identifier.specs.Identifier.{Token, wordOf, readOf}
 use Rattle.identifier.specs.Causes.{wrongLength, wrongByte, idCauses}
 use Rattle.identifier.specs.Place.{secondOf}
 use Rattle.identifier.specs.declared.Read.the-variants.{Word}
@@ -25,17 +25,17 @@ use Rattle.bucket.specs.declared.Bucket.{Bucket}
 use Rattle.bucket.specs.Bucket.{Sound, lookup, live}
 use Rattle.bucket.specs.Answers.{liveIn}
 use Rattle.bucket.proofs.Answers.{answers-none, solutions-settled}
-use Rattle.model.specs.Model.{baseLimit}
-use Rattle.model.specs.Request.{Request}
+use Rattle.model.specs.Model.{baseLimit, Call}
+use Rattle.model.specs.Request.{subject, Request}
 use Rattle.model.specs.History.{told}
 use Rattle.model.specs.Machine.{accepted, after}
 use Rattle.table.specs.Table.{bucketOf, holds}
 use Rattle.table.specs.Answers.{Answered}
 use Rattle.table.specs.Layout.{mostBuckets1, mostBuckets2}
-use Rattle.table.specs.Calls.{rows, solutions, tableOf, planIn, FlatSound}
+use Rattle.table.specs.Calls.{rows, solutions, tableOf, planIn, shaped, FlatSound, call}
 use Rattle.table.specs.Causes.{wrongTable, notSound}
 use Rattle.table.specs.History.{tables, Opened, acceptedCalls}
-use Rattle.table.proofs.Statements.{sound-exactly, always-sound, plan, plan-given, list-answers-first, list-answers-second}
+use Rattle.table.proofs.Statements.{sound-exactly, call-sound, other-plan, always-sound, plan, plan-given, list-answers-first, list-answers-second}
 use Rattle.plane.specs.declared.Wrong.the-variants.{Nowhere, At}
 use Rattle.plane.specs.Record.{Format, format1, PlaneBucket}
 use Rattle.plane.specs.Plane.{Plane, planeBytes, planeLength, planeFrom, wrongAt}
@@ -122,7 +122,7 @@ module _ (t out : List ℕ) (n : ℕ) (e : writeCall t out .answer ≡ Accepted 
   -- written from a sound table and read again, the plane gives for each identifier, live or not, the answer of the table's own XOR words or
   -- base list
   pub statement-2 : (id : Token) → lookupCall id (take n (writeCall t out .output)) ≡ shownTo (tableOf t) (readOf id)
-  statement-2 id = ap (lookupCall id) (was-written t out n e) ∙ shows t (was-shaped t out n e .0) h id
+  statement-2 id = ap (lookupCall id) (was-written t out n e .front) ∙ shows t (was-shaped t out n e .0) h id
 
   -- so a live identifier gets its word's plan
   pub live-plan : (id : Token) (v p : ℕ) → readOf id ≡ Word v → planIn t v ≡ some p → lookupCall id (take n (writeCall t out .output)) ≡ Accepted p
@@ -135,6 +135,11 @@ written-sound t out n e w = sound-exactly t (was-shaped t out n e .0) w .0 (was-
 -- the word that an identifier is read as has 64 bits
 read-small : (id : Token) (v : ℕ) → readOf id ≡ Word v → v < 2 ^ 64
 read-small id v i = rw (read-word id v .0 i .3) (word-lt id)
+
+-- document 02, order 4: after a call for another word an identifier that is live gets its plan from the plane as before
+pub other-plane : (t : List ℕ) → shaped t ≡ true → FlatSound t → (c : Call Token) (id : Token) (v p : ℕ) → readOf id ≡ Word v → (v ≡ wordOf (subject c) → ⊥) → planIn t v ≡ some p
+    → (out : List ℕ) (n : ℕ) → writeCall (call t c .table) out .answer ≡ Accepted n → lookupCall id (take n (writeCall (call t c .table) out .output)) ≡ Accepted p
+other-plane t k h c id v p i ne l out n e = live-plan (call t c .table) out n e (call-sound t k h c .2) id v p i (other-plan t k h c v (read-small id v i) ne ∙ l)
 
 -- after any list of calls
 pub told-shown : (t : List ℕ) → Opened t → (ps : List Request) (id : Token) (v p : ℕ) → readOf id ≡ Word v → told v (acceptedCalls t ps) ≡ some p

@@ -1,6 +1,7 @@
 -- The writer: the plane of a table, and what the call answers and leaves for any numbers as table and any bytes as output.
 -- Assumes nothing.
 use Prim.Native.Nat.{ℕ}
+use mathlib.Core.Path.{_≡_}
 use mathlib.Core.Bool.{cond}
 use mathlib.Core.List.{List, _++_, map}
 use lib.Dec.{ltb}
@@ -32,6 +33,10 @@ planeOf T = record { level1 = map seenOf (T .level1); level2 = map seenOf (T .le
 pub record Written : Type 0 where
   pub answer : Answer
   pub output : List ℕ
+
+-- what a contract says of a call: it answers a and leaves the output out, as these are written
+abbrev pub Writes : Written → Answer → List ℕ → Type 0
+Writes w a out = (a ≡ w .answer) × (out ≡ w .output)
 
 -- turned down: the output stays as it was
 abbrev pub turnedDown : Answer → List ℕ → Written

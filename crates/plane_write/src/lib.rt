@@ -1,8 +1,6 @@
 // The writer of planes: the plane of a table of any numbers, to the front of the output.
 // Definitions: specs/Write.antt (the call, in document 01's words, and what the plane of a table gives), specs/Causes.antt; specs/Steps.antt
 // is for the inner steps alone. Statements of the plane: proofs/Statements.antt.
-// Cites codec, bucket, table (its definitions), table_layout and table_sound (its tests) and plane (the records). The crates of patches and
-// the library for C cite it.
 use answer::Answer;
 use bucket::Bucket;
 use plane::Record;
@@ -19,7 +17,7 @@ ghost use Rattle.table.specs.Layout.{mostBuckets1, mostBuckets2, header, bucket
 ghost use Rattle.plane.specs.Record.{format1, wordBytes, bytesOf, readAll, bucketLength, entryLength, endLength, headerRecord, bucketRecord, entryRecord, endRecord};
 ghost use Rattle.plane.specs.Plane.{planeBytes, bucketsAt, planeLength};
 ghost use Rattle.table.specs.Calls.{rows, solutions, tableOf, shaped, sound};
-ghost use Rattle.plane_write.specs.Write.{planeOf, inFront, putFront, writeCall};
+ghost use Rattle.plane_write.specs.Write.{planeOf, inFront, putFront, writeCall, Writes};
 ghost use Rattle.plane_write.specs.Steps.{seenFrom, pairFrom, recordsOf};
 
 // Writes the words from the offset at on, 8 bytes each.
@@ -55,7 +53,7 @@ pub(crate) fn put_entry(out: &mut [u8], at: usize, word: u64, plan: u64)
 {
     out[at] = Record::ENTRY;
     codec::put_u64(out, at + 1, word);
-    out[at + Record::ENTRY_BODY] = plan as u8;
+    out[at + Record::PLAN_AT] = plan as u8;
 }
 
 // Writes the records of m buckets, whose numbers stand one after the other in b, from the offset at on.
@@ -155,7 +153,7 @@ pub(crate) fn plane_len(buckets: usize, entries: usize) -> usize
 // Writes the plane of the sound table t, if the output has room for it: cause 9.
 pub(crate) fn write_sound(t: &[u64], out: &mut [u8]) -> Answer
     requires { ⌜ (shaped (now t) ≡ true) × (sound (now t) ≡ true) ⌝ }
-    ensures { λ r. ⌜ (r ≡ putFront (planeBytes format1 (planeOf (tableOf (now (t .entry))))) (now (out .entry)) .answer) × (now (out .exit) ≡ putFront (planeBytes format1 (planeOf (tableOf (now (t .entry))))) (now (out .entry)) .output) ⌝ }
+    ensures { λ r. ⌜ Writes (putFront (planeBytes format1 (planeOf (tableOf (now (t .entry))))) (now (out .entry))) r (now (out .exit)) ⌝ }
 {
     let buckets = (t[Table::BUCKETS_1_AT] + t[Table::BUCKETS_2_AT]) as usize;
     let needed = plane_len(buckets, t[Table::BASE_COUNT_AT] as usize);
@@ -168,7 +166,7 @@ pub(crate) fn write_sound(t: &[u64], out: &mut [u8]) -> Answer
 
 // The plane of a table of any numbers, to the front of the output: causes 4, 5, 9. Nothing is written where it is turned down.
 pub fn write(t: &[u64], out: &mut [u8]) -> Answer
-    ensures { λ r. ⌜ (r ≡ writeCall (now (t .entry)) (now (out .entry)) .answer) × (now (out .exit) ≡ writeCall (now (t .entry)) (now (out .entry)) .output) ⌝ }
+    ensures { λ r. ⌜ Writes (writeCall (now (t .entry)) (now (out .entry))) r (now (out .exit)) ⌝ }
 {
     if table_layout::shaped(t) {
         if table_sound::sound(t) {

@@ -1,6 +1,5 @@
 // Entries for other languages over the parts of the library: a program made without this code is compared with them.
 // Definitions: specs/Steps.antt (one bucket), specs/Fill.antt (a table that is filled).
-// Cites answer, codec, hash, identifier, bucket, bucket_rows, table_open, table_calls, table_add, lines_text and lines_run. Nothing cites it.
 use answer::Answer;
 use bucket::Bucket;
 use identifier::Identifier;

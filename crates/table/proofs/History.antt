@@ -9,6 +9,7 @@ use mathlib.Core.Option.{Option, none, some}
 use mathlib.Core.List.{List, [], _∷_}
 use lib.Dec.{eqb, ltb}
 use lib.ListN.{length}
+use borrow.Author.Tests.{eqb-true}
 use Rattle.lists.proofs.Tests.{by-test}
 use Rattle.hash.specs.Mix.{mixOf}
 use Rattle.answer.specs.declared.Answer.the-variants.{Accepted}
@@ -39,12 +40,13 @@ compares = record { one = λ t u s q e h g. sym (stands-shows t s h) ∙ e ∙ s
 
 -- ---- opening
 
-pub open-cases : (b1 b2 : ℕ) (t : List ℕ) → openCall b1 b2 t .answer ≡ Accepted 0 → (inRange b1 b2 ≡ true) × (openCall b1 b2 t .table ≡ numbersOf (openTable rows solutions b1 b2))
+pub open-cases : (b1 b2 : ℕ) (t : List ℕ) → openCall b1 b2 t .answer ≡ Accepted 0
+    → (inRange b1 b2 ≡ true) × (openCall b1 b2 t .table ≡ numbersOf (openTable rows solutions b1 b2)) × (length t ≡ lengthOf rows solutions b1 b2)
 unfolding openCall
 open-cases b1 b2 t =
-    by-test (λ (o : Outcome). o .answer ≡ Accepted 0 → (inRange b1 b2 ≡ true) × (o .table ≡ numbersOf (openTable rows solutions b1 b2))) (inRange b1 b2)
-    (λ r. by-test (λ (o : Outcome). o .answer ≡ Accepted 0 → (inRange b1 b2 ≡ true) × (o .table ≡ numbersOf (openTable rows solutions b1 b2))) (eqb (length t) (lengthOf rows solutions b1 b2))
-    (λ q a. (r, refl)) (λ q a. let z : _≡_ {A = ℕ} 0 1 = cc in absurd (omega arith)))
+    let Fits : Outcome → Type 0 = (λ o. o .answer ≡ Accepted 0 → (inRange b1 b2 ≡ true) × (o .table ≡ numbersOf (openTable rows solutions b1 b2)) × (length t ≡ lengthOf rows solutions b1 b2)) in
+    by-test Fits (inRange b1 b2)
+    (λ r. by-test Fits (eqb (length t) (lengthOf rows solutions b1 b2)) (λ q a. (r, refl, eqb-true _ _ q)) (λ q a. let z : _≡_ {A = ℕ} 0 1 = cc in absurd (omega arith)))
     (λ r a. let z : _≡_ {A = ℕ} 0 1 = cc in absurd (omega arith))
 
 pub opened-stands : (t : List ℕ) (o : Opened t) → FlatStands t (opened (o .size))

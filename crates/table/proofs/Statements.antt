@@ -6,7 +6,7 @@ use native.Mathlib.Omega.{arith}
 use mathlib.Core.Path.{_≡_, refl, ap, _∙_, sym, subst, subst⁻¹}
 use mathlib.Core.Bool.{true, false}
 use mathlib.Core.Logic.{_↔_}
-use mathlib.Core.Option.{none, some}
+use mathlib.Core.Option.{Option, none, some}
 use mathlib.Core.List.{List, _∷_, _++_, List·Permᴰ}
 use lib.Dec.{eqb}
 use lib.ListN.{length, getD, set, take, drop}
@@ -36,12 +36,13 @@ use Rattle.bucket.specs.Bucket.{lookup}
 use Rattle.bucket_words.specs.Words.{bucketWords, wordsOf, bucketFrom}
 use Rattle.model.specs.Levels.{firstLevel, secondLevel, passed, due}
 use Rattle.model.specs.Model.{State, Call, add, change, withdraw, query, opened, wouldLeave, base}
-use Rattle.model.specs.Request.{subject, planAllowed, wordFor, askOf, serveRead, Request, callsOf}
+use Rattle.model.specs.Request.{subject, planAllowed, wordFor, askOf, serveRead, Request, ask, callsOf}
 use Rattle.model.specs.Machine.{accepted, after, answers, Alike, Refines}
 use Rattle.model.specs.History.{model, addsIn, withdrawalsIn, told}
 use Rattle.model.proofs.Valid.{valid-opened}
 use Rattle.model.proofs.Calls.{count-after, told-after}
-use Rattle.model.proofs.Requests.{word-small, stands-for}
+use Rattle.model.proofs.Requests.{word-small, stands-for, respond-size}
+use Rattle.model.proofs.Others.{found-other}
 use Rattle.model.proofs.Statements as Model
 use Rattle.table.specs.Table.{Table, totalNumbers, withFirst, withSecond, bounds, nth, bucketOf, changedIn, withdrawnFrom, addedTo}
 use Rattle.table.specs.Layout.{buckets1At, buckets2At, baseCountAt, liveCountAt, numbersOf, tableFrom, bucketPlace, lengthOf, longest}
@@ -77,8 +78,19 @@ pub header-read : (t : List ℕ) → (length (tableOf t .level1) ≡ getD t buck
 header-read = Numbers.header-read rows solutions
 
 -- document 02, order 2: "its length is 4 + 256 + 74 × buckets + 128", 536 for the smallest table and 6,308 for the largest
+pub length-formula : (b1 b2 : ℕ) → lengthOf rows solutions b1 b2 ≡ 4 + 256 + 74 * (b1 + b2) + 128
+length-formula b1 b2 = omega arith
+
 pub lengths : (lengthOf rows solutions 1 1 ≡ 536) × (longest rows solutions ≡ 6308)
 lengths = (refl, refl)
+
+-- opening accepts that length alone
+pub opened-length : (b1 b2 : ℕ) (t : List ℕ) → openCall b1 b2 t .answer ≡ Accepted 0 → length t ≡ 4 + 256 + 74 * (b1 + b2) + 128
+opened-length b1 b2 t e = History.open-cases b1 b2 t e .2 ∙ length-formula b1 b2
+
+-- of any table whose shape is right
+pub table-length : (t : List ℕ) → shaped t ≡ true → length t ≡ 4 + 256 + 74 * (getD t buckets1At 0 + getD t buckets2At 0) + 128
+table-length t k = Calls.shape-size rows solutions t k ∙ length-formula (getD t buckets1At 0) (getD t buckets2At 0)
 
 -- "74 per bucket, level 1 first": bucket i is read from its own stretch
 pub read-first : (t : List ℕ) (i : ℕ) → i < getD t buckets1At 0
@@ -210,6 +222,16 @@ served-sound t k h w l c f =
     let m = Calls.served-match t (flatState t) (sound-stands t k h) w l c f in
     (m .stands .shape, Calls.stands-flat (served t (askOf w c) .table) _ (m .stands))
 
+-- and any call for an identifier does
+pub call-sound : (t : List ℕ) → shaped t ≡ true → FlatSound t → (c : Call Token) → (shaped (call t c .table) ≡ true) × (sound (call t c .table) ≡ true) × FlatSound (call t c .table)
+call-sound t k h c = stands-sound (call t c .table) _ (Calls.call-match t (flatState t) (sound-stands t k h) c .stands)
+
+-- with the same bucket numbers
+pub call-size : (t : List ℕ) → shaped t ≡ true → FlatSound t → (c : Call Token) → flatState (call t c .table) .size ≡ flatState t .size
+call-size t k h c =
+    let m = Calls.call-match t (flatState t) (sound-stands t k h) c in
+    ap (λ (s : State). s .size) (stands-one (call t c .table) _ (m .stands)) ∙ respond-size (flatState t) (ask c)
+
 -- document 02, order 6, "withdrawn cards must leave no plan behind": whatever plan an identifier had, its withdrawal leaves the same numbers,
 -- every one; for any sound table in which it is live, with the plan q, and any plan p that may be given
 pub plan-forgotten : (t : List ℕ) → shaped t ≡ true → FlatSound t → (id : Token) (w p q : ℕ) → readOf id ≡ Word w → assignable p ≡ true → planIn t w ≡ some q
@@ -232,6 +254,11 @@ plan-forgotten t k h id w p q i a f =
     ∙ sym (ap (λ (o : Outcome). o .table) (causes-else t (withdraw id) w leave k (stands-sound t _ s .1) ∙ ap (replaced t (withdrawnFrom rows solutions mixOf T w)) f))
 
 -- ---- sound tables, also those handed in from elsewhere
+
+-- the answer to a query is settled by what is found
+queried-alike : (t u : List ℕ) (o : Option ℕ) → queried t o .answer ≡ queried u o .answer
+queried-alike t u (some p) = refl
+queried-alike t u none = refl
 
 module _ (t : List ℕ) (k : shaped t ≡ true) (h : FlatSound t) where
   -- "In a sound table handed in from elsewhere the live words are those of its occupied rows and base entries"
@@ -294,6 +321,23 @@ module _ (t : List ℕ) (k : shaped t ≡ true) (h : FlatSound t) where
 
   pub query-other : (i : Token) (w : ℕ) → wordFor (query i) ≡ Word w → find w (flatState t .live) ≡ none → call t (query i) ≡ record { answer = NotLive; table = t }
   query-other i w e f = query-plan i w e ∙ ap (queried t) f
+
+  -- document 02, order 4: a call for another word, accepted or not, leaves what the table has of the word w
+  pub other-plan : (c : Call Token) (w : ℕ) → w < 2 ^ 64 → (w ≡ wordOf (subject c) → ⊥) → planIn (call t c .table) w ≡ planIn t w
+  other-plan c w l ne =
+      let st = sound-stands t k h in
+      Calls.stands-look (call t c .table) _ (Calls.call-match t (flatState t) st c .stands) w l ∙ found-other (flatState t) (st .stands .valid) w c ne ∙ sym (live-plans w l)
+
+  -- so a query for that word gets the same answer after it as before
+  pub other-query : (c : Call Token) (i : Token) (w : ℕ) → wordFor (query i) ≡ Word w → (w ≡ wordOf (subject c) → ⊥) → call (call t c .table) (query i) .answer ≡ call t (query i) .answer
+  unfolding served
+  other-query c i w e ne =
+      let u : List ℕ = call t c .table in
+      let s = call-sound t k h c in
+      ap (λ (o : Outcome). o .answer) (causes-else u (query i) w e (s .0) (s .1))
+      ∙ ap (λ (o : Option ℕ). queried u o .answer) (other-plan c w (word-small (query i) w e) ne)
+      ∙ queried-alike u t (planIn t w)
+      ∙ sym (ap (λ (o : Outcome). o .answer) (causes-else t (query i) w e k (stands-sound t _ (sound-stands t k h) .1)))
 
   module _ (i : Token) (p : ℕ) where
     -- statement 3, the rule of the bounds: after an accepted add each is the largest number, not above the old one, under which no

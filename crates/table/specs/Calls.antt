@@ -1,7 +1,8 @@
 -- What each call of the table answers, and every number of the table after it: for any numbers as table and anything as identifier.
--- The causes stand in the order of document 01's table; a call that is turned down leaves the table as it was.
+-- The causes stand in the order of document 01's table, of document 02's 15 before 1 and 14 after 2; a call that is turned down leaves the table as it was.
 -- Assumes nothing.
 use Prim.Native.Nat.{ℕ, _+_}
+use mathlib.Core.Path.{_≡_}
 use mathlib.Core.Bool.{Bool, cond}
 use mathlib.Core.List.{List}
 use mathlib.Core.Option.{Option, none, some}
@@ -50,6 +51,10 @@ sound t = E.soundTest rows (solutionsIn t) mixOf unmixOf t
 pub record Outcome : Type 0 where
   pub answer : Answer
   pub table : List ℕ
+
+-- what a contract says of a call: it answers a and leaves the table t, as this outcome has them
+abbrev pub Performs : Outcome → Answer → List ℕ → Type 0
+Performs o a t = (a ≡ o .answer) × (t ≡ o .table)
 
 -- turned down: the table stays as it was
 abbrev pub turnedDown : Answer → List ℕ → Outcome

@@ -2,8 +2,6 @@
 // the base list has room; then only the stretches of the buckets that changed, the base list and the header are. The word's product in the
 // bucket that holds it is formed once: whether it is live, whether it goes straight in and whether it depends are told by it.
 // specs/Arrivals.antt has what an add of a word that is not live does. Laws: proofs/Added.antt (what a word that arrives at level 1 leaves is the call's table).
-// Cites table_pass (the words that go on), table_arrive (the arrival of one word), table_calls (the tests of a call, the query), table, table_layout (places), bucket_settle and bucket_fall (the words that leave
-// a bucket), identifier, bucket and table_base. The library, the line program and run_probe build on it.
 use answer::Answer;
 use bucket::Bucket;
 use identifier::Read;
@@ -22,7 +20,7 @@ ghost use Rattle.bucket_settle.specs.Settle.{planOf};
 ghost use Rattle.model.specs.Model.{add};
 ghost use Rattle.table.specs.Table.{second, holds};
 ghost use Rattle.table.specs.Layout.{liveCountAt};
-ghost use Rattle.table.specs.Calls.{rows, solutions, tableOf, served, call};
+ghost use Rattle.table.specs.Calls.{rows, solutions, tableOf, served, call, Performs};
 ghost use Rattle.table_base.specs.Base.{foundOf};
 ghost use Rattle.table_edit.specs.Ready.{Ready};
 ghost use Rattle.table_arrive.specs.Arrival.{productAt, productIn, DependsIn};
@@ -53,7 +51,7 @@ pub(crate) fn plan_by(t: &[u64], at: usize, v: u64, p: u64) -> Found
 // A word that is not live and that depends in its bucket at level 1 settles there, and what leaves that goes on.
 pub(crate) fn fall_first(t: &mut [u64], w: u64, plan: u64) -> Answer
     requires { ⌜ Ready (now t) × ((plan < planLimit) × DependsIn rows solutions mixOf (tableOf (now t) .level1) (record { word = w; plan = plan })) ⌝ }
-    ensures { λ r. ⌜ (r ≡ entering (now (t .entry)) (record { word = w; plan = plan }) .answer) × (now (t .exit) ≡ entering (now (t .entry)) (record { word = w; plan = plan }) .table) ⌝ }
+    ensures { λ r. ⌜ Performs (entering (now (t .entry)) (record { word = w; plan = plan })) r (now (t .exit)) ⌝ }
 {
     let at = table_layout::first_place(t, w);
     let s = table_arrive::fallen_at(t, at, w, plan);
@@ -70,7 +68,7 @@ pub(crate) fn fall_first(t: &mut [u64], w: u64, plan: u64) -> Answer
 // lies in the frame of this call alone: an add that goes straight in has a small one.
 pub(crate) fn enter_depending(t: &mut [u64], w: u64, plan: u64) -> Answer
     requires { ⌜ Depending (now t) w plan ⌝ }
-    ensures { λ r. ⌜ (r ≡ entering (now (t .entry)) (record { word = w; plan = plan }) .answer) × (now (t .exit) ≡ entering (now (t .entry)) (record { word = w; plan = plan }) .table) ⌝ }
+    ensures { λ r. ⌜ Performs (entering (now (t .entry)) (record { word = w; plan = plan })) r (now (t .exit)) ⌝ }
 {
     if table_layout::holds_first(t, w) {
         return fall_first(t, w, plan);
@@ -84,7 +82,7 @@ pub(crate) fn enter_depending(t: &mut [u64], w: u64, plan: u64) -> Answer
 // A word that is not live, that level 1 holds and whose product in its bucket there is p arrives there: straight in, or it settles.
 pub(crate) fn enter_first(t: &mut [u64], w: u64, p: u64, plan: u64) -> Answer
     requires { ⌜ Held (now t) w plan × (p ≡ productIn rows solutions mixOf (tableOf (now t) .level1) w) ⌝ }
-    ensures { λ r. ⌜ (r ≡ entering (now (t .entry)) (record { word = w; plan = plan }) .answer) × (now (t .exit) ≡ entering (now (t .entry)) (record { word = w; plan = plan }) .table) ⌝ }
+    ensures { λ r. ⌜ Performs (entering (now (t .entry)) (record { word = w; plan = plan })) r (now (t .exit)) ⌝ }
 {
     let at = table_layout::first_place(t, w);
     if table_arrive::put_by(t, at, w, p, plan) {
@@ -97,7 +95,7 @@ pub(crate) fn enter_first(t: &mut [u64], w: u64, p: u64, plan: u64) -> Answer
 // in, or it settles.
 pub(crate) fn enter_second(t: &mut [u64], w: u64, p: u64, plan: u64) -> Answer
     requires { ⌜ Passing (now t) w plan × ((holds rows solutions mixOf (tableOf (now t) .level2) (second mixOf w) ≡ true) × (p ≡ productIn rows solutions mixOf (tableOf (now t) .level2) (second mixOf w))) ⌝ }
-    ensures { λ r. ⌜ (r ≡ entering (now (t .entry)) (record { word = w; plan = plan }) .answer) × (now (t .exit) ≡ entering (now (t .entry)) (record { word = w; plan = plan }) .table) ⌝ }
+    ensures { λ r. ⌜ Performs (entering (now (t .entry)) (record { word = w; plan = plan })) r (now (t .exit)) ⌝ }
 {
     let v = identifier::second(w);
     let at = table_layout::second_place(t, v);
@@ -110,7 +108,7 @@ pub(crate) fn enter_second(t: &mut [u64], w: u64, p: u64, plan: u64) -> Answer
 // A word that is not live and that neither level holds goes on to the base list.
 pub(crate) fn enter_last(t: &mut [u64], w: u64, plan: u64) -> Answer
     requires { ⌜ Passing (now t) w plan × (holds rows solutions mixOf (tableOf (now t) .level2) (second mixOf w) ≡ false) ⌝ }
-    ensures { λ r. ⌜ (r ≡ entering (now (t .entry)) (record { word = w; plan = plan }) .answer) × (now (t .exit) ≡ entering (now (t .entry)) (record { word = w; plan = plan }) .table) ⌝ }
+    ensures { λ r. ⌜ Performs (entering (now (t .entry)) (record { word = w; plan = plan })) r (now (t .exit)) ⌝ }
 {
     if table_arrive::pass_second(t, identifier::second(w), plan) {
         return count_one(t, plan);
@@ -121,7 +119,7 @@ pub(crate) fn enter_last(t: &mut [u64], w: u64, plan: u64) -> Answer
 // An add of the word w, which level 1 holds: its product there is formed once.
 pub(crate) fn add_first(t: &mut [u64], w: u64, plan: u64) -> Answer
     requires { ⌜ Held (now t) w plan ⌝ }
-    ensures { λ r. ⌜ (r ≡ served (now (t .entry)) (add w plan) .answer) × (now (t .exit) ≡ served (now (t .entry)) (add w plan) .table) ⌝ }
+    ensures { λ r. ⌜ Performs (served (now (t .entry)) (add w plan)) r (now (t .exit)) ⌝ }
 {
     let at = table_layout::first_place(t, w);
     let p = table_arrive::product_at(t, at, w);
@@ -135,7 +133,7 @@ pub(crate) fn add_first(t: &mut [u64], w: u64, plan: u64) -> Answer
 // An add of the word w, which level 2 holds and level 1 does not: its product at level 2 is formed once.
 pub(crate) fn add_second(t: &mut [u64], w: u64, plan: u64) -> Answer
     requires { ⌜ Passing (now t) w plan × (holds rows solutions mixOf (tableOf (now t) .level2) (second mixOf w) ≡ true) ⌝ }
-    ensures { λ r. ⌜ (r ≡ served (now (t .entry)) (add w plan) .answer) × (now (t .exit) ≡ served (now (t .entry)) (add w plan) .table) ⌝ }
+    ensures { λ r. ⌜ Performs (served (now (t .entry)) (add w plan)) r (now (t .exit)) ⌝ }
 {
     let v = identifier::second(w);
     let at = table_layout::second_place(t, v);
@@ -150,7 +148,7 @@ pub(crate) fn add_second(t: &mut [u64], w: u64, plan: u64) -> Answer
 // An add of the word w.
 pub fn add_word(t: &mut [u64], w: u64, plan: u64) -> Answer
     requires { ⌜ Ready (now t) × (assignable plan ≡ true) ⌝ }
-    ensures { λ r. ⌜ (r ≡ served (now (t .entry)) (add w plan) .answer) × (now (t .exit) ≡ served (now (t .entry)) (add w plan) .table) ⌝ }
+    ensures { λ r. ⌜ Performs (served (now (t .entry)) (add w plan)) r (now (t .exit)) ⌝ }
 {
     if table_layout::holds_first(t, w) {
         return add_first(t, w, plan);
@@ -167,7 +165,7 @@ pub fn add_word(t: &mut [u64], w: u64, plan: u64) -> Answer
 
 // Add: accepted, the live count.
 pub fn add(t: &mut [u64], kind: u8, id: &[u8], plan: u8) -> Answer
-    ensures { λ r. ⌜ (r ≡ call (now (t .entry)) (add (token kind (now (id .entry))) plan) .answer) × (now (t .exit) ≡ call (now (t .entry)) (add (token kind (now (id .entry))) plan) .table) ⌝ }
+    ensures { λ r. ⌜ Performs (call (now (t .entry)) (add (token kind (now (id .entry))) plan)) r (now (t .exit)) ⌝ }
 {
     let admitted = table_calls::admit(t, kind, id, table_layout::assignable(plan as u64));
     match admitted {

@@ -4,7 +4,6 @@
 // specs/Arrival.antt has the steps as the code goes about them, at every number of rows and of solution words, and `Kept`, what each of
 // them keeps. Laws: proofs/Tables.antt (such a table and its numbers, words into the pairs of the base list),
 // proofs/Settled.antt (the words that leave a bucket, as the code keeps them; what it finds settled is what the crate table's `arriveAt` leaves).
-// Cites table, table_layout (places), bucket, bucket_words, gf2, identifier (thresholds), bucket_settle and bucket_fall (one bucket under its bound) and table_base. table_add cites it.
 use bucket::Bucket;
 use bucket_fall::Settled;
 use bucket_settle::Outgoing;

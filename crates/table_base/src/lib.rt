@@ -2,7 +2,6 @@
 // slice tells for how many entries there is room, in a table 64. Each function is an equation with a definition of lists
 // (specs/Entries.antt) on the entries that the pairs stand for; what lies there afterwards is the whole slice. specs/Base.antt says what
 // a slice is that holds `count` entries, proofs/Shift.antt how a pair comes in or goes out.
-// Cites lists and table (specs/Layout.antt); table_calls and table_arrive build on it.
 ghost use mathlib.Core.Path.{_≡_};
 ghost use mathlib.Core.List.{[], _∷_, _++_};
 ghost use Prim.Native.Nat.{_*_, _<_, _≤_};

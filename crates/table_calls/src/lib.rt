@@ -1,7 +1,6 @@
 // The calls of document 01's table on a lent slice of any length and contents, with anything as identifier: query, change and
 // withdrawal; and the total of a plan, document 02's order 2. Each is an equation with a definition of the crate table (specs/Calls.antt): the answer, causes in document 01's order, and
 // every number of the table afterwards.
-// Cites table, table_layout (shape, places), table_sound, table_edit (the word's part of a call) and identifier. The C entries and the line program build on it.
 use answer::Answer;
 use identifier::Identifier;
 use identifier::Read;
@@ -17,7 +16,7 @@ ghost use Rattle.model.specs.Model.{change, withdraw, query};
 ghost use Rattle.answer.specs.declared.Answer.the-variants.{Accepted};
 ghost use Rattle.table.specs.Table.{totalNumbers};
 ghost use Rattle.table.specs.Layout.{totalsAt};
-ghost use Rattle.table.specs.Calls.{shaped, call, totalCall};
+ghost use Rattle.table.specs.Calls.{shaped, call, totalCall, Performs};
 ghost use Rattle.table_edit.specs.Ready.{admitted};
 ghost use Rattle.table_edit.specs.declared.Edit.the-variants.{Change};
 ghost use Rattle.table_edit.specs.Edit.{asked};
@@ -57,7 +56,7 @@ pub fn admit(t: &[u64], kind: u8, id: &[u8], allowed: bool) -> Read
 
 // Query: accepted, the plan.
 pub fn query(t: &[u64], kind: u8, id: &[u8]) -> Answer
-    ensures { λ r. ⌜ (r ≡ call (now (t .entry)) (query (token kind (now (id .entry)))) .answer) × (now (t .exit) ≡ call (now (t .entry)) (query (token kind (now (id .entry)))) .table) ⌝ }
+    ensures { λ r. ⌜ Performs (call (now (t .entry)) (query (token kind (now (id .entry))))) r (now (t .exit)) ⌝ }
 {
     let admitted = admit(t, kind, id, true);
     match admitted {
@@ -68,7 +67,7 @@ pub fn query(t: &[u64], kind: u8, id: &[u8]) -> Answer
 
 // The edit of an identifier's word.
 pub(crate) fn edit_identifier(t: &mut [u64], kind: u8, id: &[u8], edit: Edit) -> Answer
-    ensures { λ r. ⌜ (r ≡ call (now (t .entry)) (asked edit (token kind (now (id .entry)))) .answer) × (now (t .exit) ≡ call (now (t .entry)) (asked edit (token kind (now (id .entry)))) .table) ⌝ }
+    ensures { λ r. ⌜ Performs (call (now (t .entry)) (asked edit (token kind (now (id .entry))))) r (now (t .exit)) ⌝ }
 {
     let admitted = admit(t, kind, id, table_edit::plan_allowed(edit));
     match admitted {
@@ -79,14 +78,14 @@ pub(crate) fn edit_identifier(t: &mut [u64], kind: u8, id: &[u8], edit: Edit) ->
 
 // Change: accepted, the earlier plan.
 pub fn change(t: &mut [u64], kind: u8, id: &[u8], plan: u8) -> Answer
-    ensures { λ r. ⌜ (r ≡ call (now (t .entry)) (change (token kind (now (id .entry))) plan) .answer) × (now (t .exit) ≡ call (now (t .entry)) (change (token kind (now (id .entry))) plan) .table) ⌝ }
+    ensures { λ r. ⌜ Performs (call (now (t .entry)) (change (token kind (now (id .entry))) plan)) r (now (t .exit)) ⌝ }
 {
     edit_identifier(t, kind, id, Edit::Change(plan as u64))
 }
 
 // Withdrawal: accepted, the earlier plan.
 pub fn withdraw(t: &mut [u64], kind: u8, id: &[u8]) -> Answer
-    ensures { λ r. ⌜ (r ≡ call (now (t .entry)) (withdraw (token kind (now (id .entry)))) .answer) × (now (t .exit) ≡ call (now (t .entry)) (withdraw (token kind (now (id .entry)))) .table) ⌝ }
+    ensures { λ r. ⌜ Performs (call (now (t .entry)) (withdraw (token kind (now (id .entry))))) r (now (t .exit)) ⌝ }
 {
     edit_identifier(t, kind, id, Edit::Withdraw)
 }

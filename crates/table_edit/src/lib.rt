@@ -1,7 +1,6 @@
 // What is done to one word of a table that passes the tests of a call: its plan, a change, a withdrawal. Each is an equation with a definition of the crate
 // table (specs/Calls.antt): the answer and every number of the table afterwards. specs/Ready.antt has what every call tests first. proofs/Touched.antt has what
 // one touched bucket or base list does to the numbers, proofs/Calls.antt what each call does.
-// Cites table, table_layout (shape, places), table_base, bucket, bucket_words and identifier. table_calls, table_add and the line program build on it.
 use answer::Answer;
 use bucket::Bucket;
 use table_base::Found;
@@ -16,7 +15,7 @@ ghost use Rattle.bucket_settle.specs.Settle.{planOf};
 ghost use Rattle.table_base.specs.Base.{Pairs, foundOf};
 ghost use Rattle.model.specs.Model.{baseLimit, change, withdraw, query};
 ghost use Rattle.table.specs.Layout.{pairsFrom, basePairs, numbersOf};
-ghost use Rattle.table.specs.Calls.{rows, solutions, tableOf, planIn, served};
+ghost use Rattle.table.specs.Calls.{rows, solutions, tableOf, planIn, served, Performs};
 ghost use Rattle.table_edit.specs.Ready.{Ready};
 ghost use Rattle.table_edit.specs.declared.Edit.the-variants.{Change};
 ghost use Rattle.table_edit.specs.Edit.{onBucket, onBase, touched, leaving, recountedIn, editAllowed, Movable, asked};
@@ -132,7 +131,7 @@ pub(crate) fn touch(t: &mut [u64], w: u64, edit: Edit)
 // A query for the word w.
 pub fn query_word(t: &[u64], w: u64) -> Answer
     requires { ⌜ Ready (now t) ⌝ }
-    ensures { λ r. ⌜ (r ≡ served (now (t .entry)) (query w) .answer) × (now (t .exit) ≡ served (now (t .entry)) (query w) .table) ⌝ }
+    ensures { λ r. ⌜ Performs (served (now (t .entry)) (query w)) r (now (t .exit)) ⌝ }
 {
     let found = plan_in(t, w);
     match found {
@@ -156,7 +155,7 @@ pub(crate) fn recount(t: &mut [u64], q: u64, edit: Edit)
 // The edit of the word w: accepted, the earlier plan.
 pub fn edit_word(t: &mut [u64], w: u64, edit: Edit) -> Answer
     requires { ⌜ Ready (now t) × (editAllowed edit ≡ true) ⌝ }
-    ensures { λ r. ⌜ (r ≡ served (now (t .entry)) (asked edit w) .answer) × (now (t .exit) ≡ served (now (t .entry)) (asked edit w) .table) ⌝ }
+    ensures { λ r. ⌜ Performs (served (now (t .entry)) (asked edit w)) r (now (t .exit)) ⌝ }
 {
     let found = plan_in(t, w);
     match found {
@@ -174,7 +173,7 @@ pub fn edit_word(t: &mut [u64], w: u64, edit: Edit) -> Answer
 // A change of the word w.
 pub fn change_word(t: &mut [u64], w: u64, plan: u64) -> Answer
     requires { ⌜ Ready (now t) × (assignable plan ≡ true) ⌝ }
-    ensures { λ r. ⌜ (r ≡ served (now (t .entry)) (change w plan) .answer) × (now (t .exit) ≡ served (now (t .entry)) (change w plan) .table) ⌝ }
+    ensures { λ r. ⌜ Performs (served (now (t .entry)) (change w plan)) r (now (t .exit)) ⌝ }
 {
     edit_word(t, w, Edit::Change(plan))
 }
@@ -182,7 +181,7 @@ pub fn change_word(t: &mut [u64], w: u64, plan: u64) -> Answer
 // A withdrawal of the word w.
 pub fn withdraw_word(t: &mut [u64], w: u64) -> Answer
     requires { ⌜ Ready (now t) ⌝ }
-    ensures { λ r. ⌜ (r ≡ served (now (t .entry)) (withdraw w) .answer) × (now (t .exit) ≡ served (now (t .entry)) (withdraw w) .table) ⌝ }
+    ensures { λ r. ⌜ Performs (served (now (t .entry)) (withdraw w)) r (now (t .exit)) ⌝ }
 {
     edit_word(t, w, Edit::Withdraw)
 }

@@ -1,8 +1,6 @@
 // What a table of document 01 has where: its limits, its length, the test of its shape (cause 4), the places of buckets, their bounds, which
 // level holds a vector; and the totals of document 02, order 2, raised and lowered by one. Each function is an equation with a definition of the crate table (specs/Layout.antt, Table.antt, Calls.antt).
 // proofs/Shape.antt has the laws of the places, and what one bucket or the base list changes.
-// Cites table, bucket, identifier and hash; table_rows, table_sound, table_arrive, table_calls, table_add, plane, plane_write, the crates of
-// patches, lines_open and lines_run build on it.
 use bucket::Bucket;
 ghost use mathlib.Core.Path.{_≡_};
 ghost use mathlib.Core.Bool.{true};
@@ -31,10 +29,10 @@ impl Table {
 
     pub const LIVE_COUNT_AT: usize = 3;
 
-    // Then the totals: one for each plan, plan 0 first.
+    // Then the totals: one for each number that a byte may be, 0 first.
     pub const TOTALS_AT: usize = Self::LEADING;
 
-    pub const TOTALS: usize = (Self::MOST_PLAN + 1) as usize;
+    pub const TOTALS: usize = 256;
 
     // The numbers before the buckets.
     pub const HEADER: usize = Self::LEADING + Self::TOTALS;
@@ -51,9 +49,6 @@ impl Table {
     pub const BASE_ENTRIES: u64 = 64;
 
     pub const BASE_NUMBERS: usize = 2 * (Self::BASE_ENTRIES as usize);
-
-    // A plan is at most this: it is a byte, whatever number of solution words a bucket has.
-    pub const MOST_PLAN: u64 = 255;
 
     // The plan that means "call the desk": no word is given it, and a post answers it for a word that is nowhere.
     pub const DESK_PLAN: u64 = 255;

@@ -1,6 +1,5 @@
 // Opening a table of document 01 on a lent slice of any length and contents: an equation with `openCall` of the crate table (specs/Calls.antt), the
 // answer, causes 3 and 4, and every number of the table afterwards. proofs/Opened.antt has the numbers of an opened table, part by part.
-// Cites table, table_layout (limits, places), bucket and answer. The library, the line program and run_probe build on it.
 use answer::Answer;
 use bucket::Bucket;
 use table_layout::Table;
@@ -12,7 +11,7 @@ ghost use lib.ListN.{length, drop, replicate};
 ghost use Rattle.bucket.specs.Bucket.{emptyBucket};
 ghost use Rattle.table.specs.Table.{openTable};
 ghost use Rattle.table.specs.Layout.{header, levelNumbers, heads, numbersOf, inRange, lengthOf};
-ghost use Rattle.table.specs.Calls.{rows, solutions, openCall};
+ghost use Rattle.table.specs.Calls.{rows, solutions, openCall, Performs};
 
 // 0 in each number.
 pub(crate) fn clear(words: &mut [u64])
@@ -70,7 +69,7 @@ pub(crate) fn lay_out(t: &mut [u64], b1: u64, b2: u64)
 
 // Opening: cause 3, then 4 for a wrong length alone. Earlier contents are not tested.
 pub fn open(t: &mut [u64], b1: u64, b2: u64) -> Answer
-    ensures { λ r. ⌜ (r ≡ openCall b1 b2 (now (t .entry)) .answer) × (now (t .exit) ≡ openCall b1 b2 (now (t .entry)) .table) ⌝ }
+    ensures { λ r. ⌜ Performs (openCall b1 b2 (now (t .entry))) r (now (t .exit)) ⌝ }
 {
     if table_layout::in_range(b1, b2) {
         let size = t.len();

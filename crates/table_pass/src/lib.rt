@@ -2,7 +2,6 @@
 // then only the stretches of the buckets that changed, the base list and its count are written.
 // specs/Passing.antt has the words that go on, one after the other, as the code goes about them. Laws: proofs/Arrivals.antt (they lead to
 // the table of the crate table's `addedTo`), proofs/Passing.antt (the loops over them and the draft).
-// Cites table_arrive (the arrival of one word), table, table_layout (places), bucket_settle (the words that leave a bucket) and identifier. table_add builds on it.
 use bucket_settle::Outgoing;
 use table_layout::Table;
 ghost use mathlib.Core.Path.{_≡_};

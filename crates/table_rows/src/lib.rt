@@ -1,7 +1,6 @@
 // The occupied rows of a level, tested and counted off the totals: each bucket is sound, its rows are held where the tests send them, and each is taken off
 // the total of its plan. Free rows of the solutions must be 0 (document 02, order 6).
 // specs/Counting.antt has what is left of the totals, specs/Several.antt the plans of a bucket's rows; proofs/Counting.antt has their loops.
-// Cites table, bucket, bucket_rows (the rows of K), bucket_settle (`listed`: rows with their plans), identifier, hash and table_layout (the places); table_sound builds on it.
 use bucket::Bucket;
 ghost use mathlib.Core.Path.{_≡_};
 ghost use mathlib.Core.Bool.{true, cond};

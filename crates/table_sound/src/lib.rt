@@ -2,7 +2,6 @@
 // document 02, order 2: each row and base entry found is counted off a copy of them. That of the desk's plan must be 0, so an entry with that
 // plan (order 3) cannot be counted off. The test is an equation with those of the crate table
 // (specs/Test.antt, Calls.antt); specs/Held.antt is for the crate's own functions: the base list and the counts.
-// Cites table, bucket, identifier, hash, table_layout (the places) and table_rows (the rows of a level, counted off); table_calls and plane_write build on it.
 use bucket::Bucket;
 use table_layout::Table;
 ghost use mathlib.Core.Path.{_≡_};

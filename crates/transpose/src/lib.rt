@@ -3,7 +3,6 @@
 // specs/Transposed.antt has the transpose, at every number of rows, and specs/Shuffle.antt the step, at every number of pairs. proofs/Transposed.antt has the rows
 // of the transpose; proofs/Shuffling.antt that m steps are the transpose of 2 ^ m words, for every m; proofs/Below.antt a test of each number below n.
 // That m is 6 here, and that the six masks are right, is shown in the proof of `transpose` alone.
-// Cites lists, gf2 and bits; bucket_blocks cites it.
 use bits::WIDTH;
 ghost use mathlib.Core.Path.{_≡_};
 ghost use Prim.Native.Nat.{_/_, _<_};

@@ -1,8 +1,8 @@
 -- `limgoshi::limgoshi_add` meets its contract: what each call ensures, put together.
 -- Assumes nothing.
-use mathlib.Core.Path.{refl, ap, _∙_}
-use Rattle.answer.specs.Numbers.{numberOf, valueOf}
+use mathlib.Core.Path.{refl}
 use borrow.Author.Needs.{needs}
+use Rattle.limgoshi.proofs.Entry.{gives}
 use Rattle.limgoshi.proofs.limgoshi_add.Statement.{statement}
 use Rattle.limgoshi.proofs.limgoshi_add.Tie as tie
 
@@ -21,7 +21,7 @@ same-length c = search needs
 returns : tie.Need-returns
 returns c =
     let a = c .before .before .before .before in
-    (c .number .ensures ∙ ap numberOf (a .add .ensures .0), c .before .value .ensures ∙ ap valueOf (a .add .ensures .0), a .add .ensures .1, refl)
+    ((gives (c .number .ensures) (c .before .value .ensures) (a .add .ensures .0), a .add .ensures .1), refl)
 
 pub limgoshi-add-spec : {M : Type 1} → statement M
 limgoshi-add-spec =

@@ -1,8 +1,7 @@
 -- `limgoshi::limgoshi_open` meets its contract: what each call ensures, put together.
 -- Assumes nothing.
-use mathlib.Core.Path.{ap, _∙_}
-use Rattle.answer.specs.Numbers.{numberOf, valueOf}
 use borrow.Author.Needs.{needs}
+use Rattle.limgoshi.proofs.Entry.{gives}
 use Rattle.limgoshi.proofs.limgoshi_open.Statement.{statement}
 use Rattle.limgoshi.proofs.limgoshi_open.Tie as tie
 
@@ -21,7 +20,7 @@ same-length c = search needs
 returns : tie.Need-returns
 returns c =
     let a = c .before .before .before .before in
-    (c .number .ensures ∙ ap numberOf (a .«open» .ensures .0), c .before .value .ensures ∙ ap valueOf (a .«open» .ensures .0), a .«open» .ensures .1)
+    (gives (c .number .ensures) (c .before .value .ensures) (a .«open» .ensures .0), a .«open» .ensures .1)
 
 pub limgoshi-open-spec : {M : Type 1} → statement M
 limgoshi-open-spec =

@@ -1,8 +1,8 @@
 -- `limgoshi::limgoshi_plan_total` meets its contract: what each call ensures, put together.
 -- Assumes nothing.
-use mathlib.Core.Path.{refl, ap, _∙_}
-use Rattle.answer.specs.Numbers.{numberOf, valueOf}
+use mathlib.Core.Path.{refl}
 use borrow.Author.Needs.{needs}
+use Rattle.limgoshi.proofs.Entry.{gives}
 use Rattle.limgoshi.proofs.limgoshi_plan_total.Statement.{statement}
 use Rattle.limgoshi.proofs.limgoshi_plan_total.Tie as tie
 
@@ -18,7 +18,7 @@ number-requires c κs = search needs
 returns : tie.Need-returns
 returns c =
     let a = c .before .before in
-    (c .number .ensures ∙ ap numberOf (a .plan-total .ensures), c .before .value .ensures ∙ ap valueOf (a .plan-total .ensures), refl)
+    (gives (c .number .ensures) (c .before .value .ensures) (a .plan-total .ensures), refl)
 
 pub limgoshi-plan-total-spec : {M : Type 1} → statement M
 limgoshi-plan-total-spec = tie.close (tie.spec plan-total-requires value-requires number-requires returns)

@@ -1,8 +1,8 @@
 -- `limgoshi::limgoshi_plane_lookup` meets its contract: what each call ensures, put together.
 -- Assumes nothing.
-use mathlib.Core.Path.{refl, ap, _∙_}
-use Rattle.answer.specs.Numbers.{numberOf, valueOf}
+use mathlib.Core.Path.{refl}
 use borrow.Author.Needs.{needs}
+use Rattle.limgoshi.proofs.Entry.{gives}
 use Rattle.limgoshi.proofs.limgoshi_plane_lookup.Statement.{statement}
 use Rattle.limgoshi.proofs.limgoshi_plane_lookup.Tie as tie
 
@@ -18,7 +18,7 @@ number-requires c κs = search needs
 returns : tie.Need-returns
 returns c =
     let a = c .before .before in
-    (c .number .ensures ∙ ap numberOf (a .lookup .ensures), c .before .value .ensures ∙ ap valueOf (a .lookup .ensures), refl, refl)
+    (gives (c .number .ensures) (c .before .value .ensures) (a .lookup .ensures), refl, refl)
 
 pub limgoshi-plane-lookup-spec : {M : Type 1} → statement M
 limgoshi-plane-lookup-spec =

@@ -1,8 +1,8 @@
 -- `limgoshi::limgoshi_query` meets its contract: what each call ensures, put together.
 -- Assumes nothing.
-use mathlib.Core.Path.{refl, ap, _∙_}
-use Rattle.answer.specs.Numbers.{numberOf, valueOf}
+use mathlib.Core.Path.{refl}
 use borrow.Author.Needs.{needs}
+use Rattle.limgoshi.proofs.Entry.{gives}
 use Rattle.limgoshi.proofs.limgoshi_query.Statement.{statement}
 use Rattle.limgoshi.proofs.limgoshi_query.Tie as tie
 
@@ -18,7 +18,7 @@ number-requires c κs = search needs
 returns : tie.Need-returns
 returns c =
     let a = c .before .before in
-    (c .number .ensures ∙ ap numberOf (a .query .ensures .0), c .before .value .ensures ∙ ap valueOf (a .query .ensures .0), a .query .ensures .1, refl)
+    ((gives (c .number .ensures) (c .before .value .ensures) (a .query .ensures .0), a .query .ensures .1), refl)
 
 pub limgoshi-query-spec : {M : Type 1} → statement M
 limgoshi-query-spec = tie.close (tie.spec query-requires value-requires number-requires returns)

@@ -133,8 +133,18 @@ struct Seven {
     plans: [Option<u8>; 7],
     /// The plane that a post has.
     post: Vec<u8>,
+    /// What that plane gives the kinds that are not live.
+    given: [Option<u64>; 7],
+    strays: Strays,
     seen: Seen,
     read: Seen,
+}
+
+/// Lookups for a kind that is not live, before and after a call for another kind: how many, and how many gave another number after it.
+#[derive(Default)]
+struct Strays {
+    asked: u64,
+    changed: u64,
 }
 
 impl Seven {
@@ -193,9 +203,18 @@ impl Seven {
                 None => Answer::refused(7, 0),
             };
             same("plan by the table", (kind, id), queried, expected);
-            if plan.is_some() {
-                same("plan by the plane", (kind, id), read, expected);
+            let given = match plan {
+                Some(_) => {
+                    same("plan by the plane", (kind, id), read, expected);
+                    None
+                }
+                None => Some(read.value),
+            };
+            if let (Some(before), Some(after)) = (self.given[at], given) {
+                self.strays.asked += 1;
+                self.strays.changed += u64::from(before != after);
             }
+            self.given[at] = given;
         }
         self.post = patched;
     }
@@ -219,7 +238,7 @@ fn patched(old: &[u8], new: &[u8]) -> Vec<u8> {
 
 /// The same bytes, of every length, under all seven kinds: added to tables beside other words, then changed, withdrawn and added again.
 pub fn seven(rng: &mut Rng, cases: u64) {
-    let (mut seen, mut read) = (Seen::none(), Seen::none());
+    let (mut seen, mut read, mut strays) = (Seen::none(), Seen::none(), Strays::default());
     let mut together = 0;
     for case in 0..cases {
         let cards = cards(rng, 60);
@@ -240,6 +259,8 @@ pub fn seven(rng: &mut Rng, cases: u64) {
             t,
             plans: [None; 7],
             post: out[..length].to_vec(),
+            given: [None; 7],
+            strays,
             seen,
             read,
         };
@@ -253,7 +274,7 @@ pub fn seven(rng: &mut Rng, cases: u64) {
             seven.call(rng, at);
             seven.compare();
         }
-        (seen, read) = (seven.seen, seven.read);
+        (seen, read, strays) = (seven.seen, seven.read, seven.strays);
     }
     let what = format!(
         "{cases} times the same bytes under seven kinds, {together} times all of them live at once"
@@ -261,6 +282,11 @@ pub fn seven(rng: &mut Rng, cases: u64) {
     seen.print(&what, &[0, 7]);
     read.print("lookups in their planes, patched", &[0]);
     same("all seven live", cases, together, cases);
+    println!(
+        "agree: {} lookups for a kind that is not live, before and after a call for another kind: {} gave another number after it",
+        strays.asked, strays.changed
+    );
+    same("another number", strays.asked, strays.changed > 0, true);
 }
 
 /// An empty table whose buckets have low bounds: words at level 2 and in the base list too.
