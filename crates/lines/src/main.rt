@@ -1,7 +1,7 @@
 // The line program: it reads the first 64 KiB of standard input and writes what lines_run's `run` prints for them to standard output, and
 // nothing else. A read that fails ends it before anything is written; a write that fails ends it after a first part of the output. Either
 // writes a line to standard error, which is empty where both went well.
-// stdin and stdout are document 01's session; `runs/` at the root has the edges. Cites lines_run. Nothing cites it.
+// stdin and stdout are document 01's session; `runs/` at the root has the edges.
 use libc::STDERR_FILENO;
 use libc::STDIN_FILENO;
 use libc::STDOUT_FILENO;

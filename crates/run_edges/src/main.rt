@@ -1,7 +1,6 @@
 // Runs the edges of an identifier: lengths, letters in both cases, kinds, every byte value by itself. For each it prints the word
 // and its places among 48 and 32 buckets, or the number of the cause and what is returned with it.
 // The file stdout was made from documents 01 and 02 by another program, and what is printed is compared with it.
-// Cites answer and identifier. Nothing cites it.
 use identifier::Identifier;
 use identifier::Kind;
 use identifier::Read;

@@ -1,7 +1,6 @@
 // Runs known vectors: FNV-1a 64 as in Noll's list, SplitMix64 for the seeds 1234567 and 0, and the inverse of S on its
 // outputs. The file stdout holds the values, and what is printed is compared with it. They were written down without a copy of the sources
 // at hand and agree with an independent computation.
-// Cites hash. Nothing cites it.
 use libc::STDOUT_FILENO;
 
 fn text(s: &[u8]) {
