@@ -2,11 +2,13 @@
 // Definitions: specs/Numbers.antt, the number and value of each case by documents 01 and 02; specs/Causes.antt, a list of causes and the first of them
 // that is met. Laws: proofs/Determined.antt, proofs/Causes.antt.
 // A later order's cause gets its case, number and value here; it is tested by the call that can meet it, and stated and proved there too.
+#![tactic(auto)]
+
 ghost use Rattle.std.specs.Prelude.{◌≡◌};
 ghost use Rattle.answer.specs.Numbers.{number_of, value_of};
 
 // One case for accepted and one for each cause of document 01's table, in its order; then those of document 02's orders.
-#[derive(Drop)]
+#[derive(Clone, Copy)]
 pub enum Answer {
     // Accepted: what the call returns.
     Accepted(u64),

@@ -1,5 +1,7 @@
 // Code on words of bits that the elimination and the bucket share: a power of two, an XOR under a condition, the unit vectors.
 // Each is an equation with a definition of gf2; contracts name the width by specs/Width.antt.
+#![tactic(auto)]
+
 ghost use Rattle.std.specs.Prelude.{◌≡◌, ◌^◌, ◌<◌};
 ghost use Rattle.gf2.specs.Vectors.{flip_if, units};
 ghost use Rattle.bits.specs.Width.{width};

@@ -3,6 +3,8 @@
 // at every number of rows and of solution words; proofs/Steps.antt has what the steps keep (K and its inverse, live vectors, plans),
 // proofs/Answers.antt what a bucket answers to any vector, proofs/Laws.antt an add and a withdrawal by product and row. The step on the
 // columns gets a row and a product, and no vector. A withdrawal is made on a bucket's words alone: bucket_words.
+#![tactic(auto)]
+
 ghost use Rattle.std.specs.Prelude.{◌≡◌, ◌*◌, ◌/◌, ◌<◌, ◌≤◌, ◌^◌, length, get_or, drop};
 ghost use Rattle.std.specs.Int.Count.{count_trailing_zeros};
 ghost use Rattle.bits.specs.Width.{width};
@@ -10,7 +12,7 @@ ghost use Rattle.gf2.specs.Vectors.{dot, product, row_step, sol_step, exchange};
 ghost use Rattle.bucket.specs.Bucket.{rows, solutions, empty_bucket, row_by, row_of, lookup, add, change};
 
 // The bucket by value. The columns travel as one array.
-#[derive(Drop)]
+#[derive(Clone, Copy)]
 pub struct Bucket {
     pub cols: [u64; Bucket::ROWS],
     pub mark: u64,

@@ -1,5 +1,7 @@
 // K's rows from the columns of its inverse, by a guess that is tested: elimination of eight columns at a time, on words in pairs (crate bucket_pairs). Of
 // pivots and tables nothing is proved but that they are sums of pairs: at the end the left words are tested.
+#![tactic(auto)]
+
 ghost use Rattle.std.specs.Prelude.{◌≡◌, [], ◌∷◌, ◌+◌, ◌*◌, ◌≤◌, ◌<◌, ◌^◌, length};
 ghost use Rattle.bits.specs.Width.{width};
 ghost use Rattle.bucket_pairs.specs.Pairs.{four_pairs, one_table, two_tables, second_table, pairs_room, Keeps, OwnOutside, PairsOf, Guessed};

@@ -1,6 +1,8 @@
 // The fall of a bucket's bound: a word that depends in one bucket comes to it, the bound falls while it depends, and the words that leave go
 // one level further. The definition is `settle` of bucket_settle; specs/Settled.antt has its result as the code keeps it.
 // Law: proofs/Run.antt (the words that have left so far, ahead of what is to come, are the whole settlement).
+#![tactic(auto)]
+
 ghost use Rattle.std.specs.Prelude.{◌≡◌, false};
 ghost use Rattle.bucket.specs.Bucket.{rows, solutions, add};
 ghost use Rattle.bucket_settle.specs.Settle.{SoundBucket, threshold_of, at_bound, settle};

@@ -1,6 +1,8 @@
 // Words in pairs, the left one the product of the right one: what is XORed of them, and what is read off them at the end. Where the left words are the
 // units, the right ones are K's rows; where one is 0 and its right word is not, there is no K. The contracts are equations (specs/Pairs.antt). Pairs are
 // XORed and moved, and nothing else, so the left words stay the products, whichever pairs are chosen: proofs/Swept.antt and proofs/Read.antt say so.
+#![tactic(auto)]
+
 ghost use Rattle.std.specs.Prelude.{◌≡◌, ◌+◌, ◌*◌, ◌≤◌, ◌<◌, length};
 ghost use Rattle.bits.specs.Width.{width};
 ghost use Rattle.bucket_pairs.specs.Pairs.{one_table, two_tables, pairs_room, with_pair, index_of, swept, only_bit, read_rows, if_zero, dependence_from};

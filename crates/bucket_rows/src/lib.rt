@@ -2,6 +2,8 @@
 // guess; where it says nothing, and where few rows are occupied, the elimination column by column decides, without counting ones.
 // The rows that the mark does not name must be units; their columns need no pass, and an empty bucket none at all.
 // The contract is an equation (`sound_rows`); proofs/Exact.antt says that it is exact both ways.
+#![tactic(auto)]
+
 ghost use Rattle.std.specs.Prelude.{◌≡◌, true, ◌/◌, ◌%◌, ◌^◌, ◌<◌, length, get_or};
 ghost use Rattle.std.specs.Int.Count.{count_trailing_zeros};
 ghost use Rattle.gf2.specs.Vectors.{sol_step};

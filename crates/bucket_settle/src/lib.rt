@@ -3,6 +3,8 @@
 // them. The code finds those of one bound, in order, and withdraws them; the fall itself is bucket_fall's.
 // Laws: proofs/Hold.antt (what a bucket holds, as a list of entries), proofs/Settling.antt (where the bound comes to stand, who stays and
 // who leaves), proofs/Sound.antt (`settle_meaning`; the bucket stays sound).
+#![tactic(auto)]
+
 ghost use Rattle.std.specs.Prelude.{◌≡◌, [], ◌∷◌, ◌+◌, ◌<◌, ◌≤◌, length, take};
 ghost use Rattle.std.proofs.Math.Seq.{paste};
 ghost use Rattle.gf2.specs.Select.{chosen};
@@ -15,7 +17,7 @@ use bucket::Bucket;
 use identifier::threshold;
 
 // The words that leave a bucket, with their plans, in order; unused elements are 0.
-#[derive(Drop)]
+#[derive(Clone, Copy)]
 pub struct Outgoing {
     pub count: usize,
     pub vectors: [u64; Outgoing::MOST],

@@ -3,6 +3,8 @@
 // Definitions: specs/Words.antt, at every number of rows and of solution words. Laws: proofs/Words.antt (there and back),
 // proofs/Parts.antt (what each write of columns, mark and solutions leaves) and proofs/OnWords.antt (the bucket after an add, after a
 // withdrawal).
+#![tactic(auto)]
+
 ghost use Rattle.std.specs.Prelude.{◌≡◌, length, get_or};
 ghost use Rattle.gf2.specs.Vectors.{product};
 ghost use Rattle.bucket.specs.Bucket.{rows, solutions, add, withdraw};

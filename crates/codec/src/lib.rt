@@ -2,6 +2,8 @@
 // Definitions: specs/Bytes.antt and specs/Parts.antt. Laws: proofs/Round.antt (numbers and their bytes, both ways, for any
 // number of bytes) and proofs/Part.antt (what a written part leaves of the rest, for lists of bytes and of words alike).
 // No function asks that the place lies within the slice: what lies past the end is not read and not written.
+#![tactic(auto)]
+
 ghost use Rattle.std.specs.Prelude.{◌≡◌, ◌+◌, ◌*◌, ◌%◌, ◌^◌, ◌≤◌, ◌<◌, length, take};
 ghost use Rattle.codec.specs.Bytes.{from_bytes, to_bytes, eq_list};
 ghost use Rattle.codec.specs.Parts.{part_at, written};

@@ -1,6 +1,8 @@
 // Hashing: FNV-1a 64 over bytes, S (the SplitMix64 output step) and the inverse of S, all modulo 2^64.
 // Definitions: specs/Mix.antt and specs/Fnv.antt, in document 01's words. Laws: proofs/Inverse.antt (each of S and its
 // inverse undoes the other, so S is one to one), proofs/FnvLaws.antt and proofs/FnvOne.antt (FNV is one to one in its first byte).
+#![tactic(auto)]
+
 ghost use Rattle.std.specs.Prelude.{◌≡◌, ◌*◌, ◌%◌, ◌^◌, ◌<◌};
 ghost use Rattle.hash.specs.Mix.{xor_shift, un_xor_shift, mix_of, unmix_of};
 ghost use Rattle.hash.specs.Fnv.{fnv_step, fnv_of};

@@ -3,6 +3,8 @@
 // Laws: proofs/Folding.antt (what folding changes), proofs/Causes.antt (each cause is given if and only if it is the first met),
 // proofs/Words.antt (either case of a letter gives the same word, the same letters under two kinds give two, the vector at level 2
 // determines the word).
+#![tactic(auto)]
+
 mod fold;
 
 ghost use Rattle.std.specs.Prelude.{◌≡◌, ◌≤◌, not, length};

@@ -1,7 +1,8 @@
 // The library for C and Rust: one entry for each call, over table, plane and patch. Each returns the number of the answer (0: accepted) and puts
 // the number that goes with it into `value`; include/limgoshi.h declares them. No entry has a `requires`; each contract says what every buffer
-// that is handed in holds afterwards.
-ghost use Rattle.std.specs.Prelude.{◌≡◌};
+// that is handed in holds afterwards, but for those behind a `&`: by that type they hold what they held.
+#![tactic(auto)]
+
 ghost use Rattle.identifier.specs.Identifier.{token};
 ghost use Rattle.model.specs.Model.{add, change, withdraw, query};
 ghost use Rattle.table.specs.Calls.{open_call, call, total_call};
@@ -23,7 +24,7 @@ pub extern "C" fn limgoshi_open(t: &mut [u64], b1: u64, b2: u64, value: &mut u64
 // Adds an identifier with its plan.
 #[unsafe(no_mangle)]
 pub extern "C" fn limgoshi_add(t: &mut [u64], kind: u8, id: &[u8], plan: u8, value: &mut u64) -> u64
-    ensures { GivesTable (call t.old (add (token kind id.now) plan)) result value.new t.new × (id.now ≡ id.now) }
+    ensures { GivesTable (call t.old (add (token kind id.now) plan)) result value.new t.new }
 {
     let added = table_add::add(t, kind, id, plan);
     *value = answer::value(added);
@@ -33,7 +34,7 @@ pub extern "C" fn limgoshi_add(t: &mut [u64], kind: u8, id: &[u8], plan: u8, val
 // The plan of a live identifier.
 #[unsafe(no_mangle)]
 pub extern "C" fn limgoshi_query(t: &[u64], kind: u8, id: &[u8], value: &mut u64) -> u64
-    ensures { GivesTable (call t.now (query (token kind id.now))) result value.new t.now × (id.now ≡ id.now) }
+    ensures { GivesTable (call t.now (query (token kind id.now))) result value.new t.now }
 {
     let found = table_calls::query(t, kind, id);
     *value = answer::value(found);
@@ -49,7 +50,7 @@ pub extern "C" fn limgoshi_change(
     plan: u8,
     value: &mut u64,
 ) -> u64
-    ensures { GivesTable (call t.old (change (token kind id.now) plan)) result value.new t.new × (id.now ≡ id.now) }
+    ensures { GivesTable (call t.old (change (token kind id.now) plan)) result value.new t.new }
 {
     let changed = table_calls::change(t, kind, id, plan);
     *value = answer::value(changed);
@@ -59,7 +60,7 @@ pub extern "C" fn limgoshi_change(
 // Withdraws a live identifier.
 #[unsafe(no_mangle)]
 pub extern "C" fn limgoshi_withdraw(t: &mut [u64], kind: u8, id: &[u8], value: &mut u64) -> u64
-    ensures { GivesTable (call t.old (withdraw (token kind id.now))) result value.new t.new × (id.now ≡ id.now) }
+    ensures { GivesTable (call t.old (withdraw (token kind id.now))) result value.new t.new }
 {
     let withdrawn = table_calls::withdraw(t, kind, id);
     *value = answer::value(withdrawn);
@@ -69,7 +70,7 @@ pub extern "C" fn limgoshi_withdraw(t: &mut [u64], kind: u8, id: &[u8], value: &
 // The number of live identifiers with a plan, as the table has it.
 #[unsafe(no_mangle)]
 pub extern "C" fn limgoshi_plan_total(t: &[u64], plan: u8, value: &mut u64) -> u64
-    ensures { Gives (total_call t.now plan) result value.new × (t.now ≡ t.now) }
+    ensures { Gives (total_call t.now plan) result value.new }
 {
     let total = table_calls::plan_total(t, plan);
     *value = answer::value(total);
@@ -79,7 +80,7 @@ pub extern "C" fn limgoshi_plan_total(t: &[u64], plan: u8, value: &mut u64) -> u
 // Writes the plane of a table to the front of the output.
 #[unsafe(no_mangle)]
 pub extern "C" fn limgoshi_write_plane(t: &[u64], out: &mut [u8], value: &mut u64) -> u64
-    ensures { GivesOutput (write_call t.now out.old) result value.new out.new × (t.now ≡ t.now) }
+    ensures { GivesOutput (write_call t.now out.old) result value.new out.new }
 {
     let written = plane_write::write(t, out);
     *value = answer::value(written);
@@ -89,7 +90,7 @@ pub extern "C" fn limgoshi_write_plane(t: &[u64], out: &mut [u8], value: &mut u6
 // The plan that a plane gives an identifier.
 #[unsafe(no_mangle)]
 pub extern "C" fn limgoshi_plane_lookup(kind: u8, id: &[u8], plane: &[u8], value: &mut u64) -> u64
-    ensures { Gives (lookup_call (token kind id.now) plane.now) result value.new × (id.now ≡ id.now) × (plane.now ≡ plane.now) }
+    ensures { Gives (lookup_call (token kind id.now) plane.now) result value.new }
 {
     let looked_up = plane_lookup::lookup(kind, id, plane);
     *value = answer::value(looked_up);
@@ -104,7 +105,7 @@ pub extern "C" fn limgoshi_make_patch(
     out: &mut [u8],
     value: &mut u64,
 ) -> u64
-    ensures { GivesOutput (make_call old.now new.now out.old) result value.new out.new × (old.now ≡ old.now) × (new.now ≡ new.now) }
+    ensures { GivesOutput (make_call old.now new.now out.old) result value.new out.new }
 {
     let made = patch_make::make(old, new, out);
     *value = answer::value(made);
@@ -119,7 +120,7 @@ pub extern "C" fn limgoshi_apply_patch(
     out: &mut [u8],
     value: &mut u64,
 ) -> u64
-    ensures { GivesOutput (apply_call old.now patch.now out.old) result value.new out.new × (old.now ≡ old.now) × (patch.now ≡ patch.now) }
+    ensures { GivesOutput (apply_call old.now patch.now out.old) result value.new out.new }
 {
     let applied = patch_apply::apply(old, patch, out);
     *value = answer::value(applied);

@@ -2,10 +2,14 @@
 // nothing else. A read that fails ends it before anything is written; a write that fails ends it after a first part of the output. Either
 // writes a line to standard error, which is empty where both went well.
 // stdin and stdout are document 01's session; `runs/` at the root has the edges.
+#![tactic(auto)]
+
 ghost use Rattle.std.specs.Prelude.{◌≡◌, length};
+ghost use Rattle.lines_run.specs.declared.TheConstants.{INPUT_LIMIT, MOST_OUTPUT};
 ghost use Rattle.lines.specs.Input.{Within};
 
-use libc::{STDERR_FILENO, STDIN_FILENO, STDOUT_FILENO};
+use std::io;
+use std::io::{Read, Write};
 
 // What was read.
 #[derive(Drop)]
@@ -16,60 +20,58 @@ enum Input {
 }
 
 // Reads until the buffer is full or the input ends.
-fn read_input(buffer: &mut [u8]) -> Input
+fn read_input(rt: &HostRuntime, buffer: &mut [u8]) -> Input
     ensures { Within (length buffer.new) result }
 {
+    let mut stdin = rt.stdin();
     let mut n: usize = 0;
     while n < buffer.len() {
-        let got = libc::read(STDIN_FILENO, &mut buffer[n..]);
-        if got < 0 {
-            return Input::Failed;
+        match stdin.read(&mut buffer[n..]) {
+            Ok(more) => {
+                if more == 0 {
+                    return Input::Bytes(n);
+                }
+                n += more;
+            }
+            Err(_) => return Input::Failed,
         }
-        let more = io::count(got, &buffer[n..]);
-        if more == 0 {
-            return Input::Bytes(n);
-        }
-        n += more;
     }
     Input::Bytes(n)
 }
 
 // Zeros for the bytes of the input that count.
 fn input_buffer() -> [u8; lines_run::INPUT_LIMIT]
-    ensures* { do ⌜ (← (⟦lines_run::INPUT_LIMIT⟧).entry) ≡ length result ⌝ }
+    ensures { INPUT_LIMIT ≡ length result }
 {
     [0; lines_run::INPUT_LIMIT]
 }
 
 // Zeros for the longest output.
 fn output_buffer() -> [u8; lines_run::MOST_OUTPUT]
-    ensures* { do ⌜ (← (⟦lines_run::MOST_OUTPUT⟧).entry) ≡ length result ⌝ }
+    ensures { MOST_OUTPUT ≡ length result }
 {
     [0; lines_run::MOST_OUTPUT]
 }
 
 // Writes what is printed for the input.
-fn write_output(input: &[u8]) {
+fn write_output(rt: &HostRuntime, input: &[u8]) -> io::Result<()> {
     let mut out = output_buffer();
     let n = lines_run::run(input, &mut out);
-    if !io::write_all(STDOUT_FILENO, &out[..n]) {
-        io::write_all(
-            STDERR_FILENO,
-            b"limgoshi: standard output could not be written\n",
-        );
+    match rt.stdout().write_all(&out[..n]) {
+        Ok(()) => Ok(()),
+        Err(_) => rt
+            .stderr()
+            .write_all(b"limgoshi: standard output could not be written\n"),
     }
 }
 
-fn main() {
+fn main(rt: HostRuntime) -> io::Result<()> {
     let mut buffer = input_buffer();
-    let read = read_input(&mut buffer);
+    let read = read_input(&rt, &mut buffer);
     match read {
-        Input::Bytes(n) => write_output(&buffer[..n]),
-        Input::Failed => {
-            io::write_all(
-                STDERR_FILENO,
-                b"limgoshi: standard input could not be read\n",
-            );
-        }
+        Input::Bytes(n) => write_output(&rt, &buffer[..n]),
+        Input::Failed => rt
+            .stderr()
+            .write_all(b"limgoshi: standard input could not be read\n"),
     }
 }

@@ -1,6 +1,8 @@
 // The line `open` of the line program, in a buffer for the longest table: only the numbers that the new table needs are lent to the opening.
 // Definitions: specs/Desk.antt (what takes openings and calls, and what a command does), specs/Buffer.antt (what is open, in the code's buffer, and what the code
 // does at a line). proofs/Opening.antt has what an opening leaves there.
+#![tactic(auto)]
+
 ghost use Rattle.std.specs.Prelude.{◌≡◌, ◌^◌, ◌≤◌, ◌<◌, length};
 ghost use Rattle.lines_text.specs.Line.{opening};
 ghost use Rattle.lines_open.specs.Desk.{obey, tables};
@@ -25,7 +27,7 @@ pub fn open_line(
     out: &mut [u8],
     at: usize,
 ) -> Progress
-    requires* { do ⌜ (length t.old ≡ (← ⟦Table::LONGEST⟧)) × (at < 2 ^ 31) × (held ≤ length t.old) ⌝ }
+    requires { (length t.old ≡ Table.LONGEST) × (at < 2 ^ 31) × (held ≤ length t.old) }
     ensures { Did (obey tables (held_in held t.old) (opening b1 b2)) at t.old out.old result t.new out.new }
 {
     if table_layout::in_range(b1, b2) {

@@ -3,6 +3,8 @@
 // Definitions: specs/Run.antt (what is printed for an input: the calls of the crate table folded over the lines); specs/Buffer.antt has what the code keeps.
 // Laws: proofs/Agree.antt (the model would print the same; the table is sound at each line), proofs/Session.antt (document 01's
 // session; lines with plan 255; lines with each form of a kind).
+#![tactic(auto)]
+
 ghost use Rattle.std.specs.Prelude.{◌≡◌, ◌*◌, ◌^◌, ◌≤◌, ◌<◌, true, length};
 ghost use Rattle.std.proofs.Math.Option.{none};
 ghost use Rattle.identifier.specs.Identifier.{token};
@@ -104,7 +106,7 @@ pub(crate) fn obey(
     out: &mut [u8],
     at: usize,
 ) -> Progress
-    requires* { do ⌜ (length t.old ≡ (← ⟦Table::LONGEST⟧)) × Holds held t.old × (at < 2 ^ 31) × Within (length s.now) p ⌝ }
+    requires { (length t.old ≡ Table.LONGEST) × Holds held t.old × (at < 2 ^ 31) × Within (length s.now) p }
     ensures { Did (obey tables (held_in held t.old) (meant s.now p)) at t.old out.old result t.new out.new }
 {
     match p {
@@ -125,7 +127,7 @@ pub(crate) fn obey(
 
 // A line that had its LF.
 pub(crate) fn turn(t: &mut [u64], held: usize, s: &[u8], out: &mut [u8], at: usize) -> Progress
-    requires* { do ⌜ (length t.old ≡ (← ⟦Table::LONGEST⟧)) × Holds held t.old × (at < 2 ^ 31) ⌝ }
+    requires { (length t.old ≡ Table.LONGEST) × Holds held t.old × (at < 2 ^ 31) }
     ensures { Did (turn tables (held_in held t.old) s.now) at t.old out.old result t.new out.new }
 {
     if s.len() < LINE_LIMIT {
@@ -139,7 +141,7 @@ pub(crate) fn turn(t: &mut [u64], held: usize, s: &[u8], out: &mut [u8], at: usi
 
 // The lines of an input one after the other, with no table open before. The number of bytes printed.
 pub(crate) fn run_lines(t: &mut [u64], s: &[u8], out: &mut [u8]) -> usize
-    requires* { do ⌜ (length t.old ≡ (← ⟦Table::LONGEST⟧)) × (length s.now ≤ input_limit) ⌝ }
+    requires { (length t.old ≡ Table.LONGEST) × (length s.now ≤ input_limit) }
     ensures { Printed (output_from tables none (parted lf s.now)) (most_printed * length s.now) out.old result out.new }
 {
     let mut held: usize = 0;

@@ -3,6 +3,8 @@
 // specs/Parsed.antt has the forms that the code gives a line.
 // Laws: proofs/Exact.antt (a field is read as a number exactly if it is its decimal, not above the limit; KIND exactly if it is one digit),
 // proofs/Parted.antt (the parts between single bytes), proofs/Printed.antt (the longest line that is printed).
+#![tactic(auto)]
+
 ghost use Rattle.std.specs.Prelude.{◌≡◌, ◌+◌, ◌^◌, ◌≤◌, ◌<◌, ◌∷◌, [], ◌++◌, length, take, drop};
 ghost use Rattle.codec.specs.Parts.{written};
 ghost use Rattle.lines_text.specs.Decimal.{grown, number_to, digit_of, decimal};
@@ -21,7 +23,7 @@ pub enum Number {
 }
 
 // Which call a line asks for: its first word.
-#[derive(Drop)]
+#[derive(Clone, Copy)]
 pub enum Verb {
     Add,
     Set,

@@ -4,6 +4,8 @@
 // patch says, made and applied), specs/Wrong.antt (which patches are wrong, what the bytes say), specs/Calls.antt (the two calls),
 // specs/Fits.antt (the limits), specs/Offset.antt (the offset of what is wrong, without the scan), specs/Causes.antt;
 // specs/Cursor.antt is for the inner steps alone. The statements stand in proofs/Statements.antt and proofs/Calls.antt.
+#![tactic(auto)]
+
 ghost use Rattle.std.specs.Prelude.{◌≡◌, ◌+◌, ◌*◌, ◌≤◌, ◌<◌, length, drop};
 ghost use Rattle.codec.specs.Parts.{written};
 ghost use Rattle.table.specs.Layout.{base_numbers, pair_numbers, pairs_from};

@@ -1,5 +1,7 @@
 // Applying a patch to a plane: the new plane, the sums, and the call; document 02, order 1.
 // Definitions: those of patch (specs/Calls.antt, `apply_call`); specs/Steps.antt is for the inner steps alone. Nothing is written to the output before all is decided.
+#![tactic(auto)]
+
 ghost use Rattle.std.specs.Prelude.{◌≡◌, ◌+◌, ◌-◌, ◌*◌, ◌≤◌, length, drop};
 ghost use Rattle.codec.specs.Parts.{written};
 ghost use Rattle.table.specs.Layout.{pairs_from};
@@ -43,7 +45,7 @@ pub(crate) fn put_changes(d: &[u8], k: usize, new: &mut [u8])
 // The new plane to the front of `new`; its base list has `count` entries, which stand in `pairs`. Returns its length.
 pub(crate) fn build(plane: &[u8], d: &[u8], pairs: &[u64], count: usize, new: &mut [u8]) -> usize
     requires plane_value { (wrong_at format1 plane.now ≡ Nowhere) × (patch_wrong_at format1 (plane_from format1 plane.now) d.now ≡ Nowhere) × (2 * count ≤ length pairs.now) × (pairs_from count pairs.now ≡ (patched (plane_from format1 plane.now) (patch_from format1 d.now)).base) }
-    requires* room { do ⌜ (← ⟦Patch::LONGEST_PLANE⟧) ≤ length new.old ⌝ }
+    requires room { Patch.LONGEST_PLANE ≤ length new.old }
     ensures { (result ≡ length (applied format1 plane.now d.now)) × (new.new ≡ written 0 (applied format1 plane.now d.now) new.old) }
 {
     let buckets1 = plane[Record::BUCKETS_1_AT];

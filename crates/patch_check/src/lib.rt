@@ -1,6 +1,8 @@
 // The check of a patch for a plane: where the patch is wrong, or the base list that it leaves; document 02, order 1.
 // Definitions: those of patch (specs/Wrong.antt); specs/Steps.antt is for the inner steps alone. The check edits a copy of the
 // base list as it goes, so that what is accepted is there.
+#![tactic(auto)]
+
 ghost use Rattle.std.specs.Prelude.{◌≡◌, [], ◌∷◌, ◌++◌, ◌+◌, ◌-◌, ◌*◌, ◌≤◌, length, drop};
 ghost use Rattle.codec.specs.Parts.{written};
 ghost use Rattle.lists.specs.Entries.{Ascending};

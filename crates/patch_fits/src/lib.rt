@@ -1,5 +1,7 @@
 // The records of a patch, one by one: which changes, and which entries new or changed, fit; document 02, order 1.
 // Definitions: those of patch (specs/Wrong.antt); specs/Steps.antt is for the inner steps alone.
+#![tactic(auto)]
+
 ghost use Rattle.std.specs.Prelude.{◌≡◌, ◌&&◌, ◌*◌, ◌≤◌, length, drop};
 ghost use Rattle.table.specs.Layout.{pairs_from};
 ghost use Rattle.plane.specs.Record.{format1, entry_body, entry_from};

@@ -2,6 +2,8 @@
 // Definitions: those of patch (specs/Calls.antt, `make_call`); specs/Steps.antt is for the inner steps alone, specs/After.antt for the
 // statements. proofs/Costs.antt: what a changed plan costs, for any sound table and after any list of calls; proofs/Lists.antt: patches between
 // the planes of one opening.
+#![tactic(auto)]
+
 ghost use Rattle.std.specs.Prelude.{◌≡◌, true, ◌+◌, ◌*◌, ◌≤◌, ◌<◌, length, drop};
 ghost use Rattle.codec.specs.Parts.{written};
 ghost use Rattle.lists.specs.Lists.{Every};
@@ -171,7 +173,7 @@ pub(crate) fn put_base(out: &mut [u8], first: usize, old: &[u8], new: &[u8]) -> 
 // The patch from one right plane to another of equal bucket numbers, to the front of the output, which has room for the longest. Returns its length.
 pub(crate) fn build(old: &[u8], new: &[u8], out: &mut [u8]) -> usize
     requires value { (wrong_at format1 old.now ≡ Nowhere) × (wrong_at format1 new.now ≡ Nowhere) × (alike old.now new.now ≡ true) }
-    requires* room { do ⌜ (← ⟦Patch::LONGEST⟧) ≤ length out.old ⌝ }
+    requires room { Patch.LONGEST ≤ length out.old }
     ensures { (result ≡ length (patch_bytes format1 (patch_of format1 old.now new.now))) × (out.new ≡ written 0 (patch_bytes format1 (patch_of format1 old.now new.now)) out.old) }
 {
     put_sums(out, hash::fnv(old), hash::fnv(new));

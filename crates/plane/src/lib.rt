@@ -4,6 +4,8 @@
 // scan), specs/Causes.antt. Laws: proofs/Scan.antt (a scan of records of any kind), proofs/Round.antt and proofs/Exact.antt (just the
 // planes within the limits have bytes that are wrong nowhere), proofs/Offset.antt, proofs/Causes.antt, proofs/Desk.antt (who gets plan 255);
 // the statements stand with the writer.
+#![tactic(auto)]
+
 ghost use Rattle.std.specs.Prelude.{◌≡◌, ◌&&◌, suc, ◌+◌, ◌*◌, ◌≤◌, ◌<◌, length, drop};
 ghost use Rattle.lists.specs.Entries.{assignable};
 ghost use Rattle.model.specs.Model.{base_limit};

@@ -1,4 +1,6 @@
 // The lookup of an identifier in a plane, for any bytes as either: the post's call. Its definition is plane/specs/Lookup.antt.
+#![tactic(auto)]
+
 ghost use Rattle.std.specs.Prelude.{◌≡◌, ◌+◌, ◌*◌, ◌≤◌, ◌<◌, length, get_or};
 ghost use Rattle.lists.specs.Entries.{find};
 ghost use Rattle.gf2.specs.Vectors.{product};

@@ -1,6 +1,8 @@
 // The writer of planes: the plane of a table of any numbers, to the front of the output.
 // Definitions: specs/Write.antt (the call, in document 01's words, and what the plane of a table gives), specs/Causes.antt; specs/Steps.antt
 // is for the inner steps alone. Statements of the plane: proofs/Statements.antt.
+#![tactic(auto)]
+
 ghost use Rattle.std.specs.Prelude.{◌≡◌, true, ℕ, ◌+◌, ◌*◌, ◌≤◌, ◌<◌, length, drop};
 ghost use Rattle.codec.specs.Bytes.{to_bytes};
 ghost use Rattle.codec.specs.Parts.{written};

@@ -1,5 +1,7 @@
 // Entries for other languages over the parts of the library: a program made without this code is compared with them.
 // Definitions: specs/Steps.antt (one bucket), specs/Fill.antt (a table that is filled).
+#![tactic(auto)]
+
 ghost use Rattle.std.specs.Prelude.{◌≡◌, ◌*◌, length};
 ghost use Rattle.answer.specs.Numbers.{number_of, value_of};
 ghost use Rattle.codec.specs.Bytes.{from_bytes, to_bytes};

@@ -1,25 +1,28 @@
 // Runs known vectors: FNV-1a 64 as in Noll's list, SplitMix64 for the seeds 1234567 and 0, and the inverse of S on its
 // outputs. The file stdout holds the values, and what is printed is compared with it. They were written down without a copy of the sources
 // at hand and agree with an independent computation.
-use libc::STDOUT_FILENO;
+#![tactic(auto)]
 
-fn text(s: &[u8]) {
-    io::write_all(STDOUT_FILENO, s);
+use std::io;
+use std::io::Write;
+
+fn text(rt: &HostRuntime, s: &[u8]) -> io::Result<()> {
+    rt.stdout().write_all(s)
 }
 
-fn decimal(n: u64) {
-    io::print_decimal(STDOUT_FILENO, n);
+fn decimal(rt: &HostRuntime, n: u64) -> io::Result<()> {
+    print!(rt; "{n}")
 }
 
-fn hex(n: u64) {
-    io::print_hex(STDOUT_FILENO, n, 16);
+fn hex(rt: &HostRuntime, n: u64) -> io::Result<()> {
+    print!(rt; "{n:016x}")
 }
 
-fn fnv(s: &[u8]) {
-    hex(hash::fnv(s));
-    text(b" FNV-1a 64 of \"");
-    text(s);
-    text(b"\"\n");
+fn fnv(rt: &HostRuntime, s: &[u8]) -> io::Result<()> {
+    hex(rt, hash::fnv(s))?;
+    text(rt, b" FNV-1a 64 of \"")?;
+    text(rt, s)?;
+    text(rt, b"\"\n")
 }
 
 // The state that SplitMix64 has after n.
@@ -28,79 +31,81 @@ fn next(n: u64) -> u64 {
 }
 
 // The output from the state n, the inverse of the published output, and the next state.
-fn in_decimal(n: u64, published: u64) -> u64 {
-    decimal(hash::mix(n));
-    text(b" S of ");
-    decimal(n);
-    text(b"\n");
-    decimal(hash::unmix(published));
-    text(b" inverse of ");
-    decimal(published);
-    text(b"\n");
-    next(n)
+fn in_decimal(rt: &HostRuntime, n: u64, published: u64) -> io::Result<u64> {
+    decimal(rt, hash::mix(n))?;
+    text(rt, b" S of ")?;
+    decimal(rt, n)?;
+    text(rt, b"\n")?;
+    decimal(rt, hash::unmix(published))?;
+    text(rt, b" inverse of ")?;
+    decimal(rt, published)?;
+    text(rt, b"\n")?;
+    Ok(next(n))
 }
 
-fn in_hex(n: u64, published: u64) -> u64 {
-    hex(hash::mix(n));
-    text(b" S of ");
-    hex(n);
-    text(b"\n");
-    hex(hash::unmix(published));
-    text(b" inverse of ");
-    hex(published);
-    text(b"\n");
-    next(n)
+fn in_hex(rt: &HostRuntime, n: u64, published: u64) -> io::Result<u64> {
+    hex(rt, hash::mix(n))?;
+    text(rt, b" S of ")?;
+    hex(rt, n)?;
+    text(rt, b"\n")?;
+    hex(rt, hash::unmix(published))?;
+    text(rt, b" inverse of ")?;
+    hex(rt, published)?;
+    text(rt, b"\n")?;
+    Ok(next(n))
 }
 
-fn letters() {
-    fnv(b"");
-    fnv(b"a");
-    fnv(b"b");
-    fnv(b"c");
-    fnv(b"d");
-    fnv(b"e");
-    fnv(b"f");
+fn letters(rt: &HostRuntime) -> io::Result<()> {
+    fnv(rt, b"")?;
+    fnv(rt, b"a")?;
+    fnv(rt, b"b")?;
+    fnv(rt, b"c")?;
+    fnv(rt, b"d")?;
+    fnv(rt, b"e")?;
+    fnv(rt, b"f")
 }
 
-fn foobar() {
-    fnv(b"fo");
-    fnv(b"foo");
-    fnv(b"foob");
-    fnv(b"fooba");
-    fnv(b"foobar");
+fn foobar(rt: &HostRuntime) -> io::Result<()> {
+    fnv(rt, b"fo")?;
+    fnv(rt, b"foo")?;
+    fnv(rt, b"foob")?;
+    fnv(rt, b"fooba")?;
+    fnv(rt, b"foobar")
 }
 
-fn chongo() {
-    fnv(b"ch");
-    fnv(b"cho");
-    fnv(b"chon");
-    fnv(b"chong");
-    fnv(b"chongo");
-    fnv(b"chongo ");
-    fnv(b"chongo was here!");
-    fnv(b"chongo was here!\n");
+fn chongo(rt: &HostRuntime) -> io::Result<()> {
+    fnv(rt, b"ch")?;
+    fnv(rt, b"cho")?;
+    fnv(rt, b"chon")?;
+    fnv(rt, b"chong")?;
+    fnv(rt, b"chongo")?;
+    fnv(rt, b"chongo ")?;
+    fnv(rt, b"chongo was here!")?;
+    fnv(rt, b"chongo was here!\n")
 }
 
-fn seed_1234567() {
-    let mut n = in_decimal(1234567, 6457827717110365317);
-    n = in_decimal(n, 3203168211198807973);
-    n = in_decimal(n, 9817491932198370423);
-    n = in_decimal(n, 4593380528125082431);
-    in_decimal(n, 16408922859458223821);
+fn seed_1234567(rt: &HostRuntime) -> io::Result<()> {
+    let mut n = in_decimal(rt, 1234567, 6457827717110365317)?;
+    n = in_decimal(rt, n, 3203168211198807973)?;
+    n = in_decimal(rt, n, 9817491932198370423)?;
+    n = in_decimal(rt, n, 4593380528125082431)?;
+    in_decimal(rt, n, 16408922859458223821)?;
+    Ok(())
 }
 
-fn seed_0() {
-    let mut m = in_hex(0, 0xe220_a839_7b1d_cdaf);
-    m = in_hex(m, 0x6e78_9e6a_a1b9_65f4);
-    m = in_hex(m, 0x06c4_5d18_8009_454f);
-    m = in_hex(m, 0xf88b_b8a8_724c_81ec);
-    in_hex(m, 0x1b39_896a_51a8_749b);
+fn seed_0(rt: &HostRuntime) -> io::Result<()> {
+    let mut m = in_hex(rt, 0, 0xe220_a839_7b1d_cdaf)?;
+    m = in_hex(rt, m, 0x6e78_9e6a_a1b9_65f4)?;
+    m = in_hex(rt, m, 0x06c4_5d18_8009_454f)?;
+    m = in_hex(rt, m, 0xf88b_b8a8_724c_81ec)?;
+    in_hex(rt, m, 0x1b39_896a_51a8_749b)?;
+    Ok(())
 }
 
-fn main() {
-    letters();
-    foobar();
-    chongo();
-    seed_1234567();
-    seed_0();
+fn main(rt: HostRuntime) -> io::Result<()> {
+    letters(&rt)?;
+    foobar(&rt)?;
+    chongo(&rt)?;
+    seed_1234567(&rt)?;
+    seed_0(&rt)
 }

@@ -24,15 +24,15 @@ solutions_in t = solutions
 
 -- the table that the numbers hold
 abbrev pub table_of : List ℕ → Table
-table_of t = L.tableFrom rows (solutions_in t) t
+table_of t = L.table_from rows (solutions_in t) t
 
 -- the plan of the word w in the table, if it is live
 abbrev pub plan_in : List ℕ → ℕ → Option ℕ
-plan_in t w = T.planIn rows (solutions_in t) mix_of (table_of t) w
+plan_in t w = T.plan_in rows (solutions_in t) mix_of (table_of t) w
 
 -- cause 4 is not met
 abbrev pub shaped : List ℕ → Bool
-shaped t = E.shapeTest rows (solutions_in t) t
+shaped t = E.shape_test rows (solutions_in t) t
 
 -- document 01's sound table
 abbrev pub FlatSound : List ℕ → Type 0
@@ -40,7 +40,7 @@ FlatSound t = D.FlatSound rows (solutions_in t) mix_of unmix_of t
 
 -- cause 5 is not met
 abbrev pub sound : List ℕ → Bool
-sound t = E.soundTest rows (solutions_in t) mix_of unmix_of t
+sound t = E.sound_test rows (solutions_in t) mix_of unmix_of t
 
 -- an answer, and the numbers of the table after it
 pub record Outcome : Type 0 where
@@ -60,7 +60,7 @@ unfoldable pub open_call : ℕ → ℕ → List ℕ → Outcome
 open_call b1 b2 t =
     cond (L.in_range b1 b2)
     (cond (eqb (length t) (L.length_of rows solutions b1 b2))
-    (record { answer = Accepted 0; table = L.numbersOf (T.openTable rows solutions b1 b2) })
+    (record { answer = Accepted 0; table = L.numbers_of (T.open_table rows solutions b1 b2) })
     (turned_down (WrongTable (length t)) t))
     (turned_down WrongBuckets t)
 
@@ -71,20 +71,20 @@ queried t none = turned_down NotLive t
 
 -- change and withdrawal: the earlier plan, and u of it the table after it
 abbrev pub replaced : List ℕ → (ℕ → Table) → Option ℕ → Outcome
-replaced t u (some q) = record { answer = Accepted q; table = L.numbersOf (u q) }
+replaced t u (some q) = record { answer = Accepted q; table = L.numbers_of (u q) }
 replaced t u none = turned_down NotLive t
 
 -- add: u is the table after it, unless its base list is too long
 abbrev pub joined : List ℕ → Table → Option ℕ → Outcome
 joined t u (some p) = turned_down (Live p) t
 joined t u none =
-    cond (ltb base_limit (length u.base)) (turned_down Full t) (record { answer = Accepted u.count; table = L.numbersOf u })
+    cond (ltb base_limit (length u.base)) (turned_down Full t) (record { answer = Accepted u.count; table = L.numbers_of u })
 
 -- a call by its word on a sound table
 unfoldable pub served : List ℕ → Call ℕ → Outcome
-served t (add w p) = joined t (T.addedTo rows (solutions_in t) mix_of (table_of t) (record { word = w; plan = p })) (plan_in t w)
-served t (change w p) = replaced t (T.changedIn rows (solutions_in t) mix_of (table_of t) w p) (plan_in t w)
-served t (withdraw w) = replaced t (T.withdrawnFrom rows (solutions_in t) mix_of (table_of t) w) (plan_in t w)
+served t (add w p) = joined t (T.added_to rows (solutions_in t) mix_of (table_of t) (record { word = w; plan = p })) (plan_in t w)
+served t (change w p) = replaced t (T.changed_in rows (solutions_in t) mix_of (table_of t) w p) (plan_in t w)
+served t (withdraw w) = replaced t (T.withdrawn_from rows (solutions_in t) mix_of (table_of t) w) (plan_in t w)
 served t (query w) = queried t (plan_in t w)
 
 -- the causes that every call meets first: 15, 1, 2 and 14, 4, 5
@@ -98,4 +98,4 @@ call t c = call_read t c (word_for c)
 
 -- document 02, order 2: the total of the plan p, as the table has it. Cause 4 alone; the table stays
 unfoldable pub total_call : List ℕ → ℕ → Answer
-total_call t p = cond (shaped t) (Accepted (get_or t (L.totalsAt + p) 0)) (WrongTable (length t))
+total_call t p = cond (shaped t) (Accepted (get_or t (L.totals_at + p) 0)) (WrongTable (length t))

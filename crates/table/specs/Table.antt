@@ -82,13 +82,13 @@ module _ (S : ℕ → ℕ) where
 module _ (n r : ℕ) where
   -- bucket i of a level
   abbrev pub nth : List Bucket → ℕ → Bucket
-  nth bs i = get_or bs i (B.emptyBucket n r)
+  nth bs i = get_or bs i (B.empty_bucket n r)
 
   -- opened: every bucket empty, every total 0
   abbrev pub open_table : ℕ → ℕ → Table
   open_table b1 b2 = record {
-    level1 = replicate b1 (B.emptyBucket n r);
-    level2 = replicate b2 (B.emptyBucket n r);
+    level1 = replicate b1 (B.empty_bucket n r);
+    level2 = replicate b2 (B.empty_bucket n r);
     base = [];
     count = 0;
     totals = zero_totals;

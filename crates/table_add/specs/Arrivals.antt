@@ -9,7 +9,7 @@ use Rattle.table.specs.Table.{total_numbers, on_second, holds, added_to}
 use Rattle.table.specs.Calls.{rows, solutions, table_of, Outcome, joined}
 use Rattle.table.specs.Layout.{live_count_at, totals_at}
 use Rattle.table_edit.specs.Ready.{Ready}
-use Rattle.table_arrive.specs.Arrival.{DependsIn, fits}
+use Rattle.table_arrive.specs.Arrival.{DependsIn}
 
 -- what an add of the word e, which is not live, does at 64 rows and 8 solution words
 abbrev pub entering : List ℕ → Entry → Outcome

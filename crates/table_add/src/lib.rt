@@ -2,6 +2,8 @@
 // the base list has room; then only the stretches of the buckets that changed, the base list and the header are. The word's product in the
 // bucket that holds it is formed once: whether it is live, whether it goes straight in and whether it depends are told by it.
 // specs/Arrivals.antt has what an add of a word that is not live does. Laws: proofs/Added.antt (what a word that arrives at level 1 leaves is the call's table).
+#![tactic(auto)]
+
 ghost use Rattle.std.specs.Prelude.{◌≡◌, true, false, ◌+◌, ◌<◌, ◌≤◌, length, get_or, drop};
 ghost use Rattle.lists.specs.Entries.{plan_limit, assignable};
 ghost use Rattle.hash.specs.Mix.{mix_of};
@@ -37,7 +39,7 @@ pub(crate) fn count_one(t: &mut [u64], plan: u64) -> Answer
 
 // The plan of v, whose product is p, in the bucket at a place, if it is live there.
 pub(crate) fn plan_by(t: &[u64], at: usize, v: u64, p: u64) -> Found
-    requires* { do ⌜ (at + (← ⟦Bucket::WORDS⟧) ≤ length t.now) × (p ≡ product_at rows solutions at v t.now) ⌝ }
+    requires { (at + Bucket.WORDS ≤ length t.now) × (p ≡ product_at rows solutions at v t.now) }
     ensures { result ≡ found_of (plan_of rows v (bucket_from rows solutions (drop at t.now))) }
 {
     if bucket::row_by(t[at + Bucket::MARK_AT], p) < Bucket::ROWS {

@@ -4,6 +4,8 @@
 // specs/Arrival.antt has the steps as the code goes about them, at every number of rows and of solution words, and `Kept`, what each of
 // them keeps. Laws: proofs/Tables.antt (such a table and its numbers, words into the pairs of the base list),
 // proofs/Settled.antt (the words that leave a bucket, as the code keeps them; what it finds settled is what the crate table's `arrive_at` leaves).
+#![tactic(auto)]
+
 ghost use Rattle.std.specs.Prelude.{◌≡◌, true, false, cond, ◌+◌, ◌≤◌, length, get_or, drop};
 ghost use Rattle.lists.specs.Entries.{insert_all};
 ghost use Rattle.gf2.specs.Vectors.{product};
@@ -27,7 +29,7 @@ use table_layout::Table;
 // The product of v in the bucket at a place. An add forms it here, once for each bucket that holds the word: whether the word is live, the
 // straight attempt and the dependence go on from it.
 pub fn product_at(t: &[u64], at: usize, v: u64) -> u64
-    requires* { do ⌜ at + (← ⟦Bucket::WORDS⟧) ≤ length t.now ⌝ }
+    requires { at + Bucket.WORDS ≤ length t.now }
     ensures { result ≡ product_at rows solutions at v t.now }
 {
     let end = at + Bucket::ROWS;
@@ -36,15 +38,15 @@ pub fn product_at(t: &[u64], at: usize, v: u64) -> u64
 
 // v, which depends there, settles with its plan in the bucket at a place. Nothing is written.
 pub fn fallen_at(t: &[u64], at: usize, v: u64, plan: u64) -> Settled
-    requires* { do ⌜ (at + (← ⟦Bucket::WORDS⟧) ≤ length t.now) × (SoundBucket rows solutions (bucket_from rows solutions (drop at t.now)) × ((add rows v plan (bucket_from rows solutions (drop at t.now))).done ≡ false)) ⌝ }
-    ensures* { do ⌜ result ≡ settled_of (← (⟦Outgoing::MOST⟧).entry) (settled_at rows solutions threshold_of at (record { word = v; plan = plan }) t.now) ⌝ }
+    requires { (at + Bucket.WORDS ≤ length t.now) × (SoundBucket rows solutions (bucket_from rows solutions (drop at t.now)) × ((add rows v plan (bucket_from rows solutions (drop at t.now))).done ≡ false)) }
+    ensures { result ≡ settled_of Outgoing.MOST (settled_at rows solutions threshold_of at (record { word = v; plan = plan }) t.now) }
 {
     bucket_fall::fall(table_layout::bucket_at(t, at), v, plan)
 }
 
 // The bucket into its stretch of the table.
 pub fn store_at(t: &mut [u64], at: usize, b: Bucket)
-    requires* { do ⌜ at + (← ⟦Bucket::WORDS⟧) ≤ length t.old ⌝ }
+    requires { at + Bucket.WORDS ≤ length t.old }
     ensures { t.new ≡ stored_at rows solutions at b t.old }
 {
     let end = at + Bucket::WORDS;
@@ -54,7 +56,7 @@ pub fn store_at(t: &mut [u64], at: usize, b: Bucket)
 // The bucket step of an add, on the stretch of one bucket: v, whose product is p, goes in, where its threshold is below the bound and it
 // does not depend. False if not: then nothing is written.
 pub(crate) fn put_part_by(part: &mut [u64], v: u64, p: u64, plan: u64) -> bool
-    requires* { do ⌜ (length part.old ≡ (← ⟦Bucket::WORDS⟧)) × (p ≡ product (bucket_from rows solutions part.old).cols v) ⌝ }
+    requires { (length part.old ≡ Bucket.WORDS) × (p ≡ product (bucket_from rows solutions part.old).cols v) }
     ensures { (result ≡ goes_in rows solutions threshold_of (record { word = v; plan = plan }) part.old) × (part.new ≡ cond result (added_in rows solutions (record { word = v; plan = plan }) part.old) part.old) }
 {
     if identifier::threshold(v) < part[Bucket::BOUND_AT] {
@@ -66,7 +68,7 @@ pub(crate) fn put_part_by(part: &mut [u64], v: u64, p: u64, plan: u64) -> bool
 // The word v, whose product there is p, goes straight into the bucket at a place, whose stretch alone is lent to the bucket step. False if it
 // does not go in: then nothing is written.
 pub fn put_by(t: &mut [u64], at: usize, v: u64, p: u64, plan: u64) -> bool
-    requires* { do ⌜ (at + (← ⟦Bucket::WORDS⟧) ≤ length t.old) × (p ≡ product_at rows solutions at v t.old) ⌝ }
+    requires { (at + Bucket.WORDS ≤ length t.old) × (p ≡ product_at rows solutions at v t.old) }
     ensures { Straight rows solutions threshold_of at (record { word = v; plan = plan }) t.old result t.new }
 {
     let end = at + Bucket::WORDS;

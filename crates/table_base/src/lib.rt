@@ -2,6 +2,8 @@
 // slice tells for how many entries there is room, in a table 64. Each function is an equation with a definition of lists
 // (specs/Entries.antt) on the entries that the pairs stand for; what lies there afterwards is the whole slice. specs/Base.antt says what
 // a slice is that holds `count` entries, proofs/Shift.antt how a pair comes in or goes out.
+#![tactic(auto)]
+
 ghost use Rattle.std.specs.Prelude.{◌≡◌, [], ◌∷◌, ◌++◌, ◌*◌, ◌<◌, ◌≤◌, length};
 ghost use Rattle.lists.specs.Lists.{put_at};
 ghost use Rattle.lists.specs.Entries.{find, insert, update, remove};

@@ -1,6 +1,8 @@
 // The calls of document 01's table on a lent slice of any length and contents, with anything as identifier: query, change and
 // withdrawal; and the total of a plan, document 02's order 2. Each is an equation with a definition of the crate table (specs/Calls.antt): the answer, causes in document 01's order, and
 // every number of the table afterwards.
+#![tactic(auto)]
+
 ghost use Rattle.std.specs.Prelude.{◌≡◌, true, ◌+◌, ◌≤◌, length, get_or};
 ghost use Rattle.identifier.specs.Identifier.{token, read_of, with_plan};
 ghost use Rattle.identifier.specs.declared.Read.TheVariants.{Word};

@@ -1,6 +1,8 @@
 // What is done to one word of a table that passes the tests of a call: its plan, a change, a withdrawal. Each is an equation with a definition of the crate
 // table (specs/Calls.antt): the answer and every number of the table afterwards. specs/Ready.antt has what every call tests first. proofs/Touched.antt has what
 // one touched bucket or base list does to the numbers, proofs/Calls.antt what each call does.
+#![tactic(auto)]
+
 ghost use Rattle.std.specs.Prelude.{◌≡◌, true, ◌+◌, ◌<◌, length};
 ghost use Rattle.lists.specs.Entries.{assignable};
 ghost use Rattle.bucket_words.specs.Words.{bucket_from, words_of};
@@ -52,7 +54,7 @@ pub fn plan_in(t: &[u64], w: u64) -> Found
 }
 
 // What is done to the entry of a live word.
-#[derive(Drop)]
+#[derive(Clone, Copy)]
 pub enum Edit {
     Change(u64),
     Withdraw,
@@ -70,7 +72,7 @@ pub(crate) fn leaving(edit: Edit) -> u64
 
 // The bucket of a stretch of the table with another plan for v, if v is live there.
 pub(crate) fn change_bucket(part: &mut [u64], v: u64, plan: u64)
-    requires* { do ⌜ length part.old ≡ (← ⟦Bucket::WORDS⟧) ⌝ }
+    requires { length part.old ≡ Bucket.WORDS }
     ensures { part.new ≡ words_of (on_bucket (Change plan) v (bucket_from rows solutions part.old)) }
 {
     let b = bucket_words::load(part).change(v, plan).bucket;
@@ -79,7 +81,7 @@ pub(crate) fn change_bucket(part: &mut [u64], v: u64, plan: u64)
 
 // The bucket of a stretch of the table after the edit of v, if v is live there.
 pub(crate) fn edit_bucket(part: &mut [u64], v: u64, edit: Edit)
-    requires* { do ⌜ length part.old ≡ (← ⟦Bucket::WORDS⟧) ⌝ }
+    requires { length part.old ≡ Bucket.WORDS }
     ensures { part.new ≡ words_of (on_bucket edit v (bucket_from rows solutions part.old)) }
 {
     match edit {

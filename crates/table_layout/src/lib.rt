@@ -1,6 +1,8 @@
 // What a table of document 01 has where: its limits, its length, the test of its shape (cause 4), the places of buckets, their bounds, which
 // level holds a vector; and the totals of document 02, order 2, raised and lowered by one. Each function is an equation with a definition of the crate table (specs/Layout.antt, Table.antt, Calls.antt).
 // proofs/Shape.antt has the laws of the places, and what one bucket or the base list changes.
+#![tactic(auto)]
+
 ghost use Rattle.std.specs.Prelude.{◌≡◌, true, ◌+◌, ◌*◌, ◌^◌, ◌<◌, ◌≤◌, length, get_or, drop};
 ghost use Rattle.lists.specs.Entries.{assignable};
 ghost use Rattle.lists.specs.Totals.{one_more, one_less};
@@ -86,7 +88,7 @@ pub fn assignable(plan: u64) -> bool
 
 // The place of bucket i, level 1 first.
 pub fn bucket_place(i: usize) -> usize
-    requires* { do ⌜ i ≤ (← ⟦Table::MOST_BUCKETS⟧) ⌝ }
+    requires { i ≤ Table.MOST_BUCKETS }
     ensures { result ≡ bucket_place rows solutions i }
 {
     Table::HEADER + i * Bucket::WORDS
@@ -179,7 +181,7 @@ pub fn base_place(t: &[u64]) -> usize
 
 // The bucket whose words start at a place.
 pub fn bucket_at(t: &[u64], place: usize) -> Bucket
-    requires* { do ⌜ place + (← ⟦Bucket::WORDS⟧) ≤ length t.now ⌝ }
+    requires { place + Bucket.WORDS ≤ length t.now }
     ensures { result ≡ bucket_from rows solutions (drop place t.now) }
 {
     let end = place + Bucket::WORDS;

@@ -1,5 +1,7 @@
 // Opening a table of document 01 on a lent slice of any length and contents: an equation with `open_call` of the crate table (specs/Calls.antt), the
 // answer, causes 3 and 4, and every number of the table afterwards. proofs/Opened.antt has the numbers of an opened table, part by part.
+#![tactic(auto)]
+
 ghost use Rattle.std.specs.Prelude.{◌≡◌, true, ◌++◌, ◌*◌, ◌≤◌, length, drop, replicate};
 ghost use Rattle.bucket.specs.Bucket.{empty_bucket};
 ghost use Rattle.table.specs.Table.{open_table};
@@ -23,7 +25,7 @@ pub(crate) fn clear(words: &mut [u64])
 
 // Empty buckets one after the other.
 pub(crate) fn empty_buckets(words: &mut [u64], count: usize)
-    requires* { do ⌜ length words.old ≡ count * (← ⟦Bucket::WORDS⟧) ⌝ }
+    requires { length words.old ≡ count * Bucket.WORDS }
     ensures { words.new ≡ level_numbers (replicate count (empty_bucket rows solutions)) }
 {
     let empty = Bucket::empty();
@@ -39,7 +41,7 @@ pub(crate) fn empty_buckets(words: &mut [u64], count: usize)
 
 // The header of an opened table: its leading numbers, and every total 0.
 pub(crate) fn put_header(t: &mut [u64], b1: u64, b2: u64)
-    requires* { do ⌜ (← ⟦Table::HEADER⟧) ≤ length t.old ⌝ }
+    requires { Table.HEADER ≤ length t.old }
     ensures { t.new ≡ heads (open_table rows solutions b1 b2) ++ drop header t.old }
 {
     t[Table::BUCKETS_1_AT] = b1;

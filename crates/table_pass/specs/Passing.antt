@@ -5,7 +5,6 @@ use Rattle.std.specs.Prelude.{ℕ, ◌≡◌, Bool, true, List, [], ◌∷◌, m
 use Rattle.lists.specs.Entries.{Entry}
 use Rattle.bucket_settle.specs.declared.Outgoing.{Outgoing}
 use Rattle.table.specs.Table.{Table, with_second, on_second, put, bucket_of}
-use Rattle.table.specs.Calls.{rows}
 use Rattle.table.specs.Layout.{buckets1_at, buckets2_at, numbers_of}
 use Rattle.table_arrive.specs.Arrival.{entries_of, to_second, fits, Kept, FlatKept}
 

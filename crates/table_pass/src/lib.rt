@@ -2,6 +2,8 @@
 // then only the stretches of the buckets that changed, the base list and its count are written.
 // specs/Passing.antt has the words that go on, one after the other, as the code goes about them. Laws: proofs/Arrivals.antt (they lead to
 // the table of the crate table's `added_to`), proofs/Passing.antt (the loops over them and the draft).
+#![tactic(auto)]
+
 ghost use Rattle.std.specs.Prelude.{◌≡◌, true, false, ◌+◌, ◌<◌, ◌≤◌, length};
 ghost use Rattle.lists.specs.Entries.{words};
 ghost use Rattle.hash.specs.Mix.{mix_of};
@@ -17,7 +19,7 @@ use table_layout::Table;
 // The words that leave level 1 arrive at level 2 one after the other, on a draft. False as soon as the base list has no room: then nothing is
 // said of the draft.
 pub(crate) fn carry(t: &mut [u64], out: Outgoing) -> bool
-    requires* { do ⌜ FlatKept rows solutions t.old × (out.count ≤ (← ⟦Outgoing::MOST⟧)) ⌝ }
+    requires { FlatKept rows solutions t.old × (out.count ≤ Outgoing.MOST) }
     ensures { Drafted rows solutions (all_to_second rows solutions mix_of (table_of t.old) (seconds mix_of out)) result t.new }
 {
     let vectors = out.vectors;
@@ -36,7 +38,7 @@ pub(crate) fn carry(t: &mut [u64], out: Outgoing) -> bool
 
 // The level 2 buckets of these words become those of another table.
 pub(crate) fn take_buckets(t: &mut [u64], from: &[u64], out: Outgoing)
-    requires* { do ⌜ SameSize rows solutions t.old from.now × (out.count ≤ (← ⟦Outgoing::MOST⟧)) ⌝ }
+    requires { SameSize rows solutions t.old from.now × (out.count ≤ Outgoing.MOST) }
     ensures { t.new ≡ numbers_of (take_over rows solutions mix_of (table_of from.now) (words (seconds mix_of out)) (table_of t.old)) }
 {
     let vectors = out.vectors;
@@ -61,7 +63,7 @@ pub(crate) fn take_base(t: &mut [u64], from: &[u64])
 
 // The words that leave level 1 go on, each tried on a draft first; then what they changed is written.
 pub(crate) fn pass_drafted(t: &mut [u64], draft: &mut [u64], out: Outgoing) -> bool
-    requires* { do ⌜ FlatKept rows solutions t.old × ((length draft.old ≡ length t.old) × (out.count ≤ (← ⟦Outgoing::MOST⟧))) ⌝ }
+    requires { FlatKept rows solutions t.old × ((length draft.old ≡ length t.old) × (out.count ≤ Outgoing.MOST)) }
     ensures { Passed rows solutions t.old (all_to_second rows solutions mix_of (table_of t.old) (seconds mix_of out)) result t.new }
 {
     bucket_words::put(draft, t);
@@ -75,7 +77,7 @@ pub(crate) fn pass_drafted(t: &mut [u64], draft: &mut [u64], out: Outgoing) -> b
 
 // The words that leave level 1 go on, or nothing is written. One word alone needs no draft.
 pub fn pass_on(t: &mut [u64], out: Outgoing) -> bool
-    requires* { do ⌜ FlatKept rows solutions t.old × (out.count ≤ (← ⟦Outgoing::MOST⟧)) ⌝ }
+    requires { FlatKept rows solutions t.old × (out.count ≤ Outgoing.MOST) }
     ensures { Passed rows solutions t.old (all_to_second rows solutions mix_of (table_of t.old) (seconds mix_of out)) result t.new }
 {
     let count = out.count;

@@ -1,6 +1,8 @@
 // The occupied rows of a level, tested and counted off the totals: each bucket is sound, its rows are held where the tests send them, and each is taken off
 // the total of its plan. Free rows of the solutions must be 0 (document 02, order 6).
 // specs/Counting.antt has what is left of the totals, specs/Several.antt the plans of a bucket's rows; proofs/Counting.antt has their loops.
+#![tactic(auto)]
+
 ghost use Rattle.std.specs.Prelude.{◌≡◌, true, cond, ◌+◌, ◌*◌, ◌<◌, ◌≤◌, eqb, ltb, length, get_or, drop};
 ghost use Rattle.lists.specs.Totals.{one_less};
 ghost use Rattle.gf2.specs.Vectors.{outside};
@@ -73,7 +75,7 @@ pub(crate) fn plans_of(
     vectors: [u64; Bucket::ROWS],
     n: usize,
 ) -> [u64; Bucket::ROWS]
-    requires* { do ⌜ n ≤ (← ⟦Bucket::ROWS⟧) ⌝ }
+    requires { n ≤ Bucket.ROWS }
     ensures { result ≡ products n sols vectors }
 {
     let mut out = [0u64; Bucket::ROWS];
@@ -138,7 +140,7 @@ pub(crate) fn bucket_off(
     place: usize,
     left: &mut [u64],
 ) -> bool
-    requires* { do ⌜ (shaped t.now ≡ true) × ((place + (← ⟦Bucket::WORDS⟧) ≤ length t.now) × (length left.old ≡ total_numbers)) ⌝ }
+    requires { (shaped t.now ≡ true) × ((place + Bucket.WORDS ≤ length t.now) × (length left.old ≡ total_numbers)) }
     ensures { Leaves (bucket_off rows (row_of t.now second m i (bucket_from rows solutions (drop place t.now))) (bucket_from rows solutions (drop place t.now)) left.old) result left.new }
 {
     let b = table_layout::bucket_at(t, place);
@@ -160,7 +162,7 @@ pub(crate) fn bucket_off(
 
 // The m buckets of a level, from a place on, are sound, and their rows are counted off. False at the first that is not: those before it stay counted off.
 pub fn level_off(t: &[u64], second: bool, m: u64, place: usize, left: &mut [u64]) -> bool
-    requires* { do ⌜ (shaped t.now ≡ true) × ((place + m * (← ⟦Bucket::WORDS⟧) ≤ length t.now) × (length left.old ≡ total_numbers)) ⌝ }
+    requires { (shaped t.now ≡ true) × ((place + m * Bucket.WORDS ≤ length t.now) × (length left.old ≡ total_numbers)) }
     ensures { Leaves (level_left t.now second m place left.old) result left.new }
 {
     let mut i: u64 = 0;

@@ -2,6 +2,8 @@
 // document 02, order 2: each row and base entry found is counted off a copy of them. That of the desk's plan must be 0, so an entry with that
 // plan (order 3) cannot be counted off. The test is an equation with those of the crate table
 // (specs/Test.antt, Calls.antt); specs/Held.antt is for the crate's own functions: the base list and the counts.
+#![tactic(auto)]
+
 ghost use Rattle.std.specs.Prelude.{◌≡◌, true, ◌+◌, ◌*◌, ◌≤◌, eqb, length, get_or, take, drop};
 ghost use Rattle.table.specs.Table.{total_numbers};
 ghost use Rattle.table.specs.Layout.{base_count_at, totals_at, level_from, pairs_from};
@@ -30,7 +32,7 @@ pub(crate) fn totals_of(t: &[u64]) -> [u64; Table::TOTALS]
 
 // The occupied rows of m buckets, from a place on, and the base entries.
 pub(crate) fn live_count(t: &[u64], m: u64, place: usize, base: u64) -> u64
-    requires* { do ⌜ (place + m * (← ⟦Bucket::WORDS⟧) ≤ length t.now) × (base ≤ (← ⟦Table::BASE_ENTRIES⟧)) ⌝ }
+    requires { (place + m * Bucket.WORDS ≤ length t.now) × (base ≤ Table.BASE_ENTRIES) }
     ensures { result ≡ occupied (level_from rows solutions m (drop place t.now)) + base }
 {
     let mut sum = base;
@@ -138,7 +140,7 @@ pub(crate) fn counts_sound(t: &[u64]) -> bool
 
 // The base list is sound, and its entries are counted off.
 pub(crate) fn base_off(t: &[u64], left: &mut [u64]) -> bool
-    requires* { do ⌜ (shaped t.now ≡ true) × ((get_or t.now base_count_at 0 ≤ (← ⟦Table::BASE_ENTRIES⟧)) × (length left.old ≡ total_numbers)) ⌝ }
+    requires { (shaped t.now ≡ true) × ((get_or t.now base_count_at 0 ≤ Table.BASE_ENTRIES) × (length left.old ≡ total_numbers)) }
     ensures { Leaves (base_left t.now left.old) result left.new }
 {
     let count = t[Table::BASE_COUNT_AT];

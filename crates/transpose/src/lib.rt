@@ -3,6 +3,8 @@
 // specs/Transposed.antt has the transpose, at every number of rows, and specs/Shuffle.antt the step, at every number of pairs. proofs/Transposed.antt has the rows
 // of the transpose; proofs/Shuffling.antt that m steps are the transpose of 2 ^ m words, for every m; proofs/Below.antt a test of each number below n.
 // That m is 6 here, and that the six masks are right, is shown in the proof of `transpose` alone.
+#![tactic(auto)]
+
 ghost use Rattle.std.specs.Prelude.{◌≡◌, ◌/◌, ◌<◌};
 ghost use Rattle.bits.specs.Width.{width};
 ghost use Rattle.transpose.specs.Shuffle.{Shuffled};
