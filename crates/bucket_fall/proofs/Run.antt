@@ -61,7 +61,7 @@ module _ (n r m : ℕ) (thr : ℕ → ℕ) (e : Entry) where
 
   module _ {b₀ b : Bucket} {out : Outgoing} (s : Settling b₀ b out) where
     counts : out.count ≡ length s.gone
-    counts = ap (λ (q : Outgoing). q.count) s.is-out ∙ count_of m s.gone
+    counts = ap (λ (q : Outgoing). q.count) s.is_out ∙ count_of m s.gone
 
     -- the last word finds room
     pub last_room : n < m → out.count < m
@@ -78,7 +78,7 @@ module _ (n r m : ℕ) (thr : ℕ → ℕ) (e : Entry) where
     ends-added l {a} q d =
         ends (record { bucket = a.bucket; out = [] })
         (settle-done n thr e b.bound b l (ap (λ (x : Tried). x.done) (sym q) ∙ d) ∙ ap (λ (x : Tried). record { bucket = x.bucket; out = [] }) (sym q))
-        (s.is-out ∙ ap (outgoing m) (sym (append-nil s.gone)))
+        (s.is_out ∙ ap (outgoing m) (sym (append-nil s.gone)))
 
     -- e leaves last
     pub ends-past : b.bound ≤ thr e.word → n < m → {o : Outgoing} → o ≡ put_at out.count e.word e.plan out
@@ -86,7 +86,7 @@ module _ (n r m : ℕ) (thr : ℕ → ℕ) (e : Entry) where
     ends-past l h p =
         let k : length s.gone < m = omega (arith, s.room) in
         ends (record { bucket = b; out = e ∷ [] }) (settle-past n thr e b.bound b l)
-        (p ∙ ap₂ (λ (c : ℕ) (q : Outgoing). put_at c e.word e.plan q) counts s.is-out ∙ push_law m s.gone e k)
+        (p ∙ ap₂ (λ (c : ℕ) (q : Outgoing). put_at c e.word e.plan q) counts s.is_out ∙ push_law m s.gone e k)
 
     -- the bound falls to t; the words of q leave
     module _ (t : ℕ) (is : b.bound ≡ suc t) {q : Outgoing} (found : q ≡ outgoing m (leaving n thr t b)) where
@@ -99,7 +99,7 @@ module _ (n r m : ℕ) (thr : ℕ → ℕ) (e : Entry) where
           → {b' : Bucket} → b' ≡ at_bound t (withdraw_all n (take q.count q.vectors) b) → {out' : Outgoing} → out' ≡ joined out q → Settling b₀ b' out'
       falls l p d {b'} p' {out'} q' = subst⁻¹ (λ (x : Bucket). Settling b₀ x out') is_lowered (record {
         gone = s.gone ++ leaves;
-        is_out = q' ∙ ap₂ joined s.is-out found ∙ join_law m s.gone leaves;
+        is_out = q' ∙ ap₂ joined s.is_out found ∙ join_law m s.gone leaves;
         sound = lowered-sound thr t s.sound (omega (arith, s.sound.low));
         room = omega (arith, s.room, length-append s.gone leaves, lowered-length thr t s.sound);
         same = (λ i. record { bucket = rest.bucket; out = append_assoc s.gone leaves rest.out i })

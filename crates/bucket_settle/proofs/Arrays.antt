@@ -14,7 +14,7 @@ use Rattle.lists.proofs.Tests.{by_test, cases, cond_true, cond_false}
 use Rattle.lists.proofs.Parts.{first_next, first_past, drop-zeros}
 use Rattle.lists.proofs.Loops.{length-put, map-put}
 use Rattle.bucket_settle.specs.declared.Outgoing.{Outgoing}
-use Rattle.bucket_settle.specs.Outgoing.{padded, plans, outgoing}
+use Rattle.bucket_settle.specs.Outgoing.{padded, outgoing}
 use Rattle.bucket_settle.specs.Steps.{put_in, put_at, position_of, inserted, joined}
 
 -- ---- one element more: the loop carries the element that the one before it took the place of

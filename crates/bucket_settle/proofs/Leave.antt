@@ -5,14 +5,12 @@ use native.Mathlib.Nat.{div-one, pow-suc, div-div-eq-div-mul}
 use native.Mathlib.Numerals.{add-one}
 use native.Mathlib.Omega.{arith}
 use mathlib.Core.Path.{◌≡◌, refl, sym, ap, ◌∙◌}
-use mathlib.Core.Bool.{Bool, true, false, true≢false}
-use mathlib.Core.List.{List, [], ◌∷◌, map}
+use mathlib.Core.Bool.{true, false, true≢false}
+use mathlib.Core.List.{List, [], map}
 use lib.Dec.{eqb}
 use lib.ListN.{length, get_or, take, drop, length-map, length-drop, drop_of_length-le}
 use lib.Seq.{drop-cons}
-use Rattle.lists.specs.Lists.{keep}
 use Rattle.lists.specs.Entries.{Entry}
-use Rattle.lists.proofs.Tests.{by_test}
 use Rattle.lists.proofs.Parts.{first_next, first_past}
 use Rattle.lists.proofs.Keep.{keep-within, length-sub}
 use Rattle.lists.proofs.Sorts.{sort-length}

@@ -161,7 +161,7 @@ module _ (n r : ℕ) (thr : ℕ → ℕ) where
     goes_on t b q h f fe = record {
       holds = subst⁻¹ (λ (u : ℕ). Holds n r b (held thr u (e ∷ fs))) q (rw f h);
       falls = q ∙ sym fe;
-      leaves = rw (q, f) (Permᴰ.refl (e ∷ over thr t fs));
+      leaves = subst⁻¹ (λ (u : ℕ). Permᴰ (e ∷ over thr t fs) (over thr u (e ∷ fs))) q (rw f (Permᴰ.refl (e ∷ over thr t fs)));
     }
 
     pub settle_law : (t : ℕ) (b : Bucket) → b.bound ≡ t → Holds n r b (held thr t fs) → Settles e fs t (settle n thr e t b)
@@ -182,7 +182,7 @@ module _ (n r : ℕ) (thr : ℕ → ℕ) where
             (record {
               holds = subst⁻¹ (λ (t : ℕ). Holds n r a.0 (held thr t (e ∷ fs))) (a.3 ∙ q) (rw l a.2);
               falls = a.3 ∙ q ∙ sym (cond_false (fall u (seen thr e) (map (seen thr) fs)) (suc u) (ap (λ (a : Bool). ltb (thr e.word) (suc u) && a) (same-has ∙ f) ∙ and-false (ltb (thr e.word) (suc u))));
-              leaves = rw (a.3 ∙ q, l) (Permᴰ.refl (over thr (suc u) fs));
+              leaves = subst⁻¹ (λ (t : ℕ). Permᴰ (over thr (suc u) fs) (over thr t (e ∷ fs))) (a.3 ∙ q) (rw l (Permᴰ.refl (over thr (suc u) fs)));
             })
 
         out_at : Permᴰ (leaving n thr u b) (at thr u fs)

@@ -39,6 +39,7 @@ xor_equal : (x s : ℕ) → bit_xor x s ≡ 0 → s ≡ x
 xor_equal x s e = sym (xor_cancel x s) ∙ ap (bit_xor x) e ∙ xor_zero_r x
 
 pub indep_none : (xs : List ℕ) → T (indep xs) → (x : ℕ) (s : List ℕ) → Sublistᴰ (x ∷ s) xs → xor_all (x ∷ s) ≡ 0 → ⊥
+indep_none [] i x s x5 e = elim x5 [ ]
 indep_none (y ∷ ys) i x s (Sublistᴰ.cons u) e = indep_none ys (and_l (indep ys) _ (subst T (indep_cons y ys) i)) x s u e
 indep_none (y ∷ ys) i x s (Sublistᴰ.cons-cons q u) e =
     T_not (elem y (sums ys)) (and_r (indep ys) (not (elem y (sums ys))) (subst T (indep_cons y ys) i))

@@ -115,20 +115,20 @@ pub lookup-causes : (id : Token) (p : List ℕ) → Exactly (lookup_causes id p)
 lookup-causes = Plane.lookup-causes
 
 pub make-causes : (p q out : List ℕ) → Exactly (make_causes p q out) (make_returns p q) (make_call p q out).answer
-make-causes = Patch.make-exactly
+make-causes = Patch.make_exactly
 
 pub apply-causes : (p d out : List ℕ) → Exactly (apply_causes p d out) (apply_returns p d) (apply_call p d out).answer
-apply-causes = Patch.apply-exactly
+apply-causes = Patch.apply_exactly
 
 -- "a call turned down leaves table and output exactly as they were"
 pub open_keeps : (b1 b2 : ℕ) (t : List ℕ) → accepted (open_call b1 b2 t).answer ≡ false → (open_call b1 b2 t).table ≡ t
-open_keeps = Table.refused-opening
+open_keeps = Table.refused_opening
 
 pub call_keeps : (t : List ℕ) (c : Call Token) → accepted (call t c).answer ≡ false → (call t c).table ≡ t
-call_keeps t c = Table.refused-keeps t (ask c)
+call_keeps t c = Table.refused_keeps t (ask c)
 
 pub write_keeps : (t out : List ℕ) → accepted (write_call t out).answer ≡ false → (write_call t out).output ≡ out
-write_keeps = Plane.refused-keeps
+write_keeps = Plane.refused_keeps
 
 pub make_keeps : (p q out : List ℕ) → accepted (make_call p q out).answer ≡ false → (make_call p q out).output ≡ out
 make_keeps p q out = make_refused out p q
@@ -153,7 +153,7 @@ module _ (t : List ℕ) (o : Opened t) (ps : List Request) where
   -- "every live identifier gives its word's last accepted plan, from the table" (`told`, `queried`: Accepted); "the table says not live of every
   -- other word"
   pub plan-from_table : (i : Token) (w : ℕ) → word_for (query i) ≡ Word w → call (after tables t ps) (query i) ≡ queried (after tables t ps) (told w (accepted_calls t ps))
-  plan-from_table = Table.query-tells t o ps
+  plan-from_table = Table.query_tells t o ps
 
   -- "So the opening and these calls alone settle every answer and bound": they are those of the model, which has the bucket numbers, live words, plans and
   -- bounds, and no matrix
@@ -162,10 +162,10 @@ module _ (t : List ℕ) (o : Opened t) (ps : List Request) where
 
   -- "the table itself never gives cause 4 or 5 in a list": after any calls it is sound
   pub always_sound : (shaped (after tables t ps) ≡ true) × FlatSound (after tables t ps)
-  always_sound = let h = Table.always-sound t o ps in (h.0, h.2)
+  always_sound = let h = Table.always_sound t o ps in (h.0, h.2)
 
   pub never_4_5 : (c : Call Token) → (number_of (call (after tables t ps) c).answer ≡ 4 → ⊥) × (number_of (call (after tables t ps) c).answer ≡ 5 → ⊥)
-  never_4_5 c = Table.never-4-5 t o ps (ask c)
+  never_4_5 c = Table.never_4_5 t o ps (ask c)
 
   -- "The live count equals accepted adds less accepted withdrawals since opening": the one that the table holds
   pub count : get_or (after tables t ps) live_count_at 0 + withdrawals_in (accepted_calls t ps) ≡ adds_in (accepted_calls t ps)
@@ -175,9 +175,9 @@ module _ (t : List ℕ) (o : Opened t) (ps : List Request) where
   pub add_counts : (i : Token) (p n : ℕ) → (call (after tables t ps) (add i p)).answer ≡ Accepted n → n + withdrawals_in (accepted_calls t ps) ≡ suc (adds_in (accepted_calls t ps))
   add_counts i p n e =
       let u : List ℕ = after tables t ps in
-      let x = accepted_exactly (sound_causes u (add i p)) (call_returns u (add i p)) (call u (add i p)).answer (test_apart (sound_causes u (add i p)) refl) (Table.list-causes t o ps (add i p)) n in
+      let x = accepted_exactly (sound_causes u (add i p)) (call_returns u (add i p)) (call u (add i p)).answer (test_apart (sound_causes u (add i p)) refl) (Table.list_causes t o ps (add i p)) n in
       let r : n ≡ suc (length (flat_state u).live) = (x.0 (ap number_of e, ap value_of e)).1 in
-      let l = Table.live-count u always_sound.0 always_sound.1 in
+      let l = Table.live_count u always_sound.0 always_sound.1 in
       let c = count in
       omega arith
 
@@ -189,17 +189,17 @@ module _ (t : List ℕ) (o : Opened t) (ps : List Request) where
 
     -- "a plane written and read again answers for each identifier as the table's own XOR words or base list do"
     pub plane_as_table : (id : Token) → lookup_call id (take n (write_call (after tables t ps) out).output) ≡ shown_to (table_of (after tables t ps)) (read_of id)
-    plane_as_table = Plane.list-gives t o ps out n e
+    plane_as_table = Plane.list_gives t o ps out n e
 
 -- ---- head counts, document 02, order 2: "After any list the answer is the number of words then live with that plan" (`LiveWith`: they are listed, as
 -- the accepted calls tell them)
 
 pub head_count : (t : List ℕ) → Opened t → (ps : List Request) (p : ℕ) → p < plan_limit → (k : ℕ) × (total_call (after tables t ps) p ≡ Accepted k) × LiveWith p (accepted_calls t ps) k
-head_count = Table.total-told
+head_count = Table.total_told
 
 -- any sound table, also one handed in from elsewhere: its live words are those of its occupied rows and base entries
 pub head_count_sound : (t : List ℕ) → shaped t ≡ true → FlatSound t → (p : ℕ) → p < plan_limit → total_call t p ≡ Accepted (plan_count p (flat_state t).live)
-head_count_sound = Table.total-exact
+head_count_sound = Table.total_exact
 
 -- "its length is 4 + 256 + 74 × buckets + 128", for all bucket numbers: no other length is accepted by an opening, nor by a call (`shaped`: cause 4 is not
 -- met; `buckets1_at`, `buckets2_at`: the first two numbers)
@@ -207,7 +207,7 @@ pub opened-length : (b1 b2 : ℕ) (t : List ℕ) → (open_call b1 b2 t).answer 
 opened-length = Table.opened-length
 
 pub table_length : (t : List ℕ) → shaped t ≡ true → length t ≡ 4 + 256 + 74 * (get_or t buckets1_at 0 + get_or t buckets2_at 0) + 128
-table_length = Table.table-length
+table_length = Table.table_length
 
 -- ---- strangers, document 02, order 3: plan 255 means "call the desk" (`desk_plan`; `assignable`: below it)
 
@@ -218,24 +218,24 @@ pub plan_14 : (t : List ℕ) (i : Token) (p : ℕ) → p < plan_limit
 plan_14 t i p l =
     let to : assignable p ≡ false → p ≡ 255 = (λ e. let k = ltb-false p desk_plan e in omega arith) in
     let from : p ≡ 255 → assignable p ≡ false = (λ e. le-ltb p desk_plan (omega arith)) in
-    let a = Table.cause-14 t (add i p) in
-    let c = Table.cause-14 t (change i p) in (
+    let a = Table.cause_14 t (add i p) in
+    let c = Table.cause_14 t (change i p) in (
       (λ e. let q = a.0 e in (q.0, to q.1), λ q. a.1 (q.0, from q.1)),
       (λ e. let q = c.0 e in (q.0, to q.1), λ q. c.1 (q.0, from q.1)),
     )
 
 -- "no live word": after any list the plan of a live word is below 255
 pub live_not_255 : (t : List ℕ) → Opened t → (ps : List Request) (v p : ℕ) → v < 2 ^ 64 → told v (accepted_calls t ps) ≡ some p → p < 255
-live_not_255 t o ps v p l e = ltb-true p desk_plan (Table.plan-given t o ps v p l e)
+live_not_255 t o ps v p l e = ltb-true p desk_plan (Table.plan_given t o ps v p l e)
 
 -- so no live identifier gets 255 from the plane that is written
 pub plane_not_255 : (t : List ℕ) → Opened t → (ps : List Request) (out : List ℕ) (n : ℕ) → (write_call (after tables t ps) out).answer ≡ Accepted n
     → (id : Token) (w p : ℕ) → read_of id ≡ Word w → told w (accepted_calls t ps) ≡ some p → lookup_call id (take n (write_call (after tables t ps) out).output) ≡ Accepted 255 → ⊥
-plane_not_255 = Plane.plane-live-given
+plane_not_255 = Plane.plane-live_given
 
 -- the same of any sound table, also one handed in from elsewhere; so the total of 255, which may be asked, is 0
 pub sound_not_255 : (t : List ℕ) → shaped t ≡ true → FlatSound t → ((w p : ℕ) → find w (flat_state t).live ≡ some p → p < 255) × (total_call t 255 ≡ Accepted 0)
-sound_not_255 t k h = (λ w p e. ltb-true p desk_plan (Table.live-given t k h w p e), Table.desk-total t k h)
+sound_not_255 t k h = (λ w p e. ltb-true p desk_plan (Table.live_given t k h w p e), Table.desk_total t k h)
 
 -- "for a word due to the base list and absent" the lookup in any plane that is right answers 255
 pub stranger_255 : (id : Token) (p : List ℕ) (w : ℕ) → wrong_at format1 p ≡ Nowhere → read_of id ≡ Word w
@@ -285,7 +285,7 @@ case_alike = read_case
 
 -- what follows the bytes of the stated length is not read
 pub rest_unread : (i j : Token) → i.kind ≡ j.kind → i.stated ≡ j.stated → id_bytes i ≡ id_bytes j → read_of i ≡ read_of j
-rest_unread = Words.rest-unread
+rest_unread = Words.rest_unread
 
 module _ (i j : Token) (v w : ℕ) (read-i : read_of i ≡ Word v) (read-j : read_of j ≡ Word w) (letters : only_case (id_bytes i) (id_bytes j) ≡ true) (kinds : i.kind ≡ j.kind → ⊥) where
   -- "A card and a key code with the same letters are different people": they have two words
@@ -303,7 +303,7 @@ module _ (i j : Token) (v w : ℕ) (read-i : read_of i ≡ Word v) (read-j : rea
 
     -- it changes nothing of what a query says of j
     pub other_query : (call (call t c).table (query j)).answer ≡ (call t (query j)).answer
-    other_query = Table.other-query t k h c j w (ap (with_plan true) read-j) apart
+    other_query = Table.other_query t k h c j w (ap (with_plan true) read-j) apart
 
     -- nor of what the plane gives j while j is live: its plan, in the plane written before c and in the one written after. (Where j is not live, the
     -- one may give j another number than the other)
@@ -320,13 +320,13 @@ module _ (i j : Token) (v w : ℕ) (read-i : read_of i ≡ Word v) (read-j : rea
 -- planes from then on; in any sound table in which its word is live, with the plan q, for any plan p that may be given
 pub lost_plan : (t : List ℕ) → shaped t ≡ true → FlatSound t → (id : Token) (w p q : ℕ) → read_of id ≡ Word w → assignable p ≡ true → plan_in t w ≡ some q
     → (call (call t (change id p)).table (withdraw id)).table ≡ (call t (withdraw id)).table
-lost_plan = Table.plan-forgotten
+lost_plan = Table.plan_forgotten
 
 -- "In every table row j of Z is 0 for each free row j" (`Clear`): in any sound table, so after any list of calls, of each bucket, first level and second
 pub free_rows : (t : List ℕ) → shaped t ≡ true → FlatSound t
     → ((i : ℕ) → i < length (table_of t).level1 → Clear (nth rows solutions (table_of t).level1 i).mark (nth rows solutions (table_of t).level1 i).sols)
     × ((i : ℕ) → i < length (table_of t).level2 → Clear (nth rows solutions (table_of t).level2 i).mark (nth rows solutions (table_of t).level2 i).sols)
-free_rows = Table.free-rows-clear
+free_rows = Table.free_rows_clear
 
 -- "in its combination of K's rows", for n rows: the product of a vector chooses rows of K that XOR to it (`combine`), and no other choice does
 pub one_combination : (n : ℕ) (K cs : List ℕ) → Inverse n K cs → (v : ℕ) → v < 2 ^ n → (combine K (product cs v) ≡ v) × ((p : ℕ) → p < 2 ^ n → combine K p ≡ v → p ≡ product cs v)
@@ -358,11 +358,11 @@ module _ (t : List ℕ) (o : Opened t) (ps : List Request) (out : List ℕ) (n :
   -- so 0 where no live word is in the combination (`live_in`), as in a bucket without live words
   pub lost_first : T.holds rows solutions mix_of (table_of (after tables t ps)).level1 w ≡ true → live_in first w ≡ 0
       → lookup_call id (take n (write_call (after tables t ps) out).output) ≡ Accepted 0
-  lost_first = Plane.plane-first-none t o ps out n e id w i
+  lost_first = Plane.plane-first_none t o ps out n e id w i
 
   pub lost_second : T.holds rows solutions mix_of (table_of (after tables t ps)).level1 w ≡ false → T.holds rows solutions mix_of (table_of (after tables t ps)).level2 (second_of w) ≡ true
       → live_in second (second_of w) ≡ 0 → lookup_call id (take n (write_call (after tables t ps) out).output) ≡ Accepted 0
-  lost_second = Plane.plane-second-none t o ps out n e id w i
+  lost_second = Plane.plane-second_none t o ps out n e id w i
 
 -- ---- patches, document 02, order 1
 
@@ -376,15 +376,15 @@ module _ (p q : List ℕ) (bytes-p : (i : ℕ) → get_or p i 0 < 256) (bytes-q 
 
   -- "applied to the old plane it gives the new plane": n bytes were made; applying them is refused for nothing but a short output, and gives q
   pub make_apply : (out : List ℕ) (n : ℕ) → (make_call p q out).answer ≡ Accepted n → (into : List ℕ) → apply_call p (take n (make_call p q out).output) into ≡ put_front q into
-  make_apply out n = Calls.make-apply p q out n bytes-p bytes-q
+  make_apply out n = Calls.make_apply p q out n bytes-p bytes-q
 
 -- whoever made the patch d: an accepted patch leaves a plane that is right, with the sums that d has of the old plane and of the new one
 module _ (p d out : List ℕ) (bytes-p : (i : ℕ) → get_or p i 0 < 256) (bytes-d : (i : ℕ) → get_or d i 0 < 256) (n : ℕ) (e : (apply_call p d out).answer ≡ Accepted n) where
   pub apply_right : wrong_at format1 (take n (apply_call p d out).output) ≡ Nowhere
-  apply_right = Calls.apply-right p d out bytes-p bytes-d n e
+  apply_right = Calls.apply_right p d out bytes-p bytes-d n e
 
   pub apply_sums : (fnv_of p ≡ (patch_from format1 d).old_sum) × (fnv_of (take n (apply_call p d out).output) ≡ (patch_from format1 d).new_sum)
-  apply_sums = Calls.apply-sums p d out bytes-p bytes-d n e
+  apply_sums = Calls.apply_sums p d out bytes-p bytes-d n e
 
 -- "Changing one plan costs at most 89 bytes, and 22 if the plan was that already": of any sound table, so after any list of calls. The planes are those
 -- that the writer wrote before the change and after it
@@ -447,15 +447,15 @@ module _ (t : List ℕ) (o : Opened t) (ps qs : List Request) (a b : List ℕ) (
 -- stay equal"
 pub lists_alike : (t u : List ℕ) → Opened t → Opened u → (ps qs : List Request) → Same (after tables t ps) (after tables u qs)
     → (cs : List Request) → Alike tables Same (after tables t ps) (after tables u qs) cs
-lists_alike = Table.statement-3
+lists_alike = Table.statement_3
 
 -- such tables have equal totals too
 pub totals_alike : (t u : List ℕ) → Opened t → Opened u → (ps qs : List Request) → Same (after tables t ps) (after tables u qs)
     → (p : ℕ) → p < plan_limit → total_call (after tables t ps) p ≡ total_call (after tables u qs) p
 totals_alike t u o r ps qs e =
-    let a = Table.always-sound t o ps in
-    let b = Table.always-sound u r qs in
-    (Table.same-totals (after tables t ps) (after tables u qs) a.0 a.2 b.0 b.2 e).1
+    let a = Table.always_sound t o ps in
+    let b = Table.always_sound u r qs in
+    (Table.same_totals (after tables t ps) (after tables u qs) a.0 a.2 b.0 b.2 e).1
 
 -- any sound table, also one handed in from elsewhere; a list of calls leaves one
 module _ (t : List ℕ) (k : shaped t ≡ true) (h : FlatSound t) (i : Token) (p : ℕ) where
@@ -478,4 +478,4 @@ module _ (t : List ℕ) (k : shaped t ≡ true) (h : FlatSound t) (i : Token) (p
   -- "An add with no earlier cause is refused as full exactly when, under those bounds, more than 64 words would fall to the base list"
   pub full_exactly : (w : ℕ) → word_for (add i p) ≡ Word w → find w (flat_state t).live ≡ none
       → ((call t (add i p)).answer ≡ Full) ↔ (64 < length (base first_level second_level (would_leave first_level second_level (flat_state t) (record { word = w; plan = p }))))
-  full_exactly = Table.full-exactly t k h i p
+  full_exactly = Table.full_exactly t k h i p

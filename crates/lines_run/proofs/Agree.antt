@@ -10,7 +10,6 @@ use Rattle.lists.proofs.Tests.{cases}
 use Rattle.identifier.specs.Identifier.{Token}
 use Rattle.model.specs.Model.{State, Call}
 use Rattle.model.specs.Request as R
-use Rattle.model.specs.Machine.{accepted}
 use Rattle.table.specs.Table.{open_table}
 use Rattle.table.specs.Layout.{in_range, numbers_of}
 use Rattle.table.specs.Calls.{rows, solutions}

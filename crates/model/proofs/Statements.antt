@@ -63,21 +63,21 @@ module _ (L1 L2 : Level) (s : State) (e : Entry) where
   -- statement 3, the base list: refused as full exactly when more than 64 words would fall to it under the bounds that the add would so
   -- leave (Steps.bounds-first and Steps.bounds-second: these are those of would_leave, accepted or not)
   pub full_exactly : find e.word s.live ≡ none → ((step L1 L2 s (add_of e)).answer ≡ Full) ↔ (64 < length (base L1 L2 (would_leave L1 L2 s e)))
-  full_exactly f = Steps.full-exactly L1 L2 s e f
+  full_exactly f = Steps.full_exactly L1 L2 s e f
 
 module _ (L1 L2 : Level) (s : State) where
   -- "changes, withdrawals, queries and refused calls keep them": queries and refused calls keep everything
   pub change_keeps : (w p : ℕ) → ((step L1 L2 s (change w p)).after.bounds1 ≡ s.bounds1) × ((step L1 L2 s (change w p)).after.bounds2 ≡ s.bounds2)
-  change_keeps = Steps.change-keeps L1 L2 s
+  change_keeps = Steps.change_keeps L1 L2 s
 
   pub withdraw_keeps : (w : ℕ) → ((step L1 L2 s (withdraw w)).after.bounds1 ≡ s.bounds1) × ((step L1 L2 s (withdraw w)).after.bounds2 ≡ s.bounds2)
-  withdraw_keeps = Steps.withdraw-keeps L1 L2 s
+  withdraw_keeps = Steps.withdraw_keeps L1 L2 s
 
   pub query_keeps : (w : ℕ) → (step L1 L2 s (query w)).after ≡ s
-  query_keeps = Steps.query-keeps L1 L2 s
+  query_keeps = Steps.query_keeps L1 L2 s
 
   pub refused_keeps : (c : Call ℕ) → accepted (step L1 L2 s c).answer ≡ false → (step L1 L2 s c).after ≡ s
-  refused_keeps = Steps.refused-keeps L1 L2 s
+  refused_keeps = Steps.refused_keeps L1 L2 s
 
 -- "While it depends there, the bound falls by one": words that so arrive at a level one after the other, in any order, where no non-empty
 -- selection of the words ws that are due there already XORs to zero, leave the bounds that one look at all of them leaves
@@ -89,27 +89,27 @@ arrivals = Arrivals.arrives-all
 
 -- "refused calls keep them", also those of bytes that are no identifier
 pub respond_keeps : (s : State) (q : Request) → accepted (respond s q).answer ≡ false → (respond s q).after ≡ s
-respond_keeps = Requests.respond-keeps
+respond_keeps = Requests.respond_keeps
 
 -- "The live count equals accepted adds less accepted withdrawals since opening"
 pub count : (z : Size) (qs : List Request)
     → length (after model (opened z) qs).live + withdrawals_in (accepted_calls z qs) ≡ adds_in (accepted_calls z qs)
 count z qs =
-    let h = Calls.count-after first_level second_level model calls_of Requests.stands-for (opened z) (Valid.valid-opened first_level second_level z) qs in omega arith
+    let h = Calls.count_after first_level second_level model calls_of Requests.stands_for (opened z) (Valid.valid_opened first_level second_level z) qs in omega arith
 
 -- "a word is live if, of its accepted adds and withdrawals, the last is an add; its plan is that of its last accepted add or change"
 pub live-plan : (z : Size) (qs : List Request) (v : ℕ) → find v (after model (opened z) qs).live ≡ told v (accepted_calls z qs)
 live-plan z qs v =
-    Calls.told-after first_level second_level model calls_of Requests.stands-for v (opened z) (Valid.valid-opened first_level second_level z) false 0 refl qs
+    Calls.told-after first_level second_level model calls_of Requests.stands_for v (opened z) (Valid.valid_opened first_level second_level z) false 0 refl qs
 
 -- "in the base list, .. at most 64 entries"
 pub base-fits : (z : Size) (qs : List Request) → length (base first_level second_level (after model (opened z) qs)) ≤ 64
 base-fits z qs =
-    (Calls.valid-after first_level second_level model calls_of Requests.stands-for (opened z) (Valid.valid-opened first_level second_level z) qs).fits
+    (Calls.valid_after first_level second_level model calls_of Requests.stands_for (opened z) (Valid.valid_opened first_level second_level z) qs).fits
 
 -- "the table itself never gives cause 4 or 5 in a list": the model does not, and the answers are the model's (`settles`)
 pub never_4_5 : (s : State) (q : Request) → (number_of (respond s q).answer ≡ 4 → ⊥) × (number_of (respond s q).answer ≡ 5 → ⊥)
-never_4_5 = Requests.respond-never
+never_4_5 = Requests.respond_never
 
 -- ---- lists of requests put to a table M that refines the model N
 
@@ -124,7 +124,7 @@ module _ {T S C : Type 0} (M : Machine T C) (N : Machine S C) (Stands : T → S 
   -- answer from both, and they are the same again after each call
   pub statement_3 : (Same : T → T → Type 0) → Compares Stands Same → (t u : T) (s r : S) → Stands t s → Stands u r → (ds es : List C)
       → Same (after M t ds) (after M u es) → (cs : List C) → Alike M Same (after M t ds) (after M u es) cs
-  statement_3 = Calls.statement-3 M N Stands refines
+  statement_3 = Calls.statement_3 M N Stands refines
 
 -- ---- orders of document 02
 
@@ -133,8 +133,8 @@ pub order_of_adds : (L1 L2 : Level) (z : Size) {ds es : List Entry} → Permᴰ 
     → AllAccepted (word_model L1 L2) (opened z) (map add_of ds)
     → AllAccepted (word_model L1 L2) (opened z) (map add_of es)
     × (after (word_model L1 L2) (opened z) (map add_of ds) ≡ after (word_model L1 L2) (opened z) (map add_of es))
-order_of_adds = Orders.order-free
+order_of_adds = Orders.order_free
 
--- order 9: a lift never overfills the base list. The states that calls reach are valid (Calls.valid-after)
+-- order 9: a lift never overfills the base list. The states that calls reach are valid (Calls.valid_after)
 pub lift_fits : (L1 L2 : Level) (s : State) → Valid.Valid L1 L2 s → length (base L1 L2 (lifted L1 L2 s)) ≤ 64
-lift_fits = Valid.lift-fits
+lift_fits = Valid.lift_fits

@@ -15,7 +15,7 @@ use Rattle.answer.specs.declared.Answer.{Answer}
 use Rattle.answer.specs.declared.Answer.TheVariants.{WrongPatch, WrongSum}
 use Rattle.table.specs.Layout.{pairs_from}
 use Rattle.plane.specs.declared.Wrong.{Wrong}
-use Rattle.plane.specs.declared.Wrong.TheVariants.{Nowhere, At}
+use Rattle.plane.specs.declared.Wrong.TheVariants.{Nowhere}
 use Rattle.plane.specs.Record.{Format, format1, word_bytes}
 use Rattle.plane.specs.Plane.{plane_from, wrong_at}
 use Rattle.patch.specs.Patch.{patched}

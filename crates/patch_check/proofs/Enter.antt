@@ -17,7 +17,6 @@ use Rattle.model.specs.Model.{base_limit}
 use Rattle.table.specs.Layout.{pairs_from}
 use Rattle.table.proofs.Numbers.{length-pairs_from}
 use Rattle.plane.specs.declared.Wrong.{Wrong}
-use Rattle.plane.specs.declared.Wrong.TheVariants.{At}
 use Rattle.plane.specs.Record.{read_all, entry_body, entry_from}
 use Rattle.plane.specs.Plane.{whole, fits, wrong_in, entry_allowed}
 use Rattle.plane.proofs.Scan.{both, refused, whole-next, scan_step, scan-here}
@@ -104,10 +103,10 @@ module _ (d : List ℕ) (first k : ℕ) (old : List ℕ) (n : ℕ) (kept : List 
       not_both false b c e = refl
 
       -- cut, with a plan that may not be given, or with a word that does not exceed the one before
-      pub new_low : {x : Bool} → x ≡ (whole new_kind entry_body p && entry_allowed least (entry_from p)) → not x ≡ true → E.At at ≡ edited (scan (started K) k first) (enter_all (news k first) K)
+      pub new_low : {x : Bool} → x ≡ (whole new_kind entry_body p && entry_allowed least (entry_from p)) → x ≡ false → E.At at ≡ edited (scan (started K) k first) (enter_all (news k first) K)
       new_low e f = unfit (not_both (whole new_kind entry_body (drop at d)) _ _ (rw (rest at d) at (refused _ e f)))
 
-      module _ {x : Bool} (c : x ≡ (whole new_kind entry_body p && entry_allowed least (entry_from p))) (t : not x ≡ false) where
+      module _ {x : Bool} (c : x ≡ (whole new_kind entry_body p && entry_allowed least (entry_from p))) (t : x ≡ true) where
         there_is : (whole new_kind entry_body (drop at d) ≡ true) × (entry_allowed least (entry_from (drop at d)) ≡ true)
         there_is = both (whole new_kind entry_body (drop at d)) _ (rw (rest at d) at (Scan.passed x c t))
 
@@ -138,7 +137,7 @@ module _ (d : List ℕ) (first k : ℕ) (old : List ℕ) (n : ℕ) (kept : List 
           there-kept = rw s (seek_there w i K (low_up least w least_le (take i K) h.low-kept) b)
 
           was_old : is_there (find w O) ≡ was
-          was_old = rw r (seek_there w o O (low_up least w least_le (take o O) h.low-old) a)
+          was_old = rw r (seek_there w o O (low_up least w least_le (take o O) h.low_old) a)
 
           there-base : is_there (find w base) ≡ there
           there-base = rw (find-low w (pairs_from l new) (drop i K) low_new, s) (there-first w (drop i K) (ascending_drop i K b) ∙ ap (is_first w) (drop-drop (below w (drop i K)) i K))
@@ -155,10 +154,10 @@ module _ (d : List ℕ) (first k : ℕ) (old : List ℕ) (n : ℕ) (kept : List 
               (ap (λ (x : Entry). not (is_there (find x.word O) && not (is_there (find x.word K))) && leb (length (enter x base)) base_limit) (sym same) ∙ test ∙ f)
 
           -- gone, or the 65th
-          pub new_unfit : {y : Bool} → y ≡ taken there was (l + (m - i)) → not y ≡ true → E.At at ≡ edited (scan (started K) k first) (enter_all (news k first) K)
+          pub new_unfit : {y : Bool} → y ≡ taken there was (l + (m - i)) → y ≡ false → E.At at ≡ edited (scan (started K) k first) (enter_all (news k first) K)
           new_unfit v f = unfit (fits_is false (refused _ v f))
 
-          module _ {v : Bool} (v-is : v ≡ taken there was (l + (m - i))) (v-true : not v ≡ false) where
+          module _ {v : Bool} (v-is : v ≡ taken there was (l + (m - i))) (v-true : v ≡ true) where
             u : taken there was (l + (m - i)) ≡ true
             u = Scan.passed v v-is v-true
 
@@ -188,7 +187,7 @@ module _ (d : List ℕ) (first k : ℕ) (old : List ℕ) (n : ℕ) (kept : List 
                 (record {
                   left-of = let v = h.left-of in omega arith;
                   room = new-room;
-                  in_old = sought_le o n w o₁ old h.in-old r;
+                  in_old = sought_le o n w o₁ old h.in_old r;
                   in_kept = rw y (by_test (λ (x : ℕ). j + x ≤ m) there (λ t. let v = found_lt m w j kept t in omega arith) (λ f. omega (arith, within)));
                   few = let v = leb-true (length (enter e base)) base_limit (both (not (is_there (find w O) && not (is_there (find w K)))) _ (test ∙ u)).1 in
                       omega (arith, ap length is ∙ length-append (pairs_from l₁ new₁) (drop i₁ K), length-drop i₁ K, length-pairs_from l₁ new₁, length-pairs_from m kept);
@@ -199,6 +198,6 @@ module _ (d : List ℕ) (first k : ℕ) (old : List ℕ) (n : ℕ) (kept : List 
                       ∙ ap (λ (x : Entry). enter_all (news (left - 1) (at + new_length)) (enter x base)) (sym same)
                       ∙ ap (enter_all (news (left - 1) (at + new_length))) is;
                   low = rw grown (every_append (λ x. x.word < suc w) front (e ∷ []) (low_up w (suc w) (omega arith) front (low-front w (pairs_from l new) (drop i K) low_new)) (omega arith, tt));
-                  low_old = rw r (low_up w (suc w) (omega arith) (take (sought w o O) O) (seek_low w o O (low_up least w least_le (take o O) h.low-old)));
+                  low_old = rw r (low_up w (suc w) (omega arith) (take (sought w o O) O) (seek_low w o O (low_up least w least_le (take o O) h.low_old)));
                   low-kept = rw (y, s) (low-passed w i K (low_up least w least_le (take i K) h.low-kept));
                 })

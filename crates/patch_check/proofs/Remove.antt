@@ -5,7 +5,7 @@ use native.Mathlib.Nat.{add-zero}
 use native.Mathlib.Numerals.{sub-one}
 use native.Mathlib.Omega.{arith}
 use mathlib.Core.Path.{◌≡◌, refl, sym, ap, ap₂, ◌∙◌}
-use mathlib.Core.Bool.{Bool, true, false, not, ◌&&◌}
+use mathlib.Core.Bool.{Bool, true, false, ◌&&◌}
 use mathlib.Core.List.{List, [], ◌∷◌, ◌++◌}
 use lib.Dec.{leb}
 use lib.ListN.{length, take, drop}
@@ -17,7 +17,6 @@ use Rattle.lists.proofs.Parts.{rest}
 use Rattle.table.specs.Layout.{pairs_from}
 use Rattle.table.proofs.Numbers.{length-pairs_from}
 use Rattle.plane.specs.declared.Wrong.{Wrong}
-use Rattle.plane.specs.declared.Wrong.TheVariants.{At}
 use Rattle.plane.specs.Record.{read_all, word_bytes}
 use Rattle.plane.specs.Plane.{whole, fits, wrong_in}
 use Rattle.plane.proofs.Scan.{both, refused, passed, whole-next, scan_step, scan-here}
@@ -85,7 +84,7 @@ module _ (d : List ℕ) (first k : ℕ) (old : List ℕ) (n : ℕ) where
         → (E.Entries (m + (n - i)) ≡ edited (scan 0 k first) (remove_all (words k first) O)) × (pairs_from (m + (n - i)) xs ≡ remove_all (words k first) O)
     removing_ends z xs e =
         let lies : pairs_from (m + (n - i)) xs ≡ remove_all (words k first) O =
-        e ∙ ap (λ (x : List Entry). pairs_from m kept ++ x) (sym (drop_pairs i n old h.in-old)) ∙ sym (h.removed ∙ rw (z, read_none gone_length gone_from (drop at d))) in
+        e ∙ ap (λ (x : List Entry). pairs_from m kept ++ x) (sym (drop_pairs i n old h.in_old)) ∙ sym (h.removed ∙ rw (z, read_none gone_length gone_from (drop at d))) in
         (edited_entries _ _ (h.scanned ∙ rw z) (sym (length-pairs_from (m + (n - i)) xs) ∙ ap length lies), lies)
 
     module _ (some : 0 < left) where
@@ -96,11 +95,11 @@ module _ (d : List ℕ) (first k : ℕ) (old : List ℕ) (n : ℕ) where
       unfit : fits gone_records (gone_allowed O) h.least (drop at d) ≡ false → E.At at ≡ edited (scan 0 k first) (remove_all (words k first) O)
       unfit f = edited-at _ _ (h.scanned ∙ scan-here gone_records (gone_allowed O) next_word h.least left at (drop at d) some f)
 
-      pub gone_cut : {x : Bool} → x ≡ whole gone_kind word_bytes p → not x ≡ true → E.At at ≡ edited (scan 0 k first) (remove_all (words k first) O)
+      pub gone_cut : {x : Bool} → x ≡ whole gone_kind word_bytes p → x ≡ false → E.At at ≡ edited (scan 0 k first) (remove_all (words k first) O)
       gone_cut e f = unfit (ap (λ (b : Bool). b && gone_allowed O h.least (gone_from (drop at d))) (rw (rest at d) at (refused _ e f)))
 
       -- the word w is sought
-      module _ {x : Bool} (c : x ≡ whole gone_kind word_bytes p) (t : not x ≡ false) (a : Ascending O) {w j : ℕ} (e : w ≡ gone_from p) (s : j ≡ sought w i O) where
+      module _ {x : Bool} (c : x ≡ whole gone_kind word_bytes p) (t : x ≡ true) (a : Ascending O) {w j : ℕ} (e : w ≡ gone_from p) (s : j ≡ sought w i O) where
         word_is : w ≡ gone_from (drop at d)
         word_is = e ∙ ap gone_from (rest at d)
 
@@ -113,10 +112,10 @@ module _ (d : List ℕ) (first k : ℕ) (old : List ℕ) (n : ℕ) where
         fits_is : (b : Bool) → is_first w (drop j O) ≡ b → fits gone_records (gone_allowed O) h.least (drop at d) ≡ b
         fits_is b f = ap₂ (λ (x : Bool) (v : ℕ). x && gone_allowed O h.least v) there (sym word_is) ∙ test b f
 
-        pub gone_absent : {y : Bool} → y ≡ is_first w (drop j O) → not y ≡ true → E.At at ≡ edited (scan 0 k first) (remove_all (words k first) O)
+        pub gone_absent : {y : Bool} → y ≡ is_first w (drop j O) → y ≡ false → E.At at ≡ edited (scan 0 k first) (remove_all (words k first) O)
         gone_absent v f = unfit (fits_is false (refused _ v f))
 
-        pub removing_step : {y : Bool} → y ≡ is_first w (drop j O) → not y ≡ false → (kept₁ : List ℕ) → pairs_from (m + (j - i)) kept₁ ≡ pairs_from m kept ++ pairs_from (j - i) (drop (2 * i) old)
+        pub removing_step : {y : Bool} → y ≡ is_first w (drop j O) → y ≡ true → (kept₁ : List ℕ) → pairs_from (m + (j - i)) kept₁ ≡ pairs_from m kept ++ pairs_from (j - i) (drop (2 * i) old)
             → Removing (at + gone_length) (left - 1) (j + 1) (m + (j - i)) kept₁
         removing_step v u kept₁ y =
             let f = passed _ v u in

@@ -60,7 +60,7 @@ use Rattle.patch_make.proofs.Small.{changes_none, changes_one, set-second, gone_
 
 -- a change to the plan that the vector has shows nothing new
 seen_same : (n v p : ℕ) (b : Bucket) → plan_of n v b ≡ some p → seen_of (B.change n v p b).bucket ≡ seen_of b
-unfolding B.change B.changeAt
+unfolding B.change B.change_at
 seen_same n v p b e =
     cases (B.live n v b)
     (λ t. let q : B.lookup b v ≡ p = live-plan (B.live n v b) (B.lookup b v) p e in
@@ -81,7 +81,7 @@ choice P true b x y z q e f g h = f e
 choice P false true x y z q e f g h = g e
 choice P false false x y z q e f g h = h e
 
-module _ (n r : ℕ) (S : ℕ → ℕ) (T : Table) (asc : Ascending T.base) (some1 : 0 < length T.level1) (w q : ℕ) (live : C.planIn n r S T w ≡ some q) where
+module _ (n r : ℕ) (S : ℕ → ℕ) (T : Table) (asc : Ascending T.base) (some1 : 0 < length T.level1) (w q : ℕ) (live : C.plan_in n r S T w ≡ some q) where
   abbrev v : ℕ
   v = C.second S w
 
@@ -93,10 +93,10 @@ module _ (n r : ℕ) (S : ℕ → ℕ) (T : Table) (asc : Ascending T.base) (som
 
   -- its bucket at each level, after the change to p
   abbrev c1 : ℕ → Bucket
-  c1 p = (B.change n w p (C.bucketOf n r S T.level1 w)).bucket
+  c1 p = (B.change n w p (C.bucket_of n r S T.level1 w)).bucket
 
   abbrev c2 : ℕ → Bucket
-  c2 p = (B.change n v p (C.bucketOf n r S T.level2 v)).bucket
+  c2 p = (B.change n v p (C.bucket_of n r S T.level2 v)).bucket
 
   abbrev A : List PlaneBucket
   A = map seen_of T.level1
@@ -104,7 +104,7 @@ module _ (n r : ℕ) (S : ℕ → ℕ) (T : Table) (asc : Ascending T.base) (som
   abbrev Z : List PlaneBucket
   Z = map seen_of T.level2
 
-  by_level : (P : Table → Type 0) {T1 T2 T3 : Table} → (plan_of n w (C.bucketOf n r S T.level1 w) ≡ some q → P T1) → (plan_of n v (C.bucketOf n r S T.level2 v) ≡ some q → P T2)
+  by_level : (P : Table → Type 0) {T1 T2 T3 : Table} → (plan_of n w (C.bucket_of n r S T.level1 w) ≡ some q → P T1) → (plan_of n v (C.bucket_of n r S T.level2 v) ≡ some q → P T2)
       → (find v T.base ≡ some q → P T3) → P (cond (C.holds n r S T.level1 w) T1 (cond (C.holds n r S T.level2 v) T2 T3))
   by_level P = choice P (C.holds n r S T.level1 w) (C.holds n r S T.level2 v) _ _ _ q live
 
@@ -115,24 +115,24 @@ module _ (n r : ℕ) (S : ℕ → ℕ) (T : Table) (asc : Ascending T.base) (som
       rw (e, f, gone_same T.base asc, news-same T.base asc) (omega arith)
 
   -- one record at most
-  pub change_cheap : (p : ℕ) → records_length (plane_of T) (plane_of (C.changedIn n r S T w p q)) ≤ change_length format1
+  pub change_cheap : (p : ℕ) → records_length (plane_of T) (plane_of (C.changed_in n r S T w p q)) ≤ change_length format1
   change_cheap p =
       let e : Entry = record { word = v; plan = p } in
       let l : length (news_of T.base (update e T.base)) ≤ 1 = news-update T.base asc e in
       by_level (λ (U : Table). records_length (plane_of T) (plane_of U) ≤ change_length format1)
-      (λ _. one_bucket i1 (seen_of (c1 p)) (plane_of (C.withFirst T (set T.level1 i1 (c1 p))))
+      (λ _. one_bucket i1 (seen_of (c1 p)) (plane_of (C.with_first T (set T.level1 i1 (c1 p))))
       (ap (λ (l : List PlaneBucket). l ++ Z) (map-set seen_of T.level1 i1 (c1 p))
       ∙ sym (set-append_left A Z i1 (seen_of (c1 p)) (rw (length-map T.level1 seen_of) (mod-lt (S w / thresholds) some1)))) refl)
-      (λ _. one_bucket (length A + i2) (seen_of (c2 p)) (plane_of (C.withSecond T (set T.level2 i2 (c2 p))))
+      (λ _. one_bucket (length A + i2) (seen_of (c2 p)) (plane_of (C.with_second T (set T.level2 i2 (c2 p))))
       (ap (λ (l : List PlaneBucket). A ++ l) (map-set seen_of T.level2 i2 (c2 p)) ∙ sym (set-second A Z i2 (seen_of (c2 p)))) refl)
       (λ f. rw (changes_none 0 (A ++ Z), gone-update T.base asc e q f) (omega arith))
 
   -- to the plan that it has
-  pub change-same : plane_of (C.changedIn n r S T w q q) ≡ plane_of T
+  pub change-same : plane_of (C.changed_in n r S T w q q) ≡ plane_of T
   change-same =
       by_level (λ (U : Table). plane_of U ≡ plane_of T)
-      (λ e. ap (λ (l : List PlaneBucket). record { level1 = l; level2 = Z; base = T.base }) (map-set_same seen_of T.level1 i1 (c1 q) (B.emptyBucket n r) (seen_same n w q _ e)))
-      (λ e. ap (λ (l : List PlaneBucket). record { level1 = A; level2 = l; base = T.base }) (map-set_same seen_of T.level2 i2 (c2 q) (B.emptyBucket n r) (seen_same n v q _ e)))
+      (λ e. ap (λ (l : List PlaneBucket). record { level1 = l; level2 = Z; base = T.base }) (map-set_same seen_of T.level1 i1 (c1 q) (B.empty_bucket n r) (seen_same n w q _ e)))
+      (λ e. ap (λ (l : List PlaneBucket). record { level1 = A; level2 = l; base = T.base }) (map-set_same seen_of T.level2 i2 (c2 q) (B.empty_bucket n r) (seen_same n v q _ e)))
       (λ e. ap (λ (l : List Entry). record { level1 = A; level2 = Z; base = l }) (update_same T.base asc (record { word = v; plan = q }) e))
 
 -- ---- the numbers of a table
@@ -158,7 +158,7 @@ was t id p q e = go (word_for (change id p)) refl (reads (change id p)) e
     go (Word w) i k =
         by_test (λ (o : Outcome). o.answer ≡ Accepted q → Was t id p q) (shaped t)
         (λ k. by_test (λ (o : Outcome). o.answer ≡ Accepted q → Was t id p q) (sound t)
-        (λ s f. record { word = w; for = i; shape = k; tested = s; live = found (C.changedIn rows solutions mix_of (table_of t) w p) (plan_in t w) f })
+        (λ s f. record { word = w; for = i; shape = k; tested = s; live = found (C.changed_in rows solutions mix_of (table_of t) w p) (plan_in t w) f })
         (λ _ f. absurd (omega (arith, ap number_of f))))
         (λ _ f. absurd (omega (arith, ap number_of f)))
 
@@ -174,11 +174,11 @@ module _ (t : List ℕ) (flat : FlatSound t) (id : Token) (p q : ℕ) (e : (call
   T = table_of t
 
   abbrev U : Table
-  U = C.changedIn rows solutions mix_of T h.word p q
+  U = C.changed_in rows solutions mix_of T h.word p q
 
   then : u ≡ numbers_of U
   unfolding served
-  then = ap (λ (o : Outcome). o.table) (causes_else t (change id p) h.word h.for h.shape h.tested ∙ ap (replaced t (C.changedIn rows solutions mix_of T h.word p)) h.live)
+  then = ap (λ (o : Outcome). o.table) (causes_else t (change id p) h.word h.for h.shape h.tested ∙ ap (replaced t (C.changed_in rows solutions mix_of T h.word p)) h.live)
 
   table_after : table_of u ≡ U
   table_after = ap table_of then ∙ changed_back t (flat_state t) (sound_stands t h.shape flat) id h.word p q h.for h.live
@@ -221,7 +221,7 @@ module _ (t : List ℕ) (flat : FlatSound t) (id : Token) (p q : ℕ) (e : (call
   if_same : p ≡ q → length (patch_bytes format1 D) ≡ 22
   if_same i =
       let s : plane_of U ≡ P =
-      ap (λ (x : ℕ). plane_of (C.changedIn rows solutions mix_of T h.word x q)) i
+      ap (λ (x : ℕ). plane_of (C.changed_in rows solutions mix_of T h.word x q)) i
       ∙ change-same rows solutions mix_of T flat.table.ascending flat.table.level1.some h.word q h.live in
       let k : Q ≡ P = ap plane_of table_after ∙ s in
       size_is

@@ -1,13 +1,13 @@
 -- What the loops over the records of a plane ask for: a record that fits, one that does not, and none left.
 -- Assumes nothing.
 use mathlib.Core.Path.{◌≡◌, refl, sym, ap, ◌∙◌}
-use mathlib.Core.Bool.{Bool, true, false, cond, not, ◌&&◌, and_assoc, and_comm}
+use mathlib.Core.Bool.{Bool, true, false, cond, ◌&&◌, and_assoc, and_comm}
 use mathlib.Core.List.{List}
 use Prim.Native.Nat.{ℕ, zero, suc, ◌+◌, ◌-◌, ◌*◌, ◌≤◌, ◌<◌}
 use native.Mathlib.Nat.{suc-mul, zero-mul}
 use native.Mathlib.Numerals.{sub-one}
 use native.Mathlib.Omega.{arith}
-use borrow.Author.Tests.{not-true, not-false, leb-true, eqb-true, le-leb, lt-leb, eq-eqb, ne_eqb}
+use borrow.Author.Tests.{leb-true, eqb-true, le-leb, lt-leb, eq-eqb, ne_eqb}
 use lib.Dec.{leb, eqb}
 use lib.ListN.{length, get_or, drop, length-drop}
 use lib.Seq.{drop-drop}
@@ -34,11 +34,11 @@ right true x at e = (refl, e)
 right false x at e = absurd (at_nowhere e)
 
 -- what `if !t` says of a test t that is b
-pub refused : (t : Bool) {b : Bool} → t ≡ b → not t ≡ true → b ≡ false
-refused t e h = sym e ∙ not-true t h
+pub refused : (t : Bool) {b : Bool} → t ≡ b → t ≡ false → b ≡ false
+refused t e h = sym e ∙ h
 
-pub passed : (t : Bool) {b : Bool} → t ≡ b → not t ≡ false → b ≡ true
-passed t e h = sym e ∙ not-false t h
+pub passed : (t : Bool) {b : Bool} → t ≡ b → t ≡ true → b ≡ true
+passed t e h = sym e ∙ h
 
 pub whole_cut : (kind body : ℕ) (p : List ℕ) → length p ≤ body → whole kind body p ≡ false
 whole_cut kind body p h = rw (lt-leb (1 + body) (length p) (omega arith))

@@ -48,22 +48,22 @@ live-plan false a p e = absurd (none≢some e)
 
 module _ (n r : ℕ) where
   -- the bucket of v in the plane is that of the table
-  seen-bucket : (bs : List Bucket) (v : ℕ) → 0 < length bs → bucket_of (map seen_of bs) v ≡ seen_of (C.bucketOf n r mix_of bs v)
+  seen-bucket : (bs : List Bucket) (v : ℕ) → 0 < length bs → bucket_of (map seen_of bs) v ≡ seen_of (C.bucket_of n r mix_of bs v)
   seen-bucket bs v h = rw (length-map bs seen_of) (get_d_map_in seen_of bs (bucket_at (length bs) (mix_of v)) _ _ (mod-lt (mix_of v / thresholds) h))
 
-  seen-plan : (bs : List Bucket) (v q : ℕ) → 0 < length bs → or_else (level_plan (map seen_of bs) v) q ≡ cond (C.holds n r mix_of bs v) (lookup (C.bucketOf n r mix_of bs v) v) q
+  seen-plan : (bs : List Bucket) (v q : ℕ) → 0 < length bs → or_else (level_plan (map seen_of bs) v) q ≡ cond (C.holds n r mix_of bs v) (lookup (C.bucket_of n r mix_of bs v) v) q
   unfolding level_plan
-  seen-plan bs v q h = rw (seen-bucket bs v h) (or_held (C.holds n r mix_of bs v) (lookup (C.bucketOf n r mix_of bs v) v) q)
+  seen-plan bs v q h = rw (seen-bucket bs v h) (or_held (C.holds n r mix_of bs v) (lookup (C.bucket_of n r mix_of bs v) v) q)
 
   pub shown : (T : Table) (w : ℕ) → 0 < length T.level1 → 0 < length T.level2 → plan_from (plane_of T) w ≡ shown_plan n r T w
   unfolding plan_from second_plan
-  shown T w h1 h2 = seen-plan T.level1 w _ h1 ∙ ap (λ (q : ℕ). cond (C.holds n r mix_of T.level1 w) (lookup (C.bucketOf n r mix_of T.level1 w) w) q) (seen-plan T.level2 (second_of w) _ h2)
+  shown T w h1 h2 = seen-plan T.level1 w _ h1 ∙ ap (λ (q : ℕ). cond (C.holds n r mix_of T.level1 w) (lookup (C.bucket_of n r mix_of T.level1 w) w) q) (seen-plan T.level2 (second_of w) _ h2)
 
   -- a live word's plan is the one that is shown
-  pub live_shown : (T : Table) (w p : ℕ) → C.planIn n r mix_of T w ≡ some p → shown_plan n r T w ≡ p
+  pub live_shown : (T : Table) (w p : ℕ) → C.plan_in n r mix_of T w ≡ some p → shown_plan n r T w ≡ p
   live_shown T w p =
-      let plan : (bs : List Bucket) (v : ℕ) → plan_of n v (C.bucketOf n r mix_of bs v) ≡ some p → lookup (C.bucketOf n r mix_of bs v) v ≡ p =
-      λ bs v. live-plan (live n v (C.bucketOf n r mix_of bs v)) (lookup (C.bucketOf n r mix_of bs v) v) p in
+      let plan : (bs : List Bucket) (v : ℕ) → plan_of n v (C.bucket_of n r mix_of bs v) ≡ some p → lookup (C.bucket_of n r mix_of bs v) v ≡ p =
+      λ bs v. live-plan (live n v (C.bucket_of n r mix_of bs v)) (lookup (C.bucket_of n r mix_of bs v) v) p in
       picked (C.holds n r mix_of T.level1 w) _ _ _ _ p (plan T.level1 w)
       (picked (C.holds n r mix_of T.level2 (second_of w)) _ _ _ _ p (plan T.level2 (second_of w)) (ap or_desk))
 

@@ -65,11 +65,11 @@ right_exactly F p b = (
 -- it is found wrong at an offset exactly if that is "the first byte of the first record that is cut, of a wrong kind, or with a value not
 -- allowed; or the first byte after kind 4"
 pub offset_exactly : (F : Format) (p : List ℕ) (at : ℕ) → (wrong_at F p ≡ At at) ↔ WrongOffset F p at
-offset_exactly = Offset.offset-exactly
+offset_exactly = Offset.offset_exactly
 
 -- and nowhere exactly if no record is wrong and nothing follows
 pub nowhere_exactly : (F : Format) (p : List ℕ) → (wrong_at F p ≡ Nowhere) ↔ RightPlane F p
-nowhere_exactly = Offset.nowhere-exactly
+nowhere_exactly = Offset.nowhere_exactly
 
 -- the plane that was written is read
 pub read_back : (F : Format) (P : Plane) → Fits F P → plane_from F (plane_bytes F P) ≡ P
@@ -90,23 +90,23 @@ longest = refl
 -- "each number given if and only if its cause is the first met", with what is returned with it, and 0 with what is returned if none is met:
 -- the lookup, 15, 1, 2 and 10
 pub lookup-causes : (id : Token) (p : List ℕ) → Exactly (lookup_causes id p) (lookup_returns id p) (lookup_call id p)
-lookup-causes = PlaneCauses.lookup-exactly
+lookup-causes = PlaneCauses.lookup_exactly
 
 -- the writer, 4, 5 and 9; the numbers of a table have 64 bits
 pub write-causes : (t out : List ℕ) → ((i : ℕ) → get_or t i 0 < 2 ^ 64) → Exactly (write_causes t out) (write_returns t) (write_call t out).answer
-write-causes = Causes.write-exactly
+write-causes = Causes.write_exactly
 
 -- "Order is the table's order" (15, of document 02, stands before 1)
 pub lookup_order : (id : Token) (p : List ℕ) → InOrder 0 (wrong_length id ∷ wrong_byte id ∷ wrong_plane format1 p ∷ [])
-lookup_order = PlaneCauses.lookup-order
+lookup_order = PlaneCauses.lookup_order
 
 pub write_order : (t out : List ℕ) → InOrder 0 (write_causes t out)
-write_order = Causes.write-order
+write_order = Causes.write_order
 
 -- read for the last cause of each
 pub cause_10 : (id : Token) (p : List ℕ) (at : ℕ)
     → ((number_of (lookup_call id p) ≡ 10) × (value_of (lookup_call id p) ≡ at)) ↔ (NoneMet (id_causes id) × WrongOffset format1 p at)
-cause_10 id p = number_exactly (id_causes id) (wrong_plane format1 p) [] (lookup_returns id p) (lookup_call id p) (PlaneCauses.lookup-apart id p) (lookup-causes id p)
+cause_10 id p = number_exactly (id_causes id) (wrong_plane format1 p) [] (lookup_returns id p) (lookup_call id p) (PlaneCauses.lookup_apart id p) (lookup-causes id p)
 
 pub cause_9 : (t out : List ℕ) → ((i : ℕ) → get_or t i 0 < 2 ^ 64) → (v : ℕ)
     → ((number_of (write_call t out).answer ≡ 9) × (value_of (write_call t out).answer ≡ v)) ↔ (NoneMet (wrong_table t ∷ not_sound t ∷ []) × ((length out < length_needed t) × (v ≡ length_needed t)))
@@ -114,7 +114,7 @@ cause_9 t out b = number_exactly (wrong_table t ∷ not_sound t ∷ []) (short_o
 
 -- "Kept as it was": the output
 pub refused_keeps : (t out : List ℕ) → accepted (write_call t out).answer ≡ false → (write_call t out).output ≡ out
-refused_keeps = Causes.refused-keeps
+refused_keeps = Causes.refused_keeps
 
 -- ---- statement 2, the plane's half
 
@@ -210,4 +210,4 @@ list_writes t o ps out = rw ((always_sound t o ps).0, (always_sound t o ps).1)
 -- so each number is given if and only if its cause is met
 pub list_write_causes : (t : List ℕ) → Opened t → (ps : List Request) (out : List ℕ)
     → Exactly (short_output (after tables t ps) out ∷ []) (write_returns (after tables t ps)) (write_call (after tables t ps) out).answer
-list_write_causes t o ps out = rw (list_writes t o ps out) (Causes.room-exactly (after tables t ps) out)
+list_write_causes t o ps out = rw (list_writes t o ps out) (Causes.room_exactly (after tables t ps) out)

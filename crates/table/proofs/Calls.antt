@@ -165,7 +165,7 @@ module _ (t : List ℕ) (s : State) (h : FlatStands t s) where
         let t' : State = would_leave first_level second_level s e in
         by_plan (joined t u) (step_add first_level second_level s e)
         (λ f.
-        subst⁻¹ (λ (k : ℕ). Match (cond (ltb base_limit k) (turned_down Full t) (record { answer = Accepted u.count; table = numbers_of u })) (M.unlessFull first_level second_level s t'))
+        subst⁻¹ (λ (k : ℕ). Match (cond (ltb base_limit k) (turned_down Full t) (record { answer = Accepted u.count; table = numbers_of u })) (M.unless_full first_level second_level s t'))
         (based_length rows solutions mix_of keeps one T₀ s h.stands e fits a f)
         (match_test (ltb base_limit (length (base first_level second_level t'))) (λ b. record { says = refl; stands = h })
         (λ b.

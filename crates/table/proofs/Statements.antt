@@ -71,7 +71,7 @@ numbers_table T h = Numbers.back rows solutions T (Calls.sound-shaped T h)
 
 -- and sound numbers are those of their table: nothing else is kept
 pub table_numbers : (t : List ℕ) → shaped t ≡ true → FlatSound t → numbers_of (table_of t) ≡ t
-table_numbers t k h = Numbers.forth rows solutions t (Calls.sound-laid t k h)
+table_numbers t k h = Numbers.forth rows solutions t (Calls.sound_laid t k h)
 
 -- the header: buckets of level 1, of level 2, base count, live count
 pub header_read : (t : List ℕ) → (length (table_of t).level1 ≡ get_or t buckets1_at 0) × (length (table_of t).level2 ≡ get_or t buckets2_at 0) × (length (table_of t).base ≡ get_or t base_count_at 0) × ((table_of t).count ≡ get_or t live_count_at 0)
@@ -86,7 +86,7 @@ lengths = (refl, refl)
 
 -- opening accepts that length alone
 pub opened-length : (b1 b2 : ℕ) (t : List ℕ) → (open_call b1 b2 t).answer ≡ Accepted 0 → length t ≡ 4 + 256 + 74 * (b1 + b2) + 128
-opened-length b1 b2 t e = (History.open-cases b1 b2 t e).2 ∙ length_formula b1 b2
+opened-length b1 b2 t e = (History.open_cases b1 b2 t e).2 ∙ length_formula b1 b2
 
 -- of any table whose shape is right
 pub table_length : (t : List ℕ) → shaped t ≡ true → length t ≡ 4 + 256 + 74 * (get_or t buckets1_at 0 + get_or t buckets2_at 0) + 128
@@ -99,7 +99,7 @@ read_first t i l = Numbers.read_first rows solutions t i l ∙ sym (Numbers.from
 
 pub read_second : (t : List ℕ) (i : ℕ) → i < get_or t buckets2_at 0
     → nth rows solutions (table_of t).level2 i ≡ bucket_from rows solutions (take (bucket_words rows solutions) (drop (bucket_place rows solutions (get_or t buckets1_at 0 + i)) t))
-read_second t i l = Numbers.read-second rows solutions t i l ∙ sym (Numbers.from-part rows solutions (drop (bucket_place rows solutions (get_or t buckets1_at 0 + i)) t))
+read_second t i l = Numbers.read_second rows solutions t i l ∙ sym (Numbers.from-part rows solutions (drop (bucket_place rows solutions (get_or t buckets1_at 0 + i)) t))
 
 -- base pair i
 pub read_base : (t : List ℕ) (i : ℕ) (d : Entry) → i < get_or t base_count_at 0
@@ -108,20 +108,20 @@ pub read_base : (t : List ℕ) (i : ℕ) (d : Entry) → i < get_or t base_count
       word = get_or (drop (bucket_place rows solutions (get_or t buckets1_at 0 + get_or t buckets2_at 0)) t) (2 * i) 0;
       plan = get_or (drop (bucket_place rows solutions (get_or t buckets1_at 0 + get_or t buckets2_at 0)) t) (2 * i + 1) 0;
     }
-read_base = Numbers.read-base rows solutions
+read_base = Numbers.read_base rows solutions
 
 module _ (T : Table) (h : ShapedTable rows solutions T) where
   -- "lends only the touched bucket's stretch of the table": one bucket replaced is its stretch replaced
   pub write_first : (i : ℕ) (b : Bucket) → i < length T.level1
       → numbers_of (with_first T (set T.level1 i b))
       ≡ take (bucket_place rows solutions i) (numbers_of T) ++ (words_of b ++ drop (bucket_place rows solutions i + bucket_words rows solutions) (numbers_of T))
-  write_first = Numbers.write-first rows solutions T h
+  write_first = Numbers.write_first rows solutions T h
 
   pub write_second : (i : ℕ) (b : Bucket) → i < length T.level2
       → numbers_of (with_second T (set T.level2 i b))
       ≡ take (bucket_place rows solutions (length T.level1 + i)) (numbers_of T)
       ++ (words_of b ++ drop (bucket_place rows solutions (length T.level1 + i) + bucket_words rows solutions) (numbers_of T))
-  write_second = Numbers.write-second rows solutions T h
+  write_second = Numbers.write_second rows solutions T h
 
 -- ---- "An add goes to the place its word is due .. each withdrawn and added with its plan one level further"
 
@@ -133,31 +133,31 @@ document_order = AtOnce.at_once rows solutions mix_of
 
 -- the test that the calls make says true exactly of sound tables; the numbers of a table have 64 bits
 pub sound_exactly : (t : List ℕ) → shaped t ≡ true → ((i : ℕ) → get_or t i 0 < 2 ^ 64) → (sound t ≡ true) ↔ FlatSound t
-sound_exactly = Calls.sound-exactly
+sound_exactly = Calls.sound_exactly
 
 -- ---- "When a call is turned down"
 
 -- "each number given if and only if its cause is the first met", with what is returned with it, and 0 with what is returned if none is met;
 -- specs/Causes lists the causes of opening and of the calls, each in the document's words
 pub open-causes : (b1 b2 : ℕ) (t : List ℕ) → Exactly (open_causes b1 b2 t) open_returns (open_call b1 b2 t).answer
-open-causes = Causes.open-exactly
+open-causes = Causes.open_exactly
 
 -- the numbers of a table have 64 bits
 module _ (t : List ℕ) (b : (i : ℕ) → get_or t i 0 < 2 ^ 64) (c : Call Token) where
   pub call-causes : Exactly (call_causes t c) (call_returns t c) (call t c).answer
-  call-causes = Causes.call-exactly t c b
+  call-causes = Causes.call_exactly t c b
 
   -- read for one cause x: the call gives its number, with v, exactly if x is met with v and no cause before it is met
   pub call_cause : (before : List Cause) (x : Cause) (after : List Cause) → call_causes t c ≡ before ++ (x ∷ after) → (v : ℕ)
       → ((number_of (call t c).answer ≡ x.number) × (value_of (call t c).answer ≡ v)) ↔ (NoneMet before × x.met v)
   call_cause before x after e =
-      number_exactly before x after (call_returns t c) (call t c).answer (subst Apart e (Causes.call-apart t c))
+      number_exactly before x after (call_returns t c) (call t c).answer (subst Apart e (Causes.call_apart t c))
       (subst (λ (cs : List Cause). Exactly cs (call_returns t c) (call t c).answer) e call-causes)
 
   -- "A call is accepted if it meets no cause"
   pub call-accepted : (v : ℕ)
       → ((number_of (call t c).answer ≡ 0) × (value_of (call t c).answer ≡ v)) ↔ (NoneMet (call_causes t c) × call_returns t c v)
-  call-accepted = accepted_exactly (call_causes t c) (call_returns t c) (call t c).answer (Causes.call-apart t c) call-causes
+  call-accepted = accepted_exactly (call_causes t c) (call_returns t c) (call t c).answer (Causes.call_apart t c) call-causes
 
 -- a call gives 15, 1 or 2 exactly if reading its identifier does, whatever the table
 pub as_read : (t : List ℕ) (c : Call Token) (n v : ℕ) → OfIdentifier n
@@ -167,11 +167,11 @@ as_read = Causes.as_read
 -- document 02, order 3, "plan 255 given, after cause 2": 14 exactly if the identifier is one and the plan may not be given, whatever the
 -- table
 pub cause_14 : (t : List ℕ) (c : Call Token) → (number_of (call t c).answer ≡ 14) ↔ ((read_of (subject c) ≡ Word (word_of (subject c))) × (plan_allowed c ≡ false))
-cause_14 = Causes.cause-14
+cause_14 = Causes.cause_14
 
 -- document 02, order 2, "The question for one plan tests only cause 4 and reads one number": 4 exactly if the shape is wrong, else the number
 pub total-causes : (t : List ℕ) (p : ℕ) → Exactly (total_causes t) (total_returns t p) (total_call t p)
-total-causes = Causes.total-exactly
+total-causes = Causes.total_exactly
 
 -- "Order is the table's order"
 pub open_order : (b1 b2 : ℕ) (t : List ℕ) → InOrder 0 (open_causes b1 b2 t)
@@ -179,7 +179,7 @@ open_order = Causes.open_order
 
 -- (of document 02's causes 15 stands before 1, and 14 between 2 and 4: `call_causes`)
 pub call_order : (t : List ℕ) (c : Call Token) → InOrder 0 (wrong_length (subject c) ∷ wrong_byte (subject c) ∷ wrong_table t ∷ not_sound t ∷ word_causes t c)
-call_order = Causes.call-order
+call_order = Causes.call_order
 
 -- a call that meets none of 15, 1, 2, 14, 4 and 5 does what `served` says
 pub causes_else : (t : List ℕ) (c : Call Token) (w : ℕ) → word_for c ≡ Word w → shaped t ≡ true → sound t ≡ true → call t c ≡ served t (ask_of w c)
@@ -188,16 +188,16 @@ causes_else t c w e k h = ap (call_read t c) e ∙ cond_true _ _ k ∙ cond_true
 
 -- "Kept as it was"
 pub refused_keeps : (t : List ℕ) (q : Request) → accepted (request t q).answer ≡ false → (request t q).table ≡ t
-refused_keeps = History.request-refused
+refused_keeps = History.request_refused
 
 pub refused_opening : (b1 b2 : ℕ) (t : List ℕ) → accepted (open_call b1 b2 t).answer ≡ false → (open_call b1 b2 t).table ≡ t
-refused_opening = History.open-refused
+refused_opening = History.open_refused
 
 -- ---- the link to the model: FlatStands t s says that the numbers t stand for the state s (Calls)
 
 -- "Opening sets each bound to 8": what an accepted opening left stands for the opened state
 pub opening_stands : (t : List ℕ) (o : Opened t) → FlatStands t (opened o.size)
-opening_stands = History.opened-stands
+opening_stands = History.opened_stands
 
 -- each call answers as the model does, and leaves a table that stands for the state that the model comes to
 pub refines : Refines tables model FlatStands
@@ -205,31 +205,31 @@ refines = History.refines
 
 -- a table that stands for a state is sound
 pub stands_sound : (t : List ℕ) (s : State) → FlatStands t s → (shaped t ≡ true) × (sound t ≡ true) × FlatSound t
-stands_sound t s h = (h.shape, Calls.stands-test t s h, Calls.stands-flat t s h)
+stands_sound t s h = (h.shape, Calls.stands_test t s h, Calls.stands_flat t s h)
 
 -- every sound table stands for a state: the one that its occupied rows, base entries and bounds show
 pub sound_stands : (t : List ℕ) → shaped t ≡ true → FlatSound t → FlatStands t (flat_state t)
-sound_stands = Calls.sound-stands-flat
+sound_stands = Calls.sound_stands_flat
 
 -- and for no other
 pub stands_one : (t : List ℕ) (s : State) → FlatStands t s → flat_state t ≡ s
-stands_one = Calls.stands-shows
+stands_one = Calls.stands_shows
 
 -- so a call for a word of 64 bits leaves a sound table sound
 pub served-sound : (t : List ℕ) → shaped t ≡ true → FlatSound t → (w : ℕ) → w < 2 ^ 64 → {I : Type 0} (c : Call I) → plan_allowed c ≡ true
     → (shaped (served t (ask_of w c)).table ≡ true) × FlatSound (served t (ask_of w c)).table
 served-sound t k h w l c f =
-    let m = Calls.served-match t (flat_state t) (sound_stands t k h) w l c f in
-    (m.stands.shape, Calls.stands-flat (served t (ask_of w c)).table _ m.stands)
+    let m = Calls.served_match t (flat_state t) (sound_stands t k h) w l c f in
+    (m.stands.shape, Calls.stands_flat (served t (ask_of w c)).table _ m.stands)
 
 -- and any call for an identifier does
 pub call-sound : (t : List ℕ) → shaped t ≡ true → FlatSound t → (c : Call Token) → (shaped (call t c).table ≡ true) × (sound (call t c).table ≡ true) × FlatSound (call t c).table
-call-sound t k h c = stands_sound (call t c).table _ (Calls.call-match t (flat_state t) (sound_stands t k h) c).stands
+call-sound t k h c = stands_sound (call t c).table _ (Calls.call_match t (flat_state t) (sound_stands t k h) c).stands
 
 -- with the same bucket numbers
 pub call_size : (t : List ℕ) → shaped t ≡ true → FlatSound t → (c : Call Token) → (flat_state (call t c).table).size ≡ (flat_state t).size
 call_size t k h c =
-    let m = Calls.call-match t (flat_state t) (sound_stands t k h) c in
+    let m = Calls.call_match t (flat_state t) (sound_stands t k h) c in
     ap (λ (s : State). s.size) (stands_one (call t c).table _ m.stands) ∙ respond_size (flat_state t) (ask c)
 
 -- document 02, order 6, "withdrawn cards must leave no plan behind": whatever plan an identifier had, its withdrawal leaves the same numbers,
@@ -244,13 +244,13 @@ plan_forgotten t k h id w p q i a f =
     let T : Table = table_of t in
     let C : Table = changed_in rows solutions mix_of T w p q in
     let u : List ℕ = numbers_of C in
-    let st = Calls.changed-flat t (flat_state t) s id w p q for f in
+    let st = Calls.changed_flat t (flat_state t) s id w p q for f in
     let sd = stands_sound u _ st in
-    let plan : plan_in u w ≡ some p = Calls.stands-look u _ st w (word_small (change id p) w for) ∙ Calls.changed-found t (flat_state t) s id w p q for f in
+    let plan : plan_in u w ≡ some p = Calls.stands_look u _ st w (word_small (change id p) w for) ∙ Calls.changed-found t (flat_state t) s id w p q for f in
     ap (λ (o : Outcome). (call o.table (withdraw id)).table) (causes_else t (change id p) w for k (stands_sound t _ s).1 ∙ ap (replaced t (changed_in rows solutions mix_of T w p)) f)
     ∙ ap (λ (o : Outcome). o.table) (causes_else u (withdraw id) w leave sd.0 sd.1 ∙ ap (replaced u (withdrawn_from rows solutions mix_of (table_of u) w)) plan)
-    ∙ ap (λ (X : Table). numbers_of (withdrawn_from rows solutions mix_of X w p)) (Calls.changed-back t (flat_state t) s id w p q for f)
-    ∙ ap numbers_of (Answers.table-forgotten rows solutions mix_of unmix_of T h.table w p q (assignable_byte p a) f)
+    ∙ ap (λ (X : Table). numbers_of (withdrawn_from rows solutions mix_of X w p)) (Calls.changed_back t (flat_state t) s id w p q for f)
+    ∙ ap numbers_of (Answers.table_forgotten rows solutions mix_of unmix_of T h.table w p q (assignable_byte p a) f)
     ∙ sym (ap (λ (o : Outcome). o.table) (causes_else t (withdraw id) w leave k (stands_sound t _ s).1 ∙ ap (replaced t (withdrawn_from rows solutions mix_of T w)) f))
 
 -- ---- sound tables, also those handed in from elsewhere
@@ -263,11 +263,11 @@ queried-alike t u none = refl
 module _ (t : List ℕ) (k : shaped t ≡ true) (h : FlatSound t) where
   -- "In a sound table handed in from elsewhere the live words are those of its occupied rows and base entries"
   pub live_entries : Permᴰ (entries_of rows unmix_of (table_of t)) (flat_state t).live
-  live_entries = Calls.stands-entries t (flat_state t) (sound_stands t k h)
+  live_entries = Calls.stands_entries t (flat_state t) (sound_stands t k h)
 
   -- the three tests find the plan of a live word, and nothing for any other
   pub live-plans : (w : ℕ) → w < 2 ^ 64 → plan_in t w ≡ find w (flat_state t).live
-  live-plans = Calls.stands-look t (flat_state t) (sound_stands t k h)
+  live-plans = Calls.stands_look t (flat_state t) (sound_stands t k h)
 
   -- "live count = occupied rows + base count"
   pub live_count : get_or t live_count_at 0 ≡ length (flat_state t).live
@@ -279,12 +279,12 @@ module _ (t : List ℕ) (k : shaped t ≡ true) (h : FlatSound t) where
   totals = (sound_stands t k h).stands.totalled
 
   pub total_exact : (p : ℕ) → p < plan_limit → total_call t p ≡ Accepted (plan_count p (flat_state t).live)
-  total_exact = Calls.stands-total t (flat_state t) (sound_stands t k h)
+  total_exact = Calls.stands_total t (flat_state t) (sound_stands t k h)
 
   -- the totals sum to the live count
   pub totals_sum : sum_of (table_of t).totals ≡ get_or t live_count_at 0
   totals_sum =
-      ap sum_of totals ∙ Totals.totals-sum total_numbers (flat_state t).live (λ e m. ((sound_stands t k h).stands.small e m).1) ∙ sym live_count
+      ap sum_of totals ∙ Totals.totals_sum total_numbers (flat_state t).live (λ e m. ((sound_stands t k h).stands.small e m).1) ∙ sym live_count
 
   -- document 02, order 3: no live word has the desk's plan
   pub live_given : (w p : ℕ) → find w (flat_state t).live ≡ some p → assignable p ≡ true
@@ -304,12 +304,12 @@ module _ (t : List ℕ) (k : shaped t ≡ true) (h : FlatSound t) where
   -- "A bucket then answers any vector with the XOR of the plans of the live vectors in its combination of K's rows": first level, where a
   -- vector is a word
   pub answers-first : (v : ℕ) → v < 2 ^ 64 → Answered rows (plan_in t) (bucket_of rows solutions mix_of (table_of t).level1 v) v (lookup (bucket_of rows solutions mix_of (table_of t).level1 v) v)
-  answers-first = Answers.answered-first rows solutions mix_of unmix_of (table_of t) h.table
+  answers-first = Answers.answered_first rows solutions mix_of unmix_of (table_of t) h.table
 
   -- second level, where the word of the vector v is U(U(v)), U the inverse of S
   pub answers-second : (v : ℕ) → v < 2 ^ 64
       → Answered rows (λ v. plan_in t (unmix_of (unmix_of v))) (bucket_of rows solutions mix_of (table_of t).level2 v) v (lookup (bucket_of rows solutions mix_of (table_of t).level2 v) v)
-  answers-second = Answers.answered-second rows solutions mix_of unmix_of (table_of t) h.table (λ v l. ap mix_of (mix_unmix (unmix_of v) (unmix_lt v)) ∙ mix_unmix v l)
+  answers-second = Answers.answered_second rows solutions mix_of unmix_of (table_of t) h.table (λ v l. ap mix_of (mix_unmix (unmix_of v) (unmix_lt v)) ∙ mix_unmix v l)
 
   query_plan : (i : Token) (w : ℕ) → word_for (query i) ≡ Word w → call t (query i) ≡ queried t (find w (flat_state t).live)
   unfolding served
@@ -326,7 +326,7 @@ module _ (t : List ℕ) (k : shaped t ≡ true) (h : FlatSound t) where
   pub other-plan : (c : Call Token) (w : ℕ) → w < 2 ^ 64 → (w ≡ word_of (subject c) → ⊥) → plan_in (call t c).table w ≡ plan_in t w
   other-plan c w l ne =
       let st = sound_stands t k h in
-      Calls.stands-look (call t c).table _ (Calls.call-match t (flat_state t) st c).stands w l ∙ found-other (flat_state t) st.stands.valid w c ne ∙ sym (live-plans w l)
+      Calls.stands_look (call t c).table _ (Calls.call_match t (flat_state t) st c).stands w l ∙ found-other (flat_state t) st.stands.valid w c ne ∙ sym (live-plans w l)
 
   -- so a query for that word gets the same answer after it as before
   pub other_query : (c : Call Token) (i : Token) (w : ℕ) → word_for (query i) ≡ Word w → (w ≡ word_of (subject c) → ⊥) → (call (call t c).table (query i)).answer ≡ (call t (query i)).answer
@@ -366,7 +366,7 @@ module _ (t : List ℕ) (k : shaped t ≡ true) (h : FlatSound t) where
         → ((call t (add i p)).answer ≡ Full) ↔ (64 < length (base first_level second_level (would_leave first_level second_level (flat_state t) (record { word = w; plan = p }))))
     full_exactly w q f =
         subst⁻¹ (λ (a : Answer). (a ≡ Full) ↔ (64 < length (base first_level second_level (would_leave first_level second_level (flat_state t) (record { word = w; plan = p })))))
-        ((History.m t k h i p).says ∙ ap (λ (x : Read). (serve_read (flat_state t) (add i p) x).answer) q) (Model.full-exactly first_level second_level (flat_state t) _ f)
+        ((History.m t k h i p).says ∙ ap (λ (x : Read). (serve_read (flat_state t) (add i p) x).answer) q) (Model.full_exactly first_level second_level (flat_state t) _ f)
 
 -- two sound tables that statement 3 calls equal have equal totals, so they answer each question for one alike
 pub same_totals : (t u : List ℕ) → shaped t ≡ true → FlatSound t → shaped u ≡ true → FlatSound u → Same t u
@@ -383,7 +383,7 @@ same_totals t u k h j g e =
 -- request of every list gets the same answer from both, and they are equal in these again after each
 pub statement_3 : (t u : List ℕ) → Opened t → Opened u → (ps qs : List Request) → Same (after tables t ps) (after tables u qs)
     → (cs : List Request) → Alike tables Same (after tables t ps) (after tables u qs) cs
-statement_3 t u o r = Model.statement-3 tables model FlatStands refines Same History.compares t u _ _ (opening_stands t o) (opening_stands u r)
+statement_3 t u o r = Model.statement_3 tables model FlatStands refines Same History.compares t u _ _ (opening_stands t o) (opening_stands u r)
 
 module _ (t : List ℕ) (o : Opened t) (ps : List Request) where
   -- "So the opening and these calls alone settle every answer and bound"
@@ -395,15 +395,15 @@ module _ (t : List ℕ) (o : Opened t) (ps : List Request) where
 
   -- an opening fixes the bucket numbers: no call changes them
   pub list_size : (flat_state (after tables t ps)).size ≡ o.size
-  list_size = ap (λ (s : State). s.size) settles.1 ∙ History.size-after (opened o.size) ps
+  list_size = ap (λ (s : State). s.size) settles.1 ∙ History.size_after (opened o.size) ps
 
   -- "the table itself never gives cause 4 or 5 in a list": it is sound after each call
   pub always_sound : (shaped (after tables t ps) ≡ true) × (sound (after tables t ps) ≡ true) × FlatSound (after tables t ps)
-  always_sound = stands_sound (after tables t ps) _ (History.after-stands t o ps)
+  always_sound = stands_sound (after tables t ps) _ (History.after_stands t o ps)
 
   pub never_4_5 : (q : Request) → (number_of (request (after tables t ps) q).answer ≡ 4 → ⊥) × (number_of (request (after tables t ps) q).answer ≡ 5 → ⊥)
   never_4_5 q =
-      subst⁻¹ (λ (a : Answer). (number_of a ≡ 4 → ⊥) × (number_of a ≡ 5 → ⊥)) (refines.says _ _ q (History.after-stands t o ps)) (Model.never-4-5 _ q)
+      subst⁻¹ (λ (a : Answer). (number_of a ≡ 4 → ⊥) × (number_of a ≡ 5 → ⊥)) (refines.says _ _ q (History.after_stands t o ps)) (Model.never_4_5 (after model (opened o.size) ps) q)
 
   -- so the answer to each further call is that of the first cause met, of 15, 1, 2, 14 and those of its word
   pub list_causes : (c : Call Token) → Exactly (sound_causes (after tables t ps) c) (call_returns (after tables t ps) c) (call (after tables t ps) c).answer
@@ -411,46 +411,46 @@ module _ (t : List ℕ) (o : Opened t) (ps : List Request) where
 
   -- "After each call its occupied rows and base entries hold just the live words, and its stored bounds are these": the model's
   pub holds-live : Permᴰ (entries_of rows unmix_of (table_of (after tables t ps))) (after model (opened o.size) ps).live
-  holds-live = Calls.stands-entries (after tables t ps) _ (History.after-stands t o ps)
+  holds-live = Calls.stands_entries (after tables t ps) _ (History.after_stands t o ps)
 
   pub stored_bounds : (bounds (table_of (after tables t ps)).level1 ≡ (after model (opened o.size) ps).bounds1)
       × (bounds (table_of (after tables t ps)).level2 ≡ (after model (opened o.size) ps).bounds2)
-  stored_bounds = let h = History.after-stands t o ps in (h.stands.bounds1, h.stands.bounds2)
+  stored_bounds = let h = History.after_stands t o ps in (h.stands.bounds1, h.stands.bounds2)
 
   -- "The live count equals accepted adds less accepted withdrawals since opening"
   pub count : get_or (after tables t ps) live_count_at 0 + withdrawals_in (accepted_calls t ps) ≡ adds_in (accepted_calls t ps)
   unfolding table_from
   count =
-      let c : get_or (after tables t ps) live_count_at 0 ≡ length (after model (opened o.size) ps).live = (History.after-stands t o ps).stands.counted in
-      subst (λ (cs : List (Call ℕ)). get_or (after tables t ps) live_count_at 0 + withdrawals_in cs ≡ adds_in cs) (History.same-calls t o ps)
+      let c : get_or (after tables t ps) live_count_at 0 ≡ length (after model (opened o.size) ps).live = (History.after_stands t o ps).stands.counted in
+      subst (λ (cs : List (Call ℕ)). get_or (after tables t ps) live_count_at 0 + withdrawals_in cs ≡ adds_in cs) (History.same_calls t o ps)
       (let h = count_after first_level second_level model calls_of stands_for (opened o.size) (valid_opened first_level second_level o.size) ps in omega arith)
 
   -- statement 2, the table's half: a word is live if, of its accepted adds and withdrawals, the last is an add; its plan is that of its last
   -- accepted add or change; every other word is not live
   pub plan : (v : ℕ) → v < 2 ^ 64 → plan_in (after tables t ps) v ≡ told v (accepted_calls t ps)
   plan v l =
-      Calls.stands-look (after tables t ps) _ (History.after-stands t o ps) v l
+      Calls.stands_look (after tables t ps) _ (History.after_stands t o ps) v l
       ∙ told-after first_level second_level model calls_of stands_for v (opened o.size) (valid_opened first_level second_level o.size) false 0 refl ps
-      ∙ ap (told v) (History.same-calls t o ps)
+      ∙ ap (told v) (History.same_calls t o ps)
 
   -- document 02, order 6: after any list each bucket answers any vector with the XOR of the last accepted plans of the live words whose
   -- vectors are in its combination; first level
   pub list_answers_first : (v : ℕ) → v < 2 ^ 64 → let b = bucket_of rows solutions mix_of (table_of (after tables t ps)).level1 v in
       Answered rows (λ u. told u (accepted_calls t ps)) b v (lookup b v)
-  list_answers_first v l = Answers.answered-as rows _ _ (λ u s. sym (plan u s)) (answers-first (after tables t ps) always_sound.0 always_sound.2 v l)
+  list_answers_first v l = Answers.answered_as rows _ _ (λ u s. sym (plan u s)) (answers-first (after tables t ps) always_sound.0 always_sound.2 v l)
 
   -- second level
   pub list_answers_second : (v : ℕ) → v < 2 ^ 64 → let b = bucket_of rows solutions mix_of (table_of (after tables t ps)).level2 v in
       Answered rows (λ u. told (unmix_of (unmix_of u)) (accepted_calls t ps)) b v (lookup b v)
   list_answers_second v l =
-      Answers.answered-as rows _ _ (λ u s. sym (plan (unmix_of (unmix_of u)) (unmix_lt (unmix_of u)))) (answers-second (after tables t ps) always_sound.0 always_sound.2 v l)
+      Answers.answered_as rows _ _ (λ u s. sym (plan (unmix_of (unmix_of u)) (unmix_lt (unmix_of u)))) (answers-second (after tables t ps) always_sound.0 always_sound.2 v l)
 
   -- document 02, order 3: after any list no live word has the desk's plan
   pub plan_given : (v p : ℕ) → v < 2 ^ 64 → told v (accepted_calls t ps) ≡ some p → assignable p ≡ true
   plan_given v p l e =
-      let st = History.after-stands t o ps in
+      let st = History.after_stands t o ps in
       st.stands.given (record { word = v; plan = p })
-      (find_mem v p (after model (opened o.size) ps).live (sym (Calls.stands-look (after tables t ps) _ st v l) ∙ plan v l ∙ e))
+      (find_mem v p (after model (opened o.size) ps).live (sym (Calls.stands_look (after tables t ps) _ st v l) ∙ plan v l ∙ e))
 
   -- so a query of an identifier gives the last accepted plan of its word (`queried`: Accepted), or says that it is not live
   pub query_tells : (i : Token) (w : ℕ) → word_for (query i) ≡ Word w → call (after tables t ps) (query i) ≡ queried (after tables t ps) (told w (accepted_calls t ps))
@@ -460,14 +460,14 @@ module _ (t : List ℕ) (o : Opened t) (ps : List Request) where
 
   -- document 02, order 2: after any list the question for a plan gets the number of words then live with it, as the model has them
   pub total_after : (p : ℕ) → p < plan_limit → total_call (after tables t ps) p ≡ Accepted (plan_count p (after model (opened o.size) ps).live)
-  total_after = Calls.stands-total (after tables t ps) _ (History.after-stands t o ps)
+  total_after = Calls.stands_total (after tables t ps) _ (History.after_stands t o ps)
 
   -- and as the accepted calls tell them
   pub total_told : (p : ℕ) → p < plan_limit → (k : ℕ) × (total_call (after tables t ps) p ≡ Accepted k) × LiveWith p (accepted_calls t ps) k
   total_told p l =
       let s = after model (opened o.size) ps in
-      let st = History.after-stands t o ps in
-      let seen : (v : ℕ) → v < 2 ^ 64 → find v s.live ≡ told v (accepted_calls t ps) = (λ v b. sym (Calls.stands-look (after tables t ps) s st v b) ∙ plan v b) in (
+      let st = History.after_stands t o ps in
+      let seen : (v : ℕ) → v < 2 ^ 64 → find v s.live ≡ told v (accepted_calls t ps) = (λ v b. sym (Calls.stands_look (after tables t ps) s st v b) ∙ plan v b) in (
         plan_count p s.live,
         total_after p l,
         record {

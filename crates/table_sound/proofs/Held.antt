@@ -335,10 +335,10 @@ module _ (t : List ℕ) where
     moved p =
         omega (
           arith,
-          C.count-append p T.base (R1 ++ R2),
-          C.count-append p R1 R2,
-          C.count-append p R1 (R2 ++ T.base),
-          C.count-append p R2 T.base,
+          C.count_append p T.base (R1 ++ R2),
+          C.count_append p R1 R2,
+          C.count_append p R1 (R2 ++ T.base),
+          C.count_append p R2 T.base,
         )
 
     pub whole : sound t ≡ (counts_sound t && none_left left)

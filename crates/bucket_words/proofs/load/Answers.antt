@@ -1,0 +1,8 @@
+-- `bucket_words::load` meets its contract.
+-- Assumes nothing.
+use Rattle.bucket_words.specs.Words.{bucket_from}
+use Rattle.bucket_words.proofs.load.Goals as goal
+
+pub returns : goal.returns
+unfolding bucket_from
+returns c = rw (c.cols_in-cols.ensures, c.sols_in-sols.ensures)
