@@ -1,4 +1,4 @@
-// With the feature `linked`: link the proved archives that `rt staticlib` wrote.
+// With the feature `linked`: link the proved archives that `bin/archive` wrote.
 fn main() {
     println!("cargo:rerun-if-changed=build.rs");
     if std::env::var_os("CARGO_FEATURE_LINKED").is_some() {
