@@ -21,7 +21,7 @@ pub struct Bucket {
 }
 
 // A step that may be impossible: the bucket after it where it was done, else as it was.
-#[derive(Drop)]
+#[derive(Clone, Copy)]
 pub struct Tried {
     pub bucket: Bucket,
     pub done: bool,

@@ -14,7 +14,7 @@ use bucket_settle::Outgoing;
 use identifier::threshold;
 
 // A bucket after an add, and the words that left it.
-#[derive(Drop)]
+#[derive(Clone, Copy)]
 pub struct Settled {
     pub bucket: Bucket,
     pub out: Outgoing,

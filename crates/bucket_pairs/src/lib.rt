@@ -22,7 +22,7 @@ pub const SECOND: usize = 16;
 pub const ROOM: usize = 176;
 
 // What is guessed. Where it is not known whether there are rows, and where there are none, `rows` are the columns as they came.
-#[derive(Drop)]
+#[derive(Clone, Copy)]
 pub struct Guess {
     pub known: bool,
     pub ok: bool,

@@ -15,7 +15,7 @@ use bits::WIDTH;
 // Up to so many occupied rows the elimination takes less time than the guess.
 const FEW: u32 = 2;
 
-#[derive(Drop)]
+#[derive(Clone, Copy)]
 pub struct Rows {
     pub ok: bool,
     pub rows: [u64; WIDTH],

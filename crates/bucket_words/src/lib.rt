@@ -61,7 +61,7 @@ pub fn load(part: &[u64]) -> Bucket
 // Columns, mark and solutions into a part of a table; the bound stays.
 pub(crate) fn store_step(part: &mut [u64], cols: &[u64], mark: u64, sols: &[u64])
     requires { (length part.old ≡ bucket_words rows solutions) × ((length cols.now ≡ rows) × (length sols.now ≡ solutions)) }
-    ensures { part.new ≡ words_of (record { cols = cols.entry.now; mark = mark; sols = sols.now; bound = get_or part.old (bound_at rows solutions) 0 }) }
+    ensures { part.new ≡ words_of (record { cols = cols.now; mark = mark; sols = sols.now; bound = get_or part.old (bound_at rows solutions) 0 }) }
 {
     put(&mut part[0..Bucket::ROWS], cols);
     part[Bucket::MARK_AT] = mark;

@@ -15,15 +15,15 @@ ghost use Rattle.identifier.specs.Place.{second_of, first_of, place_of, threshol
 use answer::Answer;
 
 // An identifier is 1 to 36 bytes of a kind. Only its word is kept of it.
-#[derive(Drop)]
+#[derive(Clone, Copy)]
 pub struct Identifier {}
 
 // The kinds of identifiers, document 02, order 4.
-#[derive(Drop)]
+#[derive(Clone, Copy)]
 pub struct Kind {}
 
 // What bytes that are handed in as an identifier are found to be.
-#[derive(Drop)]
+#[derive(Clone, Copy)]
 pub enum Read {
     // An identifier: its word.
     Word(u64),

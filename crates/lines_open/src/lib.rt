@@ -12,7 +12,7 @@ use answer::Answer;
 use table_layout::Table;
 
 // How far a run has come: the length of the table that is open, 0 if none is, and the number of bytes printed.
-#[derive(Drop)]
+#[derive(Clone, Copy)]
 pub struct Progress {
     pub held: usize,
     pub printed: usize,

@@ -15,7 +15,7 @@ ghost use Rattle.lines_text.specs.Printed.{bad_line, printed};
 use answer::Answer;
 
 // What a field is read as.
-#[derive(Drop)]
+#[derive(Clone, Copy)]
 pub enum Number {
     // A decimal number without leading zeros, not above its limit.
     Of(u64),
@@ -32,7 +32,7 @@ pub enum Verb {
 }
 
 // What a line asks for. The identifier of a call has this kind and the bytes from start to before end; `del` and `get` have plan 0.
-#[derive(Drop)]
+#[derive(Clone, Copy)]
 pub enum Parsed {
     Open(u64, u64),
     Ask {

@@ -21,7 +21,7 @@ use plane::Record;
 use table_layout::Table;
 
 // The records of a patch: the kind byte of each, how many bytes follow it, how long it is with the kind byte.
-#[derive(Drop)]
+#[derive(Clone, Copy)]
 pub struct Patch {}
 
 impl Patch {

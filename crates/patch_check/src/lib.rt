@@ -23,7 +23,7 @@ use plane::{Record, Wrong};
 use table_layout::Table;
 
 // Where a patch is wrong, or how many entries the base list has that it leaves.
-#[derive(Drop)]
+#[derive(Clone, Copy)]
 pub enum Edited {
     At(usize),
     Entries(usize),

@@ -18,7 +18,7 @@ use bucket::Bucket;
 use table_layout::Table;
 
 // Where a plane is wrong first.
-#[derive(Drop)]
+#[derive(Clone, Copy)]
 pub enum Wrong {
     Nowhere,
     // The offset.
@@ -26,7 +26,7 @@ pub enum Wrong {
 }
 
 // What a level gives for a vector.
-#[derive(Drop)]
+#[derive(Clone, Copy)]
 pub enum Held {
     // It holds the vector: the plan.
     Plan(u64),
@@ -35,7 +35,7 @@ pub enum Held {
 }
 
 // The records of a plane: the kind byte of each, and how many bytes follow it.
-#[derive(Drop)]
+#[derive(Clone, Copy)]
 pub struct Record {}
 
 impl Record {

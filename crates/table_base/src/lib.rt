@@ -11,7 +11,7 @@ ghost use Rattle.table.specs.Layout.{pairs_from};
 ghost use Rattle.table_base.specs.Base.{capacity, pairs_in, Pairs, hits, before, found_of};
 
 // The plan of a word, if it has an entry.
-#[derive(Drop)]
+#[derive(Clone, Copy)]
 pub enum Found {
     Plan(u64),
     Nothing,

@@ -15,7 +15,7 @@ ghost use Rattle.table.specs.Calls.{rows, solutions, table_of, shaped};
 use bucket::Bucket;
 
 // The table of document 01: its limits and the places of its parts.
-#[derive(Drop)]
+#[derive(Clone, Copy)]
 pub struct Table {}
 
 impl Table {
