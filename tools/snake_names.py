@@ -148,8 +148,6 @@ def main():
             with open(p, "w", encoding="utf-8", newline="") as f:
                 f.write(to)
     print(f"{len(new)} names, {changed} files")
-    with open("/tmp/snake_names.tsv", "w") as f:
-        f.writelines(f"{n}\t{r}\n" for n, r in sorted((new | lemmas).items()))
 
 
 if __name__ == "__main__":
