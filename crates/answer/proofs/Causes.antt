@@ -9,9 +9,8 @@ use mathlib.Core.List.{List, [], ◌∷◌, ◌++◌}
 use lib.Dec.{eqb}
 use borrow.Author.Tests.{eqb-false, not-true}
 use Rattle.lists.proofs.Tests.{and_one, and_two}
-use Rattle.answer.specs.Numbers.{number_of, value_of}
+use Rattle.answer.specs.Numbers.{Answer, number_of, value_of}
 use Rattle.answer.specs.Causes.{Cause, cause_if, Unmet, NoneMet, NotAmong, Apart, FirstMet, Exactly}
-use Rattle.answer.specs.declared.Answer.{Answer}
 
 -- ---- one answer
 

@@ -1,8 +1,7 @@
 -- The causes of a call, in the order in which they are tested, and the answer that they settle: that of the first one met.
 -- Assumes nothing.
 use Rattle.std.specs.Prelude.{ℕ, ◌<◌, ◌≡◌, ◌⊎◌, ◌↔◌, List, [], ◌∷◌}
-use Rattle.answer.specs.Numbers.{number_of, value_of}
-use Rattle.answer.specs.declared.Answer.{Answer}
+use Rattle.answer.specs.Numbers.{Answer, number_of, value_of}
 
 -- a row of document 01's table: the number, and `met v`: the cause is met and v is returned with it
 pub record Cause : Type 1 where

@@ -5,13 +5,14 @@
 #![tactic(auto)]
 
 ghost use Rattle.std.specs.Prelude.{◌≡◌};
-ghost use Rattle.answer.specs.Numbers.{number_of, value_of};
+ghost use Rattle.answer.specs.Numbers.{number_of, value_of, cause_number, cause_value};
 
-// One case for accepted and one for each cause of document 01's table, in its order; then those of document 02's orders.
+// Accepted: what the call returns. Else the cause for which it is turned down.
+pub type Answer = Result<u64, Cause>;
+
+// One case for each cause of document 01's table, in its order; then those of document 02's orders.
 #[derive(Clone, Copy)]
-pub enum Answer {
-    // Accepted: what the call returns.
-    Accepted(u64),
+pub enum Cause {
     // Identifier of 0 or over 36 bytes: its length.
     WrongLength(u64),
     // Byte not allowed: index of the first.
@@ -45,27 +46,51 @@ pub enum Answer {
     WrongKind,
 }
 
+impl Cause {
+    // The number of the cause.
+    fn number(self) -> u64
+        ensures { result ≡ cause_number self }
+    {
+        match self {
+            Cause::WrongLength(_) => 1,
+            Cause::WrongByte(_) => 2,
+            Cause::WrongBuckets => 3,
+            Cause::WrongTable(_) => 4,
+            Cause::NotSound => 5,
+            Cause::Live(_) => 6,
+            Cause::NotLive => 7,
+            Cause::Full => 8,
+            Cause::ShortOutput(_) => 9,
+            Cause::WrongPlane(_) => 10,
+            Cause::UnlikePlanes => 11,
+            Cause::WrongPatch(_) => 12,
+            Cause::WrongSum => 13,
+            Cause::DeskPlanGiven => 14,
+            Cause::WrongKind => 15,
+        }
+    }
+
+    // What is returned with it: 0 where document 01's table has nothing.
+    fn value(self) -> u64
+        ensures { result ≡ cause_value self }
+    {
+        match self {
+            Cause::WrongLength(n) | Cause::WrongTable(n) | Cause::ShortOutput(n) => n,
+            Cause::WrongByte(i) | Cause::WrongPlane(i) | Cause::WrongPatch(i) => i,
+            Cause::Live(p) => p,
+            Cause::WrongBuckets | Cause::NotSound | Cause::NotLive | Cause::Full => 0,
+            Cause::UnlikePlanes | Cause::WrongSum | Cause::DeskPlanGiven | Cause::WrongKind => 0,
+        }
+    }
+}
+
 // The number of an answer: 0 if accepted, else that of the cause.
 pub fn number(a: Answer) -> u64
     ensures { result ≡ number_of a }
 {
     match a {
-        Answer::Accepted(_) => 0,
-        Answer::WrongLength(_) => 1,
-        Answer::WrongByte(_) => 2,
-        Answer::WrongBuckets => 3,
-        Answer::WrongTable(_) => 4,
-        Answer::NotSound => 5,
-        Answer::Live(_) => 6,
-        Answer::NotLive => 7,
-        Answer::Full => 8,
-        Answer::ShortOutput(_) => 9,
-        Answer::WrongPlane(_) => 10,
-        Answer::UnlikePlanes => 11,
-        Answer::WrongPatch(_) => 12,
-        Answer::WrongSum => 13,
-        Answer::DeskPlanGiven => 14,
-        Answer::WrongKind => 15,
+        Ok(_) => 0,
+        Err(c) => c.number(),
     }
 }
 
@@ -74,21 +99,7 @@ pub fn value(a: Answer) -> u64
     ensures { result ≡ value_of a }
 {
     match a {
-        Answer::Accepted(n) => n,
-        Answer::WrongLength(n) => n,
-        Answer::WrongByte(i) => i,
-        Answer::WrongBuckets => 0,
-        Answer::WrongTable(n) => n,
-        Answer::NotSound => 0,
-        Answer::Live(p) => p,
-        Answer::NotLive => 0,
-        Answer::Full => 0,
-        Answer::ShortOutput(n) => n,
-        Answer::WrongPlane(i) => i,
-        Answer::UnlikePlanes => 0,
-        Answer::WrongPatch(i) => i,
-        Answer::WrongSum => 0,
-        Answer::DeskPlanGiven => 0,
-        Answer::WrongKind => 0,
+        Ok(n) => n,
+        Err(c) => c.value(),
     }
 }

@@ -6,6 +6,8 @@ ghost use Rattle.std.specs.Prelude.{◌≡◌, ◌^◌, ◌<◌};
 ghost use Rattle.gf2.specs.Vectors.{flip_if, units};
 ghost use Rattle.bits.specs.Width.{width};
 
+use std::array;
+
 // The bits of a word, and so the rows and columns of a matrix of bits.
 pub const WIDTH: usize = 64;
 
@@ -28,11 +30,5 @@ pub fn flip_if(d: u64, u: u64, a: u64) -> u64
 pub fn unit_rows() -> [u64; WIDTH]
     ensures { result ≡ units width }
 {
-    let mut out = [0u64; WIDTH];
-    let mut i: usize = 0;
-    while i < WIDTH {
-        out[i] = power(i);
-        i += 1;
-    }
-    out
+    array::from_fn(power)
 }

@@ -1,8 +1,8 @@
 -- What a bucket answers to any vector, live or not: a fact about the plans of the live vectors alone; and what a vector that was withdrawn
 -- gets. Document 02, order 6, at every width and number of solution words.
 -- Assumes nothing.
-use mathlib.Core.Path.{◌≡◌, refl, sym, ap, ◌∙◌, subst, subst⁻¹}
-use mathlib.Core.Bool.{Bool, true}
+use mathlib.Core.Path.{◌≡◌, sym, ap, ◌∙◌, subst, subst⁻¹}
+use mathlib.Core.Bool.{true}
 use mathlib.Core.List.{List, map}
 use Prim.Native.Nat.{ℕ, ◌^◌, ◌<◌}
 use native.Mathlib.Omega.{arith}
@@ -21,10 +21,10 @@ use Rattle.gf2.proofs.Transpose.{transpose}
 use Rattle.gf2.proofs.Chosen.{row→elem}
 use Rattle.gf2.proofs.Clear.{clear_le, leaving_column, step_forgotten, clear-combined, combine-alike, words-alike}
 use Rattle.bucket.specs.declared.Bucket.{Bucket}
-use Rattle.bucket.specs.declared.Tried.{Tried}
-use Rattle.bucket.specs.Bucket.{Sound, lookup, live, row_of, tried, change_at, change, withdraw_at, withdraw}
+use Rattle.bucket.specs.Bucket.{Sound, lookup, live, row_of, change_at, change, changed, withdraw_at, without}
 use Rattle.bucket.specs.Answers.{live_in, combined, Forgotten}
-use Rattle.bucket.proofs.Laws.{column_lowest, row-product, row_lt, row-marked, withdraw-done}
+use Rattle.bucket.proofs.Laws.{column_lowest, has_row, row-product, row_lt, row-marked, withdraw-done}
+use Rattle.std.specs.Prelude.{Option, Some, option_map, unwrap_or}
 use Rattle.bucket.proofs.Steps.{live_test, left-rows, withdraw-sound, withdraw-live, withdraw-others}
 
 module _ (n : ℕ) (K : List ℕ) (b : Bucket) (s : Sound n K b) where
@@ -66,9 +66,12 @@ emptied n r K b s e m =
 -- ---- a vector that was withdrawn
 
 -- the plan that it had makes no difference: given another one first, it leaves the same bucket
-module _ (n : ℕ) (b : Bucket) (k q : ℕ) (h : length b.cols ≡ n) (f : (i : ℕ) → get_or b.cols i 0 < 2 ^ n) (l : live n k b ≡ true) (hq : q < 2 ^ length b.sols) where
+module _ (n : ℕ) (b : Bucket) (k q : ℕ) (h : length b.cols ≡ n) (f : (i : ℕ) → get_or b.cols i 0 < 2 ^ n) (hl : live n k b ≡ true) (hq : q < 2 ^ length b.sols) where
   abbrev row : ℕ
-  row = row_of n k b
+  row = (has_row n k b hl).0
+
+  l : row_of n k b ≡ Some row
+  l = (has_row n k b hl).1
 
   abbrev freed : ℕ
   freed = count_trailing_zeros n (get_or b.cols row 0)
@@ -90,12 +93,14 @@ module _ (n : ℕ) (b : Bucket) (k q : ℕ) (h : length b.cols ≡ n) (f : (i : 
       ∙ step_forgotten u freed d b.sols (tz_bit n u freed_lt) (xor_lt (length b.sols) (lookup b k) q (product_lt b.sols k) hq)
       ∙ ap (λ (x : ℕ). sol_step x (row_in b.sols freed) b.sols) (sym old_column))
 
-  pub plan_forgotten : (withdraw n k (change n k q b).bucket).bucket ≡ (withdraw n k b).bucket
-  unfolding change withdraw live row_of change_at
+  changed-is : changed n k q b ≡ change_at row k q b
+  unfolding change
+  changed-is = ap (λ o. unwrap_or (option_map (λ i. change_at i k q b) o) b) l
+
+  pub plan_forgotten : without n k (changed n k q b) ≡ without n k b
+  unfolding row_of change_at
   plan_forgotten =
-      ap (λ (t : Bool). (withdraw n k (tried t (change_at row k q b) b).bucket).bucket) l
-      ∙ ap (λ (t : Bool). (tried t (withdraw_at n row k (change_at row k q b)) (change_at row k q b)).bucket) l
-      ∙ forgotten_at ∙ ap (λ (t : Bool). (tried t (withdraw_at n row k b) b).bucket) (sym l)
+      rw (changed-is, withdraw-done n k (change_at row k q b) l, withdraw-done n k b l) forgotten_at
 
 module _ (n : ℕ) (K : List ℕ) (b : Bucket) (s : Sound n K b) (k : ℕ) (hk : k < 2 ^ n) where
   -- k leaves row i
@@ -117,9 +122,9 @@ module _ (n : ℕ) (K : List ℕ) (b : Bucket) (s : Sound n K b) (k : ℕ) (hk :
         none = answers_none n _ _ w k hk;
       }
 
-  pub withdrawn_forgets : live n k b ≡ true → Forgotten n K k b (withdraw n k b).bucket
+  pub withdrawn_forgets : live n k b ≡ true → Forgotten n K k b (without n k b)
   withdrawn_forgets l =
-      let i : ℕ = row_of n k b in
-      let hi : i < n = row_lt n k b l s.inverse.cols in
-      subst⁻¹ (λ (t : Tried). Forgotten n K k b t.bucket) (withdraw-done n k b s.inverse.cols i refl hi)
-      (forgets_at i hi (sym (combine-pow K i) ∙ ap (combine K) (sym (row-product n k b l)) ∙ s.inverse.back k hk) (row-marked n k b l))
+      let w = has_row n k b l in
+      let e = w.1 in
+      subst⁻¹ (λ (t : Option Bucket). Forgotten n K k b (unwrap_or t b)) (withdraw-done n k b e)
+      (forgets_at w.0 (row_lt n k b e s.inverse.cols) (sym (combine-pow K w.0) ∙ ap (combine K) (sym (row-product n k b e)) ∙ s.inverse.back k hk) (row-marked n k b e))

@@ -6,11 +6,11 @@ use mathlib.Core.List.{List, [], ◌∷◌, ◌++◌}
 use Prim.Native.Nat.{ℕ, ◌^◌}
 use lib.Count.{ones, ones_in, count_trailing_zeros}
 use lib.Dec.{T, eqb}
+use Rattle.std.specs.Prelude.{Option, Some, None, is_none}
 use lib.ListN.{drop, replicate}
 use Rattle.gf2.specs.Vectors.{dot, product, units}
 use Rattle.gf2.specs.Bound.{Due, bound_of}
 use Rattle.bucket.specs.declared.Bucket.{Bucket}
-use Rattle.bucket.specs.declared.Tried.{Tried}
 use Rattle.bucket.specs.Bucket.{empty_bucket, live, row_of, lookup, add, add_at, withdraw, withdraw_at}
 
 unfoldable pub same_words : List ℕ → List ℕ → Bool
@@ -22,13 +22,10 @@ same_words (x ∷ xs) (y ∷ ys) = eqb x y && same_words xs ys
 unfoldable pub same : Bucket → Bucket → Bool
 same a b = same_words a.cols b.cols && eqb a.mark b.mark && same_words a.sols b.sols && eqb a.bound b.bound
 
--- done, and this is the bucket afterwards
-unfoldable pub gives : Tried → Bucket → Bool
-gives t b = t.done && same t.bucket b
-
--- depends, and the bucket is as it was
-unfoldable pub depends : Tried → Bucket → Bool
-depends t b = not t.done && same t.bucket b
+-- this is the bucket after the step
+unfoldable pub gives : Option Bucket → Bucket → Bool
+gives None b = false
+gives (Some c) b = same c b
 
 -- the bucket with these first columns (the others are units), this mark and these first solutions (the others are 0)
 unfoldable pub bucket_of : List ℕ → ℕ → List ℕ → Bucket
@@ -54,10 +51,10 @@ pub marked :
     T (gives (add 64 3 5 (empty_bucket 64 8)) m1
     && gives (add 64 1 6 m1) m2
     && eqb (lookup m2 3) 5 && eqb (lookup m2 1) 6
-    && depends (add 64 2 7 m2) m2
-    && depends (add 64 0 7 m2) m2
+    && is_none (add 64 2 7 m2)
+    && is_none (add 64 0 7 m2)
     && gives (withdraw 64 3 m2) m6 && eqb (lookup m6 1) 6
     && eqb (product (units 64) 4) (2 ^ 2) && not (live 64 4 (empty_bucket 64 8))
     && eqb (bound_with (due 2 4)) 5 && eqb (bound_with (due 2 7)) 7 && eqb (bound_with (due 0 4)) 4 && eqb (bound_with (due 0 0)) 0)
-unfolding same_words same gives depends bucket_of m1 m2 m6 due bound_with empty_bucket live row_of add add_at withdraw withdraw_at dot ones ones_in count_trailing_zeros
+unfolding same_words same gives bucket_of m1 m2 m6 due bound_with empty_bucket live row_of add add_at withdraw withdraw_at dot ones ones_in count_trailing_zeros
 marked = tt

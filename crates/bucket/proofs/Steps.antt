@@ -3,7 +3,7 @@
 -- last given.
 -- Assumes nothing.
 use mathlib.Core.Path.{◌≡◌, sym, ap, ap₂, ◌∙◌, subst, subst₂}
-use mathlib.Core.Bool.{Bool, true, false, not, ◌&&◌}
+use mathlib.Core.Bool.{not, ◌&&◌}
 use mathlib.Core.List.{List, ◌∷◌, Perm, Permᴰ}
 use Prim.Native.Nat.{ℕ, ◌-◌, ◌^◌, ◌<◌, max}
 use native.Mathlib.Decide.{ℕ_discrete}
@@ -11,10 +11,11 @@ use native.Mathlib.Omega.{arith}
 use lib.Pow.{pow_pos, pow-lt}
 use lib.Bits.{bit_xor, bit_or, xor_comm, or_lt}
 use lib.Count.{count_trailing_zeros}
-use lib.Dec.{T, T_not, eqb, eqb→eq, ltb, ltb→lt, lt→ltb}
+use lib.Dec.{T, T_not, eqb, eqb→eq, ltb, ltb→lt}
+use Rattle.std.specs.Prelude.{Some, None, option_map}
 use lib.ListN.{length, get_or, set, length-set}
 use lib.Seq.{get_or-set_same, get_or-set_other, set-set}
-use Rattle.lists.proofs.Tests.{bool_ext, and_l, and_r, and_i, eq_T, T→true, n_t→false}
+use Rattle.lists.proofs.Tests.{bool_ext, cond_false, and_l, and_r, and_i, eq_T, n_t→false}
 use Rattle.gf2.specs.Vectors.{bit, outside, product, combine, col_step, sol_step, exchange, row_in, Inverse, units}
 use Rattle.gf2.specs.Select.{elem, sums, chosen, Within}
 use Rattle.gf2.proofs.Bit.{by_place, bit_zero, bit_lt, bit-pow-same, bit-pow-other, bit-set_lt, dot-pow}
@@ -26,8 +27,8 @@ use Rattle.gf2.proofs.Solutions.{plan-set, plan-kept}
 use Rattle.gf2.proofs.Clear.{clear-zeros, clear_step, clear-row}
 use Rattle.gf2.proofs.Depend.{depends_test, within→and, and→within}
 use Rattle.bucket.specs.declared.Bucket.{Bucket}
-use Rattle.bucket.specs.Bucket.{Sound, empty_bucket, lookup, live, tried, add_at, add, withdraw_at}
-use Rattle.bucket.proofs.Laws.{column_lowest}
+use Rattle.bucket.specs.Bucket.{Sound, empty_bucket, lookup, live, add_at, add, withdraw_at}
+use Rattle.bucket.proofs.Laws.{column_lowest, some-lowest}
 
 -- ---- the empty bucket
 
@@ -237,24 +238,24 @@ pub record Goes (n : ℕ) (k plan : ℕ) (b : Bucket) : Type 0 where
   pub row_lt : row < n
   pub was_free : bit row b.mark ≡ 0
   pub has-bit : bit row (product b.cols k) ≡ 1
-  pub result : add n k plan b ≡ record { done = true; bucket = add_at row k plan b }
+  pub result : add n k plan b ≡ Some (add_at row k plan b)
 
 module _ (n : ℕ) (K : List ℕ) (b : Bucket) (s : Sound n K b) (k plan : ℕ) (hk : k < 2 ^ n) where
   p_lt : product b.cols k < 2 ^ n
   p_lt = subst (λ (l : ℕ). product b.cols k < 2 ^ l) s.inverse.cols (product_lt b.cols k)
 
   -- k is a sum of live vectors: add says so
-  pub add-depends : T (elem k (sums (chosen b.mark K))) → add n k plan b ≡ record { done = false; bucket = b }
+  pub add-depends : T (elem k (sums (chosen b.mark K))) → add n k plan b ≡ None
   unfolding add
   add-depends t =
       let o : ℕ = outside (product b.cols k) b.mark in
       let w : Within (product b.cols k) b.mark = and→within (product b.cols k) b.mark (eqb→eq _ _ (subst T (depends_test n K b.cols s.inverse b.mark k hk) t)) in
-      ap (λ (c : Bool). tried c (add_at (count_trailing_zeros n o) k plan b) b)
+      ap (option_map (λ i. add_at i k plan b)) (cond_false (Some (count_trailing_zeros n o)) None
       (n_t→false (ltb (count_trailing_zeros n o) n) (λ u.
       let h : bit (count_trailing_zeros n o) o ≡ 1 = tz_bit n o (ltb→lt _ _ u) in
       let m : bit (count_trailing_zeros n o) (product b.cols k) - bit (count_trailing_zeros n o) b.mark ≡ 1 = sym (bit-outside (count_trailing_zeros n o) (product b.cols k) b.mark) ∙ h in
       let v : bit (count_trailing_zeros n o) b.mark ≡ 1 = w (count_trailing_zeros n o) (omega (arith, bit_lt (count_trailing_zeros n o) (product b.cols k))) in
-      omega (arith, bit_lt (count_trailing_zeros n o) (product b.cols k))))
+      omega (arith, bit_lt (count_trailing_zeros n o) (product b.cols k)))))
 
   -- k is none: add finds a row
   pub add_goes : T (not (elem k (sums (chosen b.mark K)))) → Goes n k plan b
@@ -274,5 +275,5 @@ module _ (n : ℕ) (K : List ℕ) (b : Bucket) (s : Sound n K b) (k plan : ℕ) 
         row_lt = l;
         was_free = omega (arith, bit_lt i p);
         has-bit = omega (arith, bit_lt i p);
-        result = ap (λ (c : Bool). tried c (add_at i k plan b) b) (T→true (ltb i n) (lt→ltb i n l));
+        result = ap (option_map (λ i. add_at i k plan b)) (some-lowest n o l);
       }

@@ -6,10 +6,9 @@
 #![tactic(auto)]
 
 ghost use Rattle.std.specs.Prelude.{◌≡◌, ◌*◌, ◌/◌, ◌<◌, ◌≤◌, ◌^◌, length, get_or, drop};
-ghost use Rattle.std.specs.Int.Count.{count_trailing_zeros};
 ghost use Rattle.bits.specs.Width.{width};
 ghost use Rattle.gf2.specs.Vectors.{dot, product, row_step, sol_step, exchange};
-ghost use Rattle.bucket.specs.Bucket.{rows, solutions, empty_bucket, row_by, row_of, lookup, add, change};
+ghost use Rattle.bucket.specs.Bucket.{rows, solutions, empty_bucket, lowest, row_by, row_of, lookup, add, change};
 
 // The bucket by value. The columns travel as one array.
 #[derive(Clone, Copy)]
@@ -18,13 +17,6 @@ pub struct Bucket {
     pub mark: u64,
     pub sols: [u64; Bucket::SOLUTIONS],
     pub bound: u64,
-}
-
-// A step that may be impossible: the bucket after it where it was done, else as it was.
-#[derive(Clone, Copy)]
-pub struct Tried {
-    pub bucket: Bucket,
-    pub done: bool,
 }
 
 // The parity of ones in (k AND c).
@@ -53,9 +45,7 @@ pub fn product_in(words: &[u64], k: u64) -> u64
 {
     let mut even = unpaired(words, k);
     let mut odd: u64 = 0;
-    let mut i = words.len() / 2;
-    while 0 < i {
-        i -= 1;
+    for i in (0..words.len() / 2).rev() {
         even = dot(k, words[2 * i]) + 4 * even;
         odd = dot(k, words[2 * i + 1]) + 4 * odd;
     }
@@ -70,9 +60,7 @@ pub fn product(cols: [u64; Bucket::ROWS], k: u64) -> u64
     ensures { result ≡ product cols k }
 {
     let mut p: u64 = 0;
-    let mut i: usize = Bucket::ROWS / STRETCH;
-    while 0 < i {
-        i -= 1;
+    for i in (0..Bucket::ROWS / STRETCH).rev() {
         let start = STRETCH * i;
         p = product_in(&cols[start..start + STRETCH], k) + 65536 * p;
     }
@@ -86,13 +74,9 @@ pub fn col_step(i: usize, p: u64, cols: [u64; Bucket::ROWS]) -> [u64; Bucket::RO
     ensures { result ≡ row_step (get_or cols i 0) i p cols }
 {
     let mut out = cols;
-    let u = out[i];
-    let mut at: usize = 0;
-    while at < Bucket::ROWS {
-        let a = out[at];
-        let own = a >> i;
-        out[at] = bits::flip_if(((p >> at) ^ own) % 2, u, a);
-        at += 1;
+    let u = cols[i];
+    for (at, a) in out.iter_mut().enumerate() {
+        *a = bits::flip_if(((p >> at) ^ (*a >> i)) % 2, u, *a);
     }
     out
 }
@@ -103,11 +87,9 @@ pub fn sol_step(u: u64, d: u64, sols: [u64; Bucket::SOLUTIONS]) -> [u64; Bucket:
 {
     let mut out = sols;
     let mut left = d;
-    let mut i: usize = 0;
-    while i < Bucket::SOLUTIONS {
-        out[i] = bits::flip_if(left % 2, u, out[i]);
-        left = left / 2;
-        i += 1;
+    for s in out.iter_mut() {
+        *s = bits::flip_if(left % 2, u, *s);
+        left /= 2;
     }
     out
 }
@@ -118,32 +100,29 @@ pub fn exchanged(i: usize, j: usize, cols: [u64; Bucket::ROWS]) -> [u64; Bucket:
     ensures { result ≡ exchange i j cols }
 {
     let mut out = cols;
-    let a = out[i];
-    out[i] = out[j];
-    out[j] = a;
+    out.swap(i, j);
     out
 }
 
-// The lowest set bit of x; `ROWS` where x is 0.
-pub fn lowest(x: u64) -> usize
-    ensures { result ≡ count_trailing_zeros rows x }
+// The lowest set bit of x; none where x is 0.
+pub fn lowest(x: u64) -> Option<usize>
+    ensures { result ≡ lowest rows x }
 {
-    u64::trailing_zeros(x) as usize
+    if x == 0 {
+        return None;
+    }
+    Some(u64::trailing_zeros(x) as usize)
 }
 
-// The row of a live vector whose product is p, under this mark; `ROWS` where it is not live.
-pub fn row_by(mark: u64, p: u64) -> usize
+// The row of a vector whose product is p, under this mark, if it is live.
+pub fn row_by(mark: u64, p: u64) -> Option<usize>
     ensures { result ≡ row_by rows p mark }
 {
-    let i = lowest(p);
-    if i < Bucket::ROWS {
-        if p == bits::power(i) {
-            if (mark >> i) % 2 == 1 {
-                return i;
-            }
-        }
+    let i = lowest(p)?;
+    if p == bits::power(i) && (mark >> i) % 2 == 1 {
+        return Some(i);
     }
-    Bucket::ROWS
+    None
 }
 
 impl Bucket {
@@ -171,9 +150,8 @@ impl Bucket {
     pub fn empty() -> Self
         ensures { result ≡ empty_bucket rows solutions }
     {
-        let cols = bits::unit_rows();
         Self {
-            cols,
+            cols: bits::unit_rows(),
             mark: 0,
             sols: [0; Self::SOLUTIONS],
             bound: Self::LARGEST_BOUND,
@@ -188,64 +166,39 @@ impl Bucket {
         product_in(&sols, k)
     }
 
-    // The row of a live k; `ROWS` where k is not live.
-    pub fn row_of(self, k: u64) -> usize
+    // The row of k, if it is live.
+    pub fn row_of(self, k: u64) -> Option<usize>
         ensures { result ≡ row_of rows k self }
     {
         let cols = self.cols;
         row_by(self.mark, product(cols, k))
     }
 
-    // k with its plan in the lowest free row whose product bit is 1; not done where there is none: k depends on the live vectors.
-    pub fn add(self, k: u64, plan: u64) -> Tried
+    // k with its plan in the lowest free row whose product bit is 1; none where there is no such row: k depends on the live vectors.
+    pub fn add(self, k: u64, plan: u64) -> Option<Self>
         ensures { result ≡ add rows k plan self }
     {
         let cols = self.cols;
         let mark = self.mark;
         let p = product(cols, k);
-        let i = lowest(p ^ (p & mark));
-        if i < Self::ROWS {
-            let next = col_step(i, p, cols);
-            let sols = self.sols;
-            let solved = sol_step(next[i], self.lookup(k) ^ plan, sols);
-            return Tried {
-                done: true,
-                bucket: Self {
-                    cols: next,
-                    mark: mark | bits::power(i),
-                    sols: solved,
-                    bound: self.bound,
-                },
-            };
-        }
-        Tried {
-            done: false,
-            bucket: self,
-        }
+        let i = lowest(p ^ (p & mark))?;
+        let next = col_step(i, p, cols);
+        let sols = sol_step(next[i], self.lookup(k) ^ plan, self.sols);
+        Some(Self {
+            cols: next,
+            mark: mark | bits::power(i),
+            sols,
+            bound: self.bound,
+        })
     }
 
-    // k with another plan; not done where k is not live.
-    pub fn change(self, k: u64, plan: u64) -> Tried
+    // k with another plan; none where k is not live.
+    pub fn change(self, k: u64, plan: u64) -> Option<Self>
         ensures { result ≡ change rows k plan self }
     {
-        let i = self.row_of(k);
-        if i < Self::ROWS {
-            let cols = self.cols;
-            let sols = self.sols;
-            let solved = sol_step(cols[i], self.lookup(k) ^ plan, sols);
-            return Tried {
-                done: true,
-                bucket: Self {
-                    cols,
-                    mark: self.mark,
-                    sols: solved,
-                    bound: self.bound,
-                },
-            };
-        }
-        Tried {
-            done: false,
-            bucket: self,
-        }
+        let i = self.row_of(k)?;
+        let cols = self.cols;
+        let sols = sol_step(cols[i], self.lookup(k) ^ plan, self.sols);
+        Some(Self { sols, ..self })
     }
 }

@@ -1,3 +1,2 @@
 pub mod Tied
-pub mod Swept
 pub mod Read

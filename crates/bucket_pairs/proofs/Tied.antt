@@ -1,68 +1,72 @@
--- Pairs that a linear function ties: sums of them, writes of them, and how they begin.
+-- Pairs that a linear function ties: sums of them, their sweep, and how they begin.
 -- Assumes nothing.
-use mathlib.Core.Path.{◌≡◌, refl, sym, ap, ap₂, ◌∙◌, subst}
-use mathlib.Core.List.{List, [], ◌∷◌}
-use Prim.Native.Nat.{ℕ, zero, suc, ◌+◌, ◌-◌, ◌*◌, ◌^◌, ◌≤◌, ◌<◌, min}
-use native.Mathlib.Nat.{pow-suc, mul_comm}
-use native.Mathlib.Numerals.{add-one}
+use mathlib.Core.Path.{◌≡◌, sym, ap, ap₂, ◌∙◌, subst}
+use mathlib.Core.List.{List, [], ◌∷◌, ◌++◌, map}
+use Prim.Native.Nat.{ℕ, ◌-◌, ◌/◌, ◌%◌, ◌^◌, ◌<◌, min}
 use native.Mathlib.Decide.{dec_lt}
 use native.Mathlib.Omega.{arith}
 use lib.Bits.{bit_xor, bit_and, xor_self}
-use lib.ListN.{length, get_or, set, take, replicate, length-set, length-take, get_or-eq_default}
-use lib.Seq.{get_or-set_same, get_or-set_other, get_or-take}
-use Rattle.lists.proofs.Parts.{zero_at}
+use lib.ListN.{length, get_or, take, drop, replicate, get_or-eq_default}
+use borrow.Rule.Slice.PartMut.{mid_of, post_of, put_mid}
+use Rattle.std.proofs.lemmas.List.Elements.{All-nil, All-cons, All-replicate, All-get_or, All-append, All-take, All-drop, All-weaker, All-map}
 use Rattle.gf2.specs.Vectors.{bit, outside, dot, product}
-use Rattle.gf2.proofs.Bit.{by_place, bit_lt, bit-and, bit_ext, dot_comm, dot-pow, xor_cancel}
+use Rattle.gf2.proofs.Bit.{bit_lt, bit-and, bit_ext, dot_comm, dot-pow, xor_cancel}
 use Rattle.gf2.proofs.Linear.{product_xor, product_is}
 use Rattle.gf2.proofs.Lowest.{bit-outside, outside_lt}
 use Rattle.transpose.specs.Transposed.{transposed}
 use Rattle.transpose.proofs.Transposed.{get_d_transposed}
-use Rattle.bucket_pairs.specs.Pairs.{Linear, Tied, with_pair, OwnOutside, Fixes, PairsOf}
+use Rattle.bucket_pairs.specs.declared.Pair.{Pair}
+use Rattle.bucket_pairs.specs.declared.Tables.{Tables}
+use Rattle.bucket_pairs.specs.Pairs.{zeros, added, entry, index_of, swept, Linear, TiedPair, Tied, Keeps, OwnOutside, Fixes, PairsOf}
 
 -- ---- sums
 
 pub linear_zero : (f : ℕ → ℕ) → Linear f → f 0 ≡ 0
 linear_zero f lf = lf 0 0 ∙ xor_self (f 0)
 
-pub tied_add : (f : ℕ → ℕ) {x y u v : ℕ} → Linear f → x ≡ f y → u ≡ f v → bit_xor x u ≡ f (bit_xor y v)
-tied_add f {x} {y} {u} {v} lf e g = ap₂ bit_xor e g ∙ sym (lf y v)
+pub tied_added : (f : ℕ → ℕ) (p q : Pair) → Linear f → TiedPair f p → TiedPair f q → TiedPair f (added p q)
+tied_added f p q lf e g = ap₂ bit_xor e g ∙ sym (lf p.right q.right)
 
-pub tied_zeros : (f : ℕ → ℕ) (n : ℕ) → Linear f → Tied f (replicate n 0)
-tied_zeros f n lf a = zero_at n (2 * a) ∙ sym (linear_zero f lf) ∙ ap f (sym (zero_at n (2 * a + 1)))
+pub tied_zeros : (f : ℕ → ℕ) (n : ℕ) → Linear f → Tied f (replicate n zeros)
+tied_zeros f n lf = All-replicate (TiedPair f) n zeros (sym (linear_zero f lf))
 
--- ---- a pair is written
+pub tied_entry : (f : ℕ → ℕ) (ts : List Pair) (i : ℕ) → Linear f → Tied f ts → TiedPair f (entry ts i)
+tied_entry f ts i lf t = elim (dec_lt i (length ts)) [
+  | yes h ↦ All-get_or (TiedPair f) ts i zeros h t
+  | no h ↦ subst (TiedPair f) (sym (get_or-eq_default ts zeros (omega arith))) (sym (linear_zero f lf))
+]
 
-pub length-put : (a x y : ℕ) (ws : List ℕ) → length (with_pair a x y ws) ≡ length ws
-length-put a x y ws = length-set (set ws (2 * a) x) (2 * a + 1) y ∙ length-set ws (2 * a) x
+-- one of them alone
+pub tied_one : (f : ℕ → ℕ) (ts : List Pair) (i : ℕ) → Linear f → Tied f ts → Tied f (entry ts i ∷ [])
+tied_one f ts i lf t = All-cons (TiedPair f) (entry ts i) [] (tied_entry f ts i lf t) (All-nil (TiedPair f))
 
-pub tied_put : (f : ℕ → ℕ) (ws : List ℕ) (a x y : ℕ) → 2 * a + 1 < length ws → x ≡ f y → Tied f ws → Tied f (with_pair a x y ws)
-tied_put f ws a x y h e t =
-    by_place (λ b. get_or (set (set ws (2 * a) x) (2 * a + 1) y) (2 * b) 0 ≡ f (get_or (set (set ws (2 * a) x) (2 * a + 1) y) (2 * b + 1) 0)) a same other
-  where
-    l : 2 * a + 1 < length (set ws (2 * a) x)
-    l = subst (λ (n : ℕ). 2 * a + 1 < n) (sym (length-set ws (2 * a) x)) h
+-- ---- the sweep
 
-    same : get_or (set (set ws (2 * a) x) (2 * a + 1) y) (2 * a) 0 ≡ f (get_or (set (set ws (2 * a) x) (2 * a + 1) y) (2 * a + 1) 0)
-    same =
-        get_or-set_other (set ws (2 * a) x) (2 * a + 1) (2 * a) y 0 (λ q. omega arith) ∙ get_or-set_same ws (2 * a) x 0 (omega arith) ∙ e
-        ∙ ap f (sym (get_or-set_same (set ws (2 * a) x) (2 * a + 1) y 0 l))
+-- the two entries by their indices
+pub swept_is : (ts : Tables) (c have i j : ℕ) (p q r : Pair) → i ≡ index_of (p.left / 2 ^ c) (have % 16) → j ≡ index_of (p.left / 2 ^ c / 16) (have / 16)
+    → q ≡ added p (entry ts.first i) → r ≡ added q (entry ts.second j) → r ≡ swept ts c have p
+unfolding swept
+swept_is ts c have i j p q r d e g h =
+    h ∙ ap (λ (q : Pair). added q (entry ts.second j)) g ∙ ap₂ (λ (i j : ℕ). added (added p (entry ts.first i)) (entry ts.second j)) d e
 
-    other : (b : ℕ) → (b ≡ a → ⊥) → get_or (set (set ws (2 * a) x) (2 * a + 1) y) (2 * b) 0 ≡ f (get_or (set (set ws (2 * a) x) (2 * a + 1) y) (2 * b + 1) 0)
-    other b ne =
-        get_or-set_other (set ws (2 * a) x) (2 * a + 1) (2 * b) y 0 (λ q. omega arith) ∙ get_or-set_other ws (2 * a) (2 * b) x 0 (λ q. ne (omega arith)) ∙ t b
-        ∙ ap f (sym (get_or-set_other (set ws (2 * a) x) (2 * a + 1) (2 * b + 1) y 0 (λ q. ne (omega arith)) ∙ get_or-set_other ws (2 * a) (2 * b + 1) x 0 (λ q. omega arith)))
+tied_swept : (f : ℕ → ℕ) (ts : Tables) (c have : ℕ) (p : Pair) → Linear f → Tied f ts.first → Tied f ts.second → TiedPair f p → TiedPair f (swept ts c have p)
+unfolding swept
+tied_swept f ts c have p lf t u s = tied_added f (added p _) _ lf (tied_added f p _ lf s (tied_entry f ts.first _ lf t)) (tied_entry f ts.second _ lf u)
 
--- one pair alone
-pub tied_pair : (f : ℕ → ℕ) (x y : ℕ) → Linear f → x ≡ f y → Tied f (x ∷ y ∷ [])
-tied_pair f x y lf e = by_place (λ b. get_or (x ∷ y ∷ []) (2 * b) 0 ≡ f (get_or (x ∷ y ∷ []) (2 * b + 1) 0)) 0 e other
-  where
-    past : (i : ℕ) → 2 ≤ i → get_or (x ∷ y ∷ []) i 0 ≡ 0
-    past zero h = absurd (omega arith)
-    past (suc zero) h = absurd (omega arith)
-    past (suc (suc i)) h = refl
+pub swept_keeps : (ts : Tables) (c have : ℕ) (ws xs : List Pair) → xs ≡ map (swept ts c have) ws → Keeps (ts.first ∷ ts.second ∷ ws ∷ []) (xs ∷ [])
+swept_keeps ts c have ws xs e f lf t =
+    let w = All-weaker (TiedPair f) (λ p. TiedPair f (swept ts c have p)) (λ p s. tied_swept f ts c have p lf t.0 t.1.0 s) ws t.1.1.0 in
+    (subst (Tied f) (sym e) (All-map (TiedPair f) (swept ts c have) ws w), tt)
 
-    other : (b : ℕ) → (b ≡ 0 → ⊥) → get_or (x ∷ y ∷ []) (2 * b) 0 ≡ f (get_or (x ∷ y ∷ []) (2 * b + 1) 0)
-    other b ne = past (2 * b) (omega arith) ∙ sym (linear_zero f lf) ∙ ap f (sym (past (2 * b + 1) (omega arith)))
+-- k pairs from pair a on
+pub part_keeps : (ts : Tables) (c have a k : ℕ) (ws xs : List Pair) → xs ≡ map (swept ts c have) (mid_of a k ws)
+    → Keeps (ts.first ∷ ts.second ∷ ws ∷ []) (put_mid a k ws xs ∷ [])
+part_keeps ts c have a k ws xs e f lf t =
+    let w = t.1.1.0 in
+    let rest = All-drop (TiedPair f) a ws w in
+    let mid = swept_keeps ts c have (mid_of a k ws) xs e f lf (t.0, (t.1.0, (All-take (TiedPair f) k (drop a ws) rest, tt))) in
+    let post = All-drop (TiedPair f) k (drop a ws) rest in
+    (All-append (TiedPair f) (take a ws) (xs ++ post_of a k ws) (All-take (TiedPair f) a ws w) (All-append (TiedPair f) xs (post_of a k ws) mid.0 post), tt)
 
 -- ---- at the start
 
@@ -89,25 +93,11 @@ own_fixes n mark cs hl hm own x hx =
 
 -- the pair of row x, which is f of the unit a
 pub row-pair : (n mark : ℕ) (f : ℕ → ℕ) (a x : ℕ) → Linear f → Fixes n mark f → x < 2 ^ n → x ≡ f (2 ^ a) → bit_and x mark ≡ f (bit_xor (2 ^ a) (outside x mark))
-row-pair n mark f a x lf fx hx e = sym (xor_cancel x (bit_and x mark)) ∙ tied_add f lf e (sym (fx x hx))
-
--- the first n pairs
-pub tied_take : (f : ℕ → ℕ) (n : ℕ) (ws : List ℕ) → Linear f → Tied f ws → Tied f (take (2 * n) ws)
-tied_take f n ws lf t a = go (dec_lt a n)
-  where
-    go : Dec (a < n) → get_or (take (2 * n) ws) (2 * a) 0 ≡ f (get_or (take (2 * n) ws) (2 * a + 1) 0)
-    go (yes h) = get_or-take (2 * n) ws (2 * a) 0 (omega arith) ∙ t a ∙ ap f (sym (get_or-take (2 * n) ws (2 * a + 1) 0 (omega arith)))
-    go (no h) =
-        let l : length (take (2 * n) ws) ≤ 2 * n = subst (λ (m : ℕ). m ≤ 2 * n) (sym (length-take (2 * n) ws)) (omega arith) in
-        get_or-eq_default (take (2 * n) ws) 0 (omega (arith, l)) ∙ sym (linear_zero f lf) ∙ ap f (sym (get_or-eq_default (take (2 * n) ws) 0 (omega (arith, l))))
-
--- one bit more
-pub pow_more : (k : ℕ) → 2 ^ (k + 1) ≡ 2 * 2 ^ k
-pow_more k = ap (λ (i : ℕ). 2 ^ i) (add-one k) ∙ pow-suc 2 k ∙ mul_comm (2 ^ k) 2
+row-pair n mark f a x lf fx hx e = sym (xor_cancel x (bit_and x mark)) ∙ ap₂ bit_xor e (sym (fx x hx)) ∙ sym (lf (2 ^ a) (outside x mark))
 
 -- pairs that are made of the rows of the matrix begin with products
-pub pairs_begin : (n m mark : ℕ) (cs rows ws : List ℕ) → length cs ≡ n → mark < 2 ^ n → OwnOutside n mark cs → rows ≡ transposed n cs
-    → PairsOf n mark rows (replicate m 0) ws → Tied (product cs) ws
+pub pairs_begin : (n m mark : ℕ) (cs rows : List ℕ) (ws : List Pair) → length cs ≡ n → mark < 2 ^ n → OwnOutside n mark cs → rows ≡ transposed n cs
+    → PairsOf n mark rows (replicate m zeros) ws → Tied (product cs) ws
 pairs_begin n m mark cs rows ws hl hm own e p =
     p (product cs) (product_xor cs) (own_fixes n mark cs hl hm own) (λ a h. ap (λ (l : List ℕ). get_or l a 0) e ∙ get_d_transposed n cs a h)
     (tied_zeros (product cs) m (product_xor cs))

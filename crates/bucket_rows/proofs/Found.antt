@@ -2,7 +2,8 @@
 -- Assumes nothing.
 use mathlib.Core.Path.{◌≡◌, refl, sym, ap, ap₂, ◌∙◌, subst}
 use mathlib.Core.Logic.{◌⊎◌, inl, inr}
-use mathlib.Core.Bool.{Bool, true, false, ◌&&◌}
+use mathlib.Core.Bool.{Bool, true, false, cond, ◌&&◌}
+use Rattle.std.specs.Prelude.{Option, Some, None, MatchOption}
 use mathlib.Core.List.Permᴰ
 use mathlib.Core.List.{List, [], ◌∷◌, Permᴰ}
 use Prim.Native.Nat.{ℕ, zero, suc, ◌-◌, ◌^◌, ◌≤◌, ◌<◌}
@@ -30,13 +31,12 @@ use Rattle.gf2.proofs.Solutions.{col_step-product, product-col_step}
 use Rattle.gf2.proofs.Select.{indep_cons, indep_subᴰ, indep_permᴰ, sums_permᴰ}
 use Rattle.gf2.proofs.Depend.{depends_test}
 use Rattle.gf2.proofs.Invert.{units-indep, invertible, rows_read}
-use Rattle.bucket_rows.specs.declared.Rows.{Rows}
-use Rattle.bucket_rows.specs.Elimination.{clear_from, pick, Work, row_at, step_at, after, placed, ordered, answer, eliminated}
+use Rattle.bucket_rows.specs.Elimination.{clear_from, pick, Work, row_at, step_at, after, placed, ordered, eliminated}
 use Rattle.bucket_rows.proofs.Laws.{length-clear_from, clear_from-before, clear_from-at, length-ordered, get_d_ordered, pick-bit, pick_none}
 
 -- what is to be known of an answer: the rows are found exactly where there are any
-abbrev pub Found : ℕ → List ℕ → Rows → Type 0
-Found n cs r = ((r.ok ≡ true) × Inverse n r.rows cs) ⊎ ((r.ok ≡ false) × ((K : List ℕ) → Inverse n K cs → ⊥))
+abbrev pub Found : ℕ → List ℕ → Option (List ℕ) → Type 0
+Found n cs r = MatchOption r ((K : List ℕ) → Inverse n K cs → ⊥) (λ K. Inverse n K cs)
 
 -- the products of the rows with the columns are the units
 abbrev Units : ℕ → List ℕ → List ℕ → Type 0
@@ -252,12 +252,12 @@ module _ (n : ℕ) (cs : List ℕ) (hl : length cs ≡ n) (hc : (i : ℕ) → ge
   unfolding eliminated
   decides = go (run n (le_refl n))
     where
-      go : Run n → Found n cs (answer (placed n cs n) (ordered n (after n cs n).duals (after n cs n).prods) cs)
-      go (inl t) = rw t.0 (inl (refl, finish (after n cs n) t.1))
-      go (inr t) = rw t.0 (inr (refl, λ K inv. t.1 K inv.unit))
+      go : Run n → Found n cs (cond (placed n cs n) (Some (ordered n (after n cs n).duals (after n cs n).prods)) None)
+      go (inl t) = rw t.0 (finish (after n cs n) t.1)
+      go (inr t) = rw t.0 (λ K inv. t.1 K inv.unit)
 
   -- rows whose products are the units are the rows
-  pub units-found : (K : List ℕ) → length K ≡ n → ((i : ℕ) → i < n → get_or K i 0 < 2 ^ n) → Units n K cs → ◌≡◌ {A = Rows} (record { ok = true; rows = K }) (eliminated n cs)
+  pub units-found : (K : List ℕ) → length K ≡ n → ((i : ℕ) → i < n → get_or K i 0 < 2 ^ n) → Units n K cs → Some K ≡ eliminated n cs
   unfolding eliminated
   units-found K hk hb un = go (run n (le_refl n))
     where
@@ -268,6 +268,6 @@ module _ (n : ℕ) (cs : List ℕ) (hl : length cs ≡ n) (hc : (i : ℕ) → ge
           let l : i < n = subst (λ (m : ℕ). i < m) hk h in
           sym (inv.back (get_or K i 0) (hb i l)) ∙ ap (combine R) (un i l) ∙ combine-pow R i)
 
-      go : Run n → ◌≡◌ {A = Rows} (record { ok = true; rows = K }) (answer (placed n cs n) (ordered n (after n cs n).duals (after n cs n).prods) cs)
+      go : Run n → Some K ≡ cond (placed n cs n) (Some (ordered n (after n cs n).duals (after n cs n).prods)) None
       go (inl t) = rw (t.0, same _ (finish (after n cs n) t.1))
       go (inr t) = absurd (t.1 K un)

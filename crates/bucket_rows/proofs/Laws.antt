@@ -2,25 +2,27 @@
 -- Assumes nothing.
 use mathlib.Core.Path.{◌≡◌, refl, sym, ap, ap₂, ◌∙◌, subst}
 use mathlib.Core.Bool.{Bool, true, false, ◌&&◌}
-use mathlib.Core.List.{List, [], ◌∷◌, ◌++◌}
+use mathlib.Core.List.{List, [], ◌∷◌, ◌++◌, append-nil}
 use Prim.Native.Nat.{ℕ, zero, suc, ◌+◌, ◌^◌, ◌≤◌, ◌<◌}
 use native.Mathlib.Nat.{not-suc-le-zero, le_of_suc-le-suc}
-use native.Mathlib.Decide.{ℕ_discrete}
+use native.Mathlib.Decide.{ℕ_discrete, dec_lt}
 use native.Mathlib.Numerals.{add-one}
 use native.Mathlib.Omega.{arith}
-use borrow.Author.Tests.{lt-ltb}
+use borrow.Author.Tests.{lt-ltb, le-ltb, ltb-true}
 use lib.Bits.{bit_xor, xor_zero_r}
 use lib.Count.{count_trailing_zeros}
 use lib.Dec.{ltb}
-use lib.ListN.{length, get_or, set, take, drop}
-use Rattle.lists.proofs.Tests.{and-false}
+use lib.ListN.{length, get_or, set, take, drop, length-drop, drop_of_length-le}
+use lib.Seq.{take_all}
+use borrow.Rule.Slice.PartMut.{mid_of, put_mid}
+use Rattle.lists.proofs.Tests.{by_test, and-false}
 use Rattle.gf2.specs.Vectors.{bit, flip_if, outside}
-use Rattle.gf2.proofs.Bit.{bit_lt}
+use Rattle.gf2.proofs.Bit.{bit_lt, bit_zero}
 use Rattle.gf2.proofs.Linear.{on_zero, flip_on}
 use Rattle.gf2.proofs.Lowest.{tz_bit, tz_lt}
 use Rattle.lists.proofs.Loops.{front-step}
-use Rattle.bucket_rows.specs.declared.Rows.{Rows}
-use Rattle.bucket_rows.specs.Elimination.{clear, clear_from, passed, preferred, pick, Work, row_at, step_at, after, placed, ordered, eliminated}
+use Rattle.std.specs.Prelude.{Option, Some, None, MatchOption}
+use Rattle.bucket_rows.specs.Elimination.{clear, clear_from, passed, preferred, below, pick, Work, row_at, step_at, after, placed, ordered, eliminated}
 
 -- ---- clear, from element j on
 
@@ -54,17 +56,17 @@ clear_from_none zero p (x ∷ l) = ap₂ (λ (y : ℕ) (r : List ℕ). y ∷ r) 
 clear_from_none (suc j) p [] = refl
 clear_from_none (suc j) p (x ∷ l) = ap (λ (r : List ℕ). x ∷ r) (clear_from_none j p l)
 
-pub clear-start : (j p w : ℕ) (l : List ℕ) → take j l ++ clear p w (drop j l) ≡ clear_from j p w l
-unfolding clear_from
-clear-start j p w l = refl
-
 pub clear_at : (p w : ℕ) (l : List ℕ) (i x : ℕ) → i < length l → x ≡ flip_if (bit p (get_or l i 0)) w (get_or l i 0)
     → take (i + 1) (set l i x) ++ clear p w (drop (i + 1) (set l i x)) ≡ take i l ++ clear p w (drop i l)
 clear_at p w l i x h e = front-step (clear p w) (clear p w) l i x h (λ r. ap (λ (y : ℕ). y ∷ clear p w r) (sym e))
 
-pub passed-set : (d j p w y : ℕ) (l : List ℕ) → (d ≡ 0 → ⊥) → clear_from j p w l ≡ passed d j p w y l
-passed-set zero j p w y l h = absurd (h refl)
-passed-set (suc d) j p w y l h = refl
+pub passed-set : (d j p w y : ℕ) (l r : List ℕ) (k : ℕ) → (d ≡ 0 → ⊥) → length l ≤ j + k → r ≡ clear p w (mid_of j k l) → put_mid j k l r ≡ passed d j p w y l
+unfolding clear_from
+passed-set zero j p w y l r k h g e = absurd (h refl)
+passed-set (suc d) j p w y l r k h g e =
+    let b : length (drop j l) ≤ k = rw length-drop (omega arith) in
+    let m : mid_of j k l ≡ drop j l = take_all k (drop j l) b in
+    ap (λ (q : List ℕ). take j l ++ q) (ap (λ (q : List ℕ). r ++ q) (drop_of_length-le (drop j l) b) ∙ append-nil r ∙ e ∙ ap (clear p w) m)
 
 -- ---- the duals in order
 
@@ -83,10 +85,6 @@ ordered_at n ds l i x h e = front-step (ordered n ds) (ordered n ds) l i x h (λ
 
 -- ---- the row that is picked
 
-pub preferred-set : (d j t : ℕ) → (d ≡ 0 → ⊥) → j ≡ preferred d j t
-preferred-set zero j t h = absurd (h refl)
-preferred-set (suc d) j t h = refl
-
 pub pick-bit : (n j f : ℕ) → pick n j f < n → bit (pick n j f) f ≡ 1
 unfolding pick
 pick-bit n j f h = go (bit j f) refl h
@@ -103,6 +101,40 @@ pick_none n j f hj hf h = go (bit j f) h (ℕ_discrete f 0)
     go d h (yes e) = e
     go zero h (no ne) = absurd (h (tz_lt n f hf ne))
     go (suc d) h (no ne) = absurd (h hj)
+
+-- as the code picks it
+pub pick_set : (n j f : ℕ) → j < n → (bit j f ≡ 0 → ⊥) → Some j ≡ below n (pick n j f)
+unfolding pick
+pick_set n j f h ne = go (bit j f) ne
+  where
+    go : (d : ℕ) → (d ≡ 0 → ⊥) → Some j ≡ below n (preferred d j (count_trailing_zeros n f))
+    go zero z = absurd (z refl)
+    go (suc d) z = rw (lt-ltb j n h)
+
+pub pick_lowest : (n j f : ℕ) → f < 2 ^ n → bit j f ≡ 0 → (f ≡ 0 → ⊥) → Some (count_trailing_zeros n f) ≡ below n (pick n j f)
+unfolding pick
+pick_lowest n j f h e ne = rw (e, lt-ltb (count_trailing_zeros n f) n (tz_lt n f h ne))
+
+zero_none : (n : ℕ) → n ≤ count_trailing_zeros n 0
+zero_none n = elim (dec_lt (count_trailing_zeros n 0) n) [
+  | yes h ↦ absurd (omega (arith, tz_bit n 0 h, bit_zero (count_trailing_zeros n 0)))
+  | no h ↦ omega arith
+]
+
+pub pick_nothing : (n j f : ℕ) → f ≡ 0 → None ≡ below n (pick n j f)
+unfolding pick
+pick_nothing n j f z = rw (z, bit_zero j, le-ltb (count_trailing_zeros n 0) n (zero_none n))
+
+-- a number below n, and one that is not
+pub below-some : (n x p : ℕ) → Some p ≡ below n x → (p < n) × (p ≡ x)
+below-some n x p e =
+    let P : Option ℕ → Type 0 = λ o. MatchOption o (Unit {0}) (λ p. (p < n) × (p ≡ x)) in
+    subst P (sym e) (by_test P (ltb x n) (λ t. (ltb-true x n t, refl)) (λ t. tt))
+
+below-none : (n x : ℕ) → None ≡ below n x → ltb x n ≡ false
+below-none n x e =
+    let P : Option ℕ → Type 0 = λ o. MatchOption o (ltb x n ≡ false) (λ p. Unit {0}) in
+    subst P (sym e) (by_test P (ltb x n) (λ t. tt) (λ t. t))
 
 -- its own row, where that is free
 pub pick_own : (n j f : ℕ) → bit j f ≡ 1 → pick n j f ≡ j
@@ -129,11 +161,15 @@ pub placed-more : (n : ℕ) (cs : List ℕ) (j : ℕ) (s : Work) (p : ℕ) → s
 unfolding placed
 placed-more n cs j s p e q h t = rw (add-one, ← e, ← q, lt-ltb p n h, t)
 
+pub row_none : (n j : ℕ) (s : Work) → None ≡ below n (pick n j (outside (get_or s.prods j 0) s.mark)) → ltb (row_at n j s) n ≡ false
+unfolding row_at
+row_none n j s e = below-none n _ e
+
 pub row_is : (n j p : ℕ) (s : Work) → p ≡ pick n j (outside (get_or s.prods j 0) s.mark) → p ≡ row_at n j s
 unfolding row_at
 row_is n j p s e = e
 
 pub answer_is : (n : ℕ) (cs : List ℕ) (s : Work) (r : List ℕ) → s ≡ after n cs n → placed n cs n ≡ true → r ≡ ordered n s.duals s.prods
-    → ◌≡◌ {A = Rows} (record { ok = true; rows = r }) (eliminated n cs)
+    → Some r ≡ eliminated n cs
 unfolding eliminated
 answer_is n cs s r e t q = rw (t, q, e)

@@ -1,11 +1,10 @@
 -- The elimination, at every width n: the columns take rows one after the other, as vectors are added to an empty bucket. For each
 -- column the product with the columns so far is kept, so no ones are counted.
 -- Assumes nothing.
-use Rattle.std.specs.Prelude.{Bool, true, false, ◌&&◌, List, [], ◌∷◌, ◌++◌, ℕ, zero, suc, ◌^◌, ltb, eqb, get_or, set, take, drop}
+use Rattle.std.specs.Prelude.{Bool, true, cond, Option, Some, None, ◌&&◌, List, [], ◌∷◌, ◌++◌, ℕ, zero, suc, ◌^◌, ltb, eqb, get_or, set, take, drop}
 use Rattle.std.specs.Int.Bits.{bit_xor, bit_or}
 use Rattle.std.specs.Int.Count.{count_trailing_zeros}
 use Rattle.gf2.specs.Vectors.{bit, flip_if, outside, sol_step, units}
-use Rattle.bucket_rows.specs.declared.Rows.{Rows}
 
 -- w is XORed into each number that has bit p
 abbrev pub clear : ℕ → ℕ → List ℕ → List ℕ
@@ -29,6 +28,10 @@ preferred (suc d) j t = j
 -- j if f has bit j, else the lowest bit of f, else n
 unfoldable pub pick : ℕ → ℕ → ℕ → ℕ
 pick n j f = preferred (bit j f) j (count_trailing_zeros n f)
+
+-- x if it is below n
+abbrev pub below : ℕ → ℕ → Option ℕ
+below n x = cond (ltb x n) (Some x) None
 
 -- prods: the products of the columns with the duals; duals: the columns to the rows so far; mark: the rows that are taken
 pub record Work : Type 0 where
@@ -64,25 +67,15 @@ abbrev pub ordered : ℕ → List ℕ → List ℕ → List ℕ
 ordered n ds [] = []
 ordered n ds (x ∷ xs) = get_or ds (count_trailing_zeros n x) 0 ∷ ordered n ds xs
 
--- the rows ks, or none: then cs stands in their place
-abbrev pub answer : Bool → List ℕ → List ℕ → Rows
-answer true ks cs = record { ok = true; rows = ks }
-answer false ks cs = record { ok = false; rows = cs }
-
--- the rows of the matrix whose inverse has the columns cs
-unfoldable pub eliminated : ℕ → List ℕ → Rows
-eliminated n cs = answer (placed n cs n) (ordered n (after n cs n).duals (after n cs n).prods) cs
+-- the rows of the matrix whose inverse has the columns cs, if there are any
+unfoldable pub eliminated : ℕ → List ℕ → Option (List ℕ)
+eliminated n cs = cond (placed n cs n) (Some (ordered n (after n cs n).duals (after n cs n).prods)) None
 
 -- each column has, outside the mark, its own bit alone: the columns from the i-th on
 abbrev pub free_cols : ℕ → ℕ → List ℕ → Bool
 free_cols i mark [] = true
 free_cols i mark (c ∷ cs) = eqb (outside c mark) (outside (2 ^ i) mark) && free_cols (suc i) mark cs
 
--- r, or none
-abbrev pub only_if : Bool → Rows → List ℕ → Rows
-only_if true r cs = r
-only_if false r cs = record { ok = false; rows = cs }
-
 -- the rows, if there are any and those outside the mark are units
-unfoldable pub sound_rows : ℕ → ℕ → List ℕ → Rows
-sound_rows n mark cs = only_if (free_cols 0 mark cs) (eliminated n cs) cs
+unfoldable pub sound_rows : ℕ → ℕ → List ℕ → Option (List ℕ)
+sound_rows n mark cs = cond (free_cols 0 mark cs) (eliminated n cs) None

@@ -1,8 +1,7 @@
 -- What is asked: the matrix whose inverse has given columns, where the rows that a mark does not name are units.
 -- Assumes nothing.
-use Rattle.std.specs.Prelude.{◌≡◌, true, false, ◌⊎◌, List, ℕ, ◌^◌, ◌<◌, get_or}
+use Rattle.std.specs.Prelude.{◌≡◌, Option, MatchOption, List, ℕ, ◌^◌, ◌<◌, get_or}
 use Rattle.gf2.specs.Vectors.{bit, Inverse}
-use Rattle.bucket_rows.specs.declared.Rows.{Rows}
 
 -- document 01's free rows of K are units
 abbrev pub FreeRows : ℕ → ℕ → List ℕ → Type 0
@@ -14,5 +13,5 @@ pub record Rowed (n mark : ℕ) (cs K : List ℕ) : Type 0 where
   pub free : FreeRows n mark K
 
 -- an answer that is exact both ways: the rows of a matrix that fits, or the fact that there is none
-abbrev pub FoundFree : ℕ → ℕ → List ℕ → Rows → Type 0
-FoundFree n mark cs r = ((r.ok ≡ true) × Rowed n mark cs r.rows) ⊎ ((r.ok ≡ false) × ((K : List ℕ) → Rowed n mark cs K → ⊥))
+abbrev pub FoundFree : ℕ → ℕ → List ℕ → Option (List ℕ) → Type 0
+FoundFree n mark cs r = MatchOption r ((K : List ℕ) → Rowed n mark cs K → ⊥) (Rowed n mark cs)

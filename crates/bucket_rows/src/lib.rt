@@ -4,109 +4,92 @@
 // The contract is an equation (`sound_rows`); proofs/Exact.antt says that it is exact both ways.
 #![tactic(auto)]
 
-ghost use Rattle.std.specs.Prelude.{◌≡◌, true, ◌/◌, ◌%◌, ◌^◌, ◌<◌, length, get_or};
+ghost use Rattle.std.specs.Prelude.{◌≡◌, true, ◌/◌, ◌%◌, ◌^◌, ◌<◌, get_or};
 ghost use Rattle.std.specs.Int.Count.{count_trailing_zeros};
 ghost use Rattle.gf2.specs.Vectors.{sol_step};
 ghost use Rattle.bits.specs.Width.{width};
-ghost use Rattle.bucket_rows.specs.Elimination.{clear_from, passed, pick, ordered, eliminated, free_cols, sound_rows};
+ghost use Rattle.bucket_rows.specs.Elimination.{clear, passed, below, pick, ordered, eliminated, free_cols, sound_rows};
 
 use bits::WIDTH;
+use bucket_pairs::Guess;
 
 // Up to so many occupied rows the elimination takes less time than the guess.
 const FEW: u32 = 2;
 
-#[derive(Clone, Copy)]
-pub struct Rows {
-    pub ok: bool,
-    pub rows: [u64; WIDTH],
-}
-
-// `w` is XORed into each number from `j` on that has bit `p`.
-fn clear_from(t: &mut [u64; WIDTH], j: usize, p: usize, w: u64)
-    requires { (p < width) × (length t.old ≡ width) }
-    ensures { t.new ≡ clear_from j p w t.old }
+// `w` is XORed into each number that has bit `p`.
+fn clear(t: &mut [u64], p: usize, w: u64)
+    requires { p < width }
+    ensures { t.new ≡ clear p w t.old }
 {
-    let mut k = j;
-    while k < WIDTH {
-        let a = t[k];
-        t[k] = bits::flip_if((a >> p) % 2, w, a);
-        k += 1;
+    for a in t {
+        *a = bits::flip_if((*a >> p) % 2, w, *a);
     }
 }
 
-// The same; where row `j` is free, only `y` at `j`.
+// The same from number `j` on; where row `j` is free, only `y` at `j`.
 fn pass(t: &mut [u64; WIDTH], occupied: u64, j: usize, p: usize, w: u64, y: u64)
-    requires { (j < width) × (p < width) × (length t.old ≡ width) }
+    requires { (j < width) × (p < width) }
     ensures { t.new ≡ passed (occupied / 2 ^ j % 2) j p w y t.old }
 {
     if (occupied >> j) % 2 == 0 {
         t[j] = y;
     } else {
-        clear_from(t, j, p, w);
+        clear(&mut t[j..], p, w);
     }
 }
 
 // `u` is XORed into each number whose bit of `d` is set.
 fn flip_all(t: &mut [u64; WIDTH], u: u64, d: u64)
-    requires { length t.old ≡ width }
     ensures { t.new ≡ sol_step u d t.old }
 {
     let mut left = d;
     while left != 0 {
-        let a = u64::trailing_zeros(left) as usize;
-        t[a] = t[a] ^ u;
-        left = left & (left - 1);
+        let a = left.trailing_zeros() as usize;
+        t[a] ^= u;
+        left &= left - 1;
     }
 }
 
-// `j` if `f` has bit `j`, else the lowest bit of `f`, else WIDTH.
-fn pick_of(j: usize, f: u64) -> usize
+// `j` if `f` has bit `j`, else the lowest bit of `f`.
+fn pick_of(j: usize, f: u64) -> Option<usize>
     requires { j < width }
-    ensures { result ≡ pick width j f }
+    ensures { result ≡ below width (pick width j f) }
 {
-    if (f >> j) % 2 == 0 {
-        return u64::trailing_zeros(f) as usize;
+    if (f >> j) % 2 != 0 {
+        return Some(j);
     }
-    j
+    if f == 0 {
+        return None;
+    }
+    Some(f.trailing_zeros() as usize)
 }
 
 fn dual_at(ds: &[u64; WIDTH], x: u64) -> u64
-    requires { length ds.now ≡ width }
     ensures { result ≡ get_or ds.now (count_trailing_zeros width x) 0 }
 {
-    let a = u64::trailing_zeros(x) as usize;
+    let a = x.trailing_zeros() as usize;
     if a < WIDTH { ds[a] } else { 0 }
 }
 
 fn in_order(ds: &[u64; WIDTH], t: &mut [u64; WIDTH])
-    requires { (length ds.now ≡ width) × (length t.old ≡ width) }
     ensures { t.new ≡ ordered width ds.now t.old }
 {
-    let mut i: usize = 0;
-    while i < WIDTH {
-        t[i] = dual_at(ds, t[i]);
-        i += 1;
+    for x in t {
+        *x = dual_at(ds, *x);
     }
 }
 
 // The elimination. Outside `occupied` each column has its own bit alone, so the column of a free row needs no pass.
-fn eliminate(cols: [u64; WIDTH], occupied: u64) -> Rows
+fn eliminate(cols: [u64; WIDTH], occupied: u64) -> Option<[u64; WIDTH]>
     requires { free_cols 0 occupied cols ≡ true }
     ensures { result ≡ eliminated width cols }
 {
     let mut prods = cols;
     let mut duals = bits::unit_rows();
     let mut mark: u64 = 0;
-    let mut j: usize = 0;
-    while j < WIDTH {
+    for j in 0..WIDTH {
         let x = prods[j];
-        let p = pick_of(j, x ^ (x & mark));
-        if WIDTH <= p {
-            return Rows {
-                ok: false,
-                rows: cols,
-            };
-        }
+        let p = pick_of(j, x ^ (x & mark))?;
         let unit = bits::power(p);
         let w = x ^ unit;
         if w != 0 {
@@ -114,58 +97,41 @@ fn eliminate(cols: [u64; WIDTH], occupied: u64) -> Rows
             let u = duals[p];
             flip_all(&mut duals, u, w);
         }
-        mark = mark | unit;
-        j += 1;
+        mark |= unit;
     }
     in_order(&duals, &mut prods);
-    Rows {
-        ok: true,
-        rows: prods,
-    }
+    Some(prods)
 }
 
 // Each column has, outside `mark`, its own bit alone.
 fn free_cols(cols: &[u64; WIDTH], mark: u64) -> bool
-    requires { length cols.now ≡ width }
     ensures { result ≡ free_cols 0 mark cols.now }
 {
-    let mut i: usize = 0;
-    while i < WIDTH {
-        let c = cols[i];
+    for (i, c) in cols.iter().enumerate() {
         let u = bits::power(i);
-        if c ^ (c & mark) != u ^ (u & mark) {
+        if *c ^ (*c & mark) != u ^ (u & mark) {
             return false;
         }
-        i += 1;
     }
     true
 }
 
-// K's rows, if there are any and those outside `mark` are units. Else `ok` is false, and `rows` are the columns as they came.
-pub fn rows_of(cols: [u64; WIDTH], mark: u64) -> Rows
+// K's rows, if there are any and those outside `mark` are units.
+pub fn rows_of(cols: [u64; WIDTH], mark: u64) -> Option<[u64; WIDTH]>
     ensures { result ≡ sound_rows width mark cols }
 {
-    if free_cols(&cols, mark) {
-        if mark == 0 {
-            return Rows {
-                ok: true,
-                rows: cols,
-            };
-        }
-        if FEW < u64::count_ones(mark) {
-            let guess = bucket_blocks::guess_rows(cols, mark);
-            if guess.known {
-                let rows = guess.rows;
-                return Rows {
-                    ok: guess.ok,
-                    rows: rows,
-                };
-            }
-        }
-        return eliminate(cols, mark);
+    if !free_cols(&cols, mark) {
+        return None;
     }
-    Rows {
-        ok: false,
-        rows: cols,
+    if mark == 0 {
+        return Some(cols);
     }
+    if FEW < mark.count_ones() {
+        match bucket_blocks::guess_rows(cols, mark) {
+            Guess::Rows(rows) => return Some(rows),
+            Guess::Singular => return None,
+            Guess::Unknown => {}
+        }
+    }
+    eliminate(cols, mark)
 }

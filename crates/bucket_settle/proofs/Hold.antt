@@ -6,6 +6,7 @@ use mathlib.Core.Path.{◌≡◌, refl, sym, ap, ap₂, ◌∙◌, subst, subst�
 use mathlib.Core.Bool.{Bool, true, false, ◌||◌, true≢false, Bool-set}
 use mathlib.Core.Logic.{⊎_elim, ∥∥₁_elim}
 use mathlib.Core.Option.{Option, none, some}
+use Rattle.std.specs.Prelude.{Option as Optional, Some, None, option_map, unwrap_or}
 use mathlib.Core.List.Memᴰ
 use mathlib.Core.List.Perm
 use mathlib.Core.List.Permᴰ
@@ -28,8 +29,7 @@ use Rattle.gf2.proofs.Loops.{length-sol_step}
 use Rattle.gf2.proofs.Solutions.{plan-set, plan-kept}
 use Rattle.gf2.proofs.Clear.{clear_step}
 use Rattle.bucket.specs.declared.Bucket.{Bucket}
-use Rattle.bucket.specs.declared.Tried.{Tried}
-use Rattle.bucket.specs.Bucket.{Sound, empty_bucket, lookup, live, row_of, tried, add_at, add, change_at, change, withdraw_at, withdraw}
+use Rattle.bucket.specs.Bucket.{Sound, empty_bucket, lookup, live, row_of, add_at, add, change_at, change, changed, withdraw_at, withdraw, without}
 use Rattle.bucket.proofs.Steps.{live_test, empty_sound, add-sound, add-live, add-plan, add-others, left-rows, withdraw-sound, withdraw-live, withdraw-others, Goes, add_goes, add-depends}
 use Rattle.bucket_settle.specs.Settle.{plan_of}
 
@@ -131,12 +131,12 @@ module _ {n r : ℕ} {b : Bucket} {rows : List Entry} (h : Holds n r b rows) whe
   depends : (k : ℕ) → elem k (sums (words rows)) ≡ elem k (sums (chosen b.mark h.matrix))
   depends k = sym (sums_perm h.lives k)
 
-  pub holds_none : (e : Entry) → e.word < 2 ^ n → elem e.word (sums (words rows)) ≡ true → add n e.word e.plan b ≡ record { done = false; bucket = b }
+  pub holds_none : (e : Entry) → e.word < 2 ^ n → elem e.word (sums (words rows)) ≡ true → add n e.word e.plan b ≡ None
   holds_none e l t = add-depends n h.matrix b h.sound e.word e.plan l (true→T (sym (depends e.word) ∙ t))
 
   -- a word that does not depend
   pub holds-add : (e : Entry) → e.word < 2 ^ n → e.plan < 2 ^ r → elem e.word (sums (words rows)) ≡ false
-      → (c : Bucket) × (add n e.word e.plan b ≡ record { done = true; bucket = c }) × Holds n r c (e ∷ rows) × (c.bound ≡ b.bound)
+      → (c : Bucket) × (add n e.word e.plan b ≡ Some c) × Holds n r c (e ∷ rows) × (c.bound ≡ b.bound)
   unfolding add_at
   holds-add e l q f = (add_at i k e.plan b, g.result, held, refl)
     where
@@ -191,13 +191,13 @@ module _ {n r : ℕ} {b : Bucket} {rows : List Entry} (h : Holds n r b rows) whe
     is_live : live n k b ≡ true
     is_live = live-elem k l ∙ T→true _ (find-elem k p rows f)
 
-    row_is : row_of n k b ≡ at
+    row_is : row_of n k b ≡ Some at
     unfolding live row_of
-    row_is = cond_true (count_trailing_zeros n (product b.cols k)) n is_live ∙ found-row
+    row_is = cond_true (Some (count_trailing_zeros n (product b.cols k))) None is_live ∙ ap Some found-row
 
-    withdraw_is : withdraw n k b ≡ record { done = true; bucket = withdraw_at n at k b }
+    withdraw_is : withdraw n k b ≡ Some (withdraw_at n at k b)
     unfolding withdraw
-    withdraw_is = ap₂ (λ (t : Bool) (i : ℕ). tried t (withdraw_at n i k b) b) is_live row_is
+    withdraw_is = ap (option_map (λ i. withdraw_at n i k b)) row_is
 
     withdraw-at : Holds n r (withdraw_at n at k b) (remove k rows)
     unfolding withdraw_at Row
@@ -219,12 +219,12 @@ module _ {n r : ℕ} {b : Bucket} {rows : List Entry} (h : Holds n r b rows) whe
         lives_on = Perm.cons_inv (Perm.trans (Perm.symm (withdraw-live n h.matrix b at k h.sound row.1 row.3 row.2))
             (Perm.trans h.lives ∣ Permᴰ.map (λ (e : Entry). e.word) parts ∣₁))
 
-    pub holds-withdraw : Holds n r (withdraw n k b).bucket (remove k rows)
-    holds-withdraw = subst⁻¹ (λ (c : Tried). Holds n r c.bucket (remove k rows)) withdraw_is withdraw-at
+    pub holds-withdraw : Holds n r (without n k b) (remove k rows)
+    holds-withdraw = subst⁻¹ (λ (c : Optional Bucket). Holds n r (unwrap_or c b) (remove k rows)) withdraw_is withdraw-at
 
-    pub withdraw-bound : (withdraw n k b).bucket.bound ≡ b.bound
+    pub withdraw-bound : (without n k b).bound ≡ b.bound
     unfolding withdraw_at
-    withdraw-bound = ap (λ (c : Tried). c.bucket.bound) withdraw_is
+    withdraw-bound = ap (λ (c : Optional Bucket). (unwrap_or c b).bound) withdraw_is
 
     module _ (q : ℕ) (hq : q < 2 ^ r) where
       change-at : Holds n r (change_at at k q b) (record { word = k; plan = q } ∷ remove k rows)
@@ -258,15 +258,15 @@ module _ {n r : ℕ} {b : Bucket} {rows : List Entry} (h : Holds n r b rows) whe
               (plan-kept n h.matrix b.cols b.sols h.sound.inverse at row.1 _ r.0 r.1 ne)
               ∙ h.plans x (rest x m)
 
-      change_is : change n k q b ≡ record { done = true; bucket = change_at at k q b }
+      change_is : change n k q b ≡ Some (change_at at k q b)
       unfolding change
-      change_is = ap₂ (λ (t : Bool) (i : ℕ). tried t (change_at i k q b) b) is_live row_is
+      change_is = ap (option_map (λ i. change_at i k q b)) row_is
 
-      pub holds-change : Holds n r (change n k q b).bucket (update (record { word = k; plan = q }) rows)
+      pub holds-change : Holds n r (changed n k q b) (update (record { word = k; plan = q }) rows)
       holds-change =
-          subst⁻¹ (λ (c : Tried). Holds n r c.bucket (update (record { word = k; plan = q }) rows)) change_is
+          subst⁻¹ (λ (c : Optional Bucket). Holds n r (unwrap_or c b) (update (record { word = k; plan = q }) rows)) change_is
           (holds_perm change-at (Permᴰ.symm (update_perm (record { word = k; plan = q }) p rows f)))
 
-      pub change-bound : (change n k q b).bucket.bound ≡ b.bound
+      pub change-bound : (changed n k q b).bound ≡ b.bound
       unfolding change_at
-      change-bound = ap (λ (c : Tried). c.bucket.bound) change_is
+      change-bound = ap (λ (c : Optional Bucket). (unwrap_or c b).bound) change_is

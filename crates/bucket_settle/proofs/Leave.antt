@@ -8,21 +8,17 @@ use mathlib.Core.Path.{◌≡◌, refl, sym, ap, ◌∙◌}
 use mathlib.Core.Bool.{true, false, true≢false}
 use mathlib.Core.List.{List, [], map}
 use lib.Dec.{eqb}
-use lib.ListN.{length, get_or, take, drop, length-map, length-drop, drop_of_length-le}
+use lib.ListN.{length, get_or, drop, length-map, length-drop, drop_of_length-le}
 use lib.Seq.{drop-cons}
-use Rattle.lists.specs.Entries.{Entry}
-use Rattle.lists.proofs.Parts.{first_next, first_past}
+use Rattle.lists.specs.Entries.{Entry, words, insert}
 use Rattle.lists.proofs.Keep.{keep-within, length-sub}
 use Rattle.lists.proofs.Sorts.{sort-length}
 use Rattle.gf2.specs.Select.{put_if, chosen}
 use Rattle.gf2.proofs.Chosen.{chosen-length}
 use Rattle.bucket.specs.declared.Bucket.{Bucket}
-use Rattle.bucket.specs.Bucket.{lookup, withdraw}
-use Rattle.bucket_settle.specs.declared.Outgoing.{Outgoing}
+use Rattle.bucket.specs.Bucket.{lookup, without}
 use Rattle.bucket_settle.specs.Settle.{withdraw_all}
-use Rattle.bucket_settle.specs.Outgoing.{outgoing}
-use Rattle.bucket_settle.specs.Steps.{inserted, leaves, leaving_of}
-use Rattle.bucket_settle.proofs.Arrays.{count_of, insert_law}
+use Rattle.bucket_settle.specs.Steps.{leaves, leaving_of}
 
 -- ---- row by row
 
@@ -45,54 +41,51 @@ module _ (thr : ℕ → ℕ) (t : ℕ) (b : Bucket) where
       rw sort-length (omega (arith, length-sub (keep-within (λ (e : Entry). eqb (thr e.word) t) (map f ks)), length-map ks f))
 
   -- one more row, inserted where it leaves
-  row-leaves : (m v : ℕ) (ks : List ℕ) → length ks < m → (d : ℕ) → leaves d thr t v ≡ true
-      → inserted v (lookup b v) (outgoing m (leaving_of thr t b ks)) ≡ outgoing m (leaving_of thr t b (put_if d v ks))
+  row-leaves : (v : ℕ) (ks : List ℕ) (d : ℕ) → leaves d thr t v ≡ true
+      → insert (record { word = v; plan = lookup b v }) (leaving_of thr t b ks) ≡ leaving_of thr t b (put_if d v ks)
   unfolding leaving_of
-  row-leaves m v ks h zero y = absurd (true≢false (sym y))
-  row-leaves m v ks h (suc d) y = rw y (insert_law m (leaving_of thr t b ks) (record { word = v; plan = lookup b v }) (omega (arith, leaving-length ks)))
+  row-leaves v ks zero y = absurd (true≢false (sym y))
+  row-leaves v ks (suc d) y = rw y
 
   row_stays : (v : ℕ) (ks : List ℕ) (d : ℕ) → leaves d thr t v ≡ false → leaving_of thr t b ks ≡ leaving_of thr t b (put_if d v ks)
   unfolding leaving_of
   row_stays v ks zero n = refl
   row_stays v ks (suc d) n = rw n
 
-  -- q has what leaves of the rows from i on
-  abbrev pub Found : ℕ → ℕ → List ℕ → ℕ → Outgoing → Type 0
-  Found m mark rows i q = q ≡ outgoing m (leaving_of thr t b (chosen (mark / 2 ^ i) (drop i rows)))
+  -- es is what leaves of the rows from i on
+  abbrev pub Found : ℕ → List ℕ → ℕ → List Entry → Type 0
+  Found mark rows i es = es ≡ leaving_of thr t b (chosen (mark / 2 ^ i) (drop i rows))
 
-  module _ (m mark : ℕ) (rows : List ℕ) where
-    few : (i : ℕ) → length (chosen (mark / 2 ^ i) (drop i rows)) ≤ length rows - i
-    few i = omega (arith, chosen-length (mark / 2 ^ i) (drop i rows), length-drop i rows)
-
-    pub found_count : (i : ℕ) {q : Outgoing} → Found m mark rows i q → q.count ≤ length rows - i
-    found_count i e =
+  module _ (mark : ℕ) (rows : List ℕ) where
+    pub found_few : (i : ℕ) {es : List Entry} → Found mark rows i es → length es ≤ length rows - i
+    found_few i e =
         let ks : List ℕ = chosen (mark / 2 ^ i) (drop i rows) in
-        omega (arith, ap (λ (q : Outgoing). q.count) e ∙ count_of m (leaving_of thr t b ks), leaving-length ks, few i)
+        omega (arith, ap length e, leaving-length ks, chosen-length (mark / 2 ^ i) (drop i rows), length-drop i rows)
 
-    pub found_none : (i : ℕ) {q : Outgoing} → length rows ≤ i → q ≡ outgoing m [] → Found m mark rows i q
+    pub found_none : (i : ℕ) → length rows ≤ i → Found mark rows i []
     unfolding leaving_of
-    found_none i h e = rw (drop_of_length-le rows h) e
+    found_none i h = rw (drop_of_length-le rows h)
 
     -- the row before, by whether it leaves
-    module _ (i : ℕ) (h : i < length rows) (l : length rows ≤ m) {q : Outgoing} (e : Found m mark rows (suc i) q) where
+    module _ (i : ℕ) (h : i < length rows) {es : List Entry} (e : Found mark rows (suc i) es) where
       abbrev later : List ℕ
       later = chosen (mark / 2 ^ suc i) (drop (suc i) rows)
 
-      pub found-leaves : {p : Outgoing} → leaves (mark / 2 ^ i % 2) thr t (get_or rows i 0) ≡ true → p ≡ inserted (get_or rows i 0) (lookup b (get_or rows i 0)) q → Found m mark rows i p
-      found-leaves y f = rw (chosen_down mark i rows h) (f ∙ rw e (row-leaves m (get_or rows i 0) later (omega (arith, few (suc i))) (mark / 2 ^ i % 2) y))
+      pub found-leaves : {fs : List Entry} → leaves (mark / 2 ^ i % 2) thr t (get_or rows i 0) ≡ true → fs ≡ insert (record { word = get_or rows i 0; plan = lookup b (get_or rows i 0) }) es → Found mark rows i fs
+      found-leaves y f = rw (chosen_down mark i rows h) (f ∙ rw e (row-leaves (get_or rows i 0) later (mark / 2 ^ i % 2) y))
 
-      pub found_stays : leaves (mark / 2 ^ i % 2) thr t (get_or rows i 0) ≡ false → Found m mark rows i q
-      found_stays n = rw (chosen_down mark i rows h) (e ∙ ap (outgoing m) (row_stays (get_or rows i 0) later (mark / 2 ^ i % 2) n))
+      pub found_stays : leaves (mark / 2 ^ i % 2) thr t (get_or rows i 0) ≡ false → Found mark rows i es
+      found_stays n = rw (chosen_down mark i rows h) (e ∙ row_stays (get_or rows i 0) later (mark / 2 ^ i % 2) n)
 
-    pub found_all : (i : ℕ) {q : Outgoing} → i ≤ 0 → Found m mark rows i q → q ≡ outgoing m (leaving_of thr t b (chosen mark rows))
-    found_all zero h e = e ∙ ap (λ (x : ℕ). outgoing m (leaving_of thr t b (chosen x rows))) (div-one mark)
+    pub found_all : (i : ℕ) {es : List Entry} → i ≤ 0 → Found mark rows i es → es ≡ leaving_of thr t b (chosen mark rows)
+    found_all zero h e = e ∙ ap (λ (x : ℕ). leaving_of thr t b (chosen x rows)) (div-one mark)
     found_all (suc i) h e = absurd (omega arith)
 
 -- ---- withdrawn one by one
 
-pub withdraw-step : (n : ℕ) (b : Bucket) (xs : List ℕ) (m i : ℕ) → i < m → m ≤ length xs
-    → withdraw_all n (drop (i + 1) (take m xs)) (withdraw n (get_or xs i 0) b).bucket ≡ withdraw_all n (drop i (take m xs)) b
-withdraw-step n b xs m i h l = rw (add-one, first_next xs 0 m i l h)
+module _ (n : ℕ) (b : Bucket) (es : List Entry) (i : ℕ) where
+  pub withdraw-step : i < length es → (d : Entry) → withdraw_all n (words (drop (i + 1) es)) (without n (get_or es i d).word b) ≡ withdraw_all n (words (drop i es)) b
+  withdraw-step h d = rw (add-one, drop-cons es i d h)
 
-pub withdraw-end : (n : ℕ) (b : Bucket) (xs : List ℕ) (m i : ℕ) → m ≤ i → withdraw_all n (drop i (take m xs)) b ≡ b
-withdraw-end n b xs m i h = rw (first_past xs m i h)
+  pub withdraw-end : length es ≤ i → withdraw_all n (words (drop i es)) b ≡ b
+  withdraw-end h = rw (drop_of_length-le es h)

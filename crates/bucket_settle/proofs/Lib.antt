@@ -1,6 +1,6 @@
 -- The laws of the crate.
 pub mod Hold
 pub mod Settling
-pub mod Arrays
+pub mod Insert
 pub mod Leave
 pub mod Sound

@@ -21,8 +21,8 @@ use Rattle.gf2.specs.Select.{elem, sums}
 use Rattle.gf2.specs.Bound.{Due, under}
 use Rattle.gf2.proofs.Bound.{fall}
 use Rattle.bucket.specs.declared.Bucket.{Bucket}
-use Rattle.bucket.specs.declared.Tried.{Tried}
-use Rattle.bucket.specs.Bucket.{lookup, live, add, withdraw}
+use Rattle.std.specs.Prelude.{Option as Optional}
+use Rattle.bucket.specs.Bucket.{lookup, live, add, without}
 use Rattle.bucket_settle.specs.Settle.{contents, withdraw_all, at_bound, lowered, Settlement, ahead, or_else, leaving, settle}
 use Rattle.bucket_settle.proofs.Hold.{Holds, live-elem, mem_elem, holds_perm, holds-find, row-of, holds_none, holds-add, holds-withdraw}
 
@@ -106,7 +106,7 @@ pub withdraw-all : {n r : ℕ} (es : List Entry) {b : Bucket} {rest : List Entry
 withdraw-all [] h = h
 withdraw-all {n} {r} (e ∷ es) {b} {rest} h =
     withdraw-all es
-    (subst (λ (l : List Entry). Holds n r (withdraw n e.word b).bucket l) (cond_true (es ++ rest) (e ∷ remove e.word (es ++ rest)) (eq-eqb e.word e.word refl))
+    (subst (λ (l : List Entry). Holds n r (without n e.word b) l) (cond_true (es ++ rest) (e ∷ remove e.word (es ++ rest)) (eq-eqb e.word e.word refl))
     (holds-withdraw h e.word e.plan (word_lt h e (Memᴰ.head refl)) (cond_true (some e.plan) (find e.word (es ++ rest)) (eq-eqb e.word e.word refl))))
 
 -- the bound falls to t: the words of threshold t leave, the rest stays
@@ -178,7 +178,7 @@ module _ (n r : ℕ) (thr : ℕ → ℕ) where
             → Settles e fs (suc u) (or_else (add n e.word e.plan b) (ahead (leaving n thr u b) (settle n thr e u (lowered n thr u b))))
         stays l f =
             let a = holds-add h e small plan-lt f in
-            subst⁻¹ (λ (o : Tried). Settles e fs (suc u) (or_else o (ahead (leaving n thr u b) (settle n thr e u (lowered n thr u b))))) a.1
+            subst⁻¹ (λ (o : Optional Bucket). Settles e fs (suc u) (or_else o (ahead (leaving n thr u b) (settle n thr e u (lowered n thr u b))))) a.1
             (record {
               holds = subst⁻¹ (λ (t : ℕ). Holds n r a.0 (held thr t (e ∷ fs))) (a.3 ∙ q) (rw l a.2);
               falls = a.3 ∙ q ∙ sym (cond_false (fall u (seen thr e) (map (seen thr) fs)) (suc u) (ap (λ (a : Bool). ltb (thr e.word) (suc u) && a) (same-has ∙ f) ∙ and-false (ltb (thr e.word) (suc u))));
@@ -196,7 +196,7 @@ module _ (n r : ℕ) (thr : ℕ → ℕ) where
         depends ih l t =
             let r = ih (lowered n thr u b) refl lower in
             let o : List Entry = (settle n thr e u (lowered n thr u b)).out in
-            subst⁻¹ (λ (o : Tried). Settles e fs (suc u) (or_else o (ahead (leaving n thr u b) (settle n thr e u (lowered n thr u b))))) (holds_none h e small t)
+            subst⁻¹ (λ (o : Optional Bucket). Settles e fs (suc u) (or_else o (ahead (leaving n thr u b) (settle n thr e u (lowered n thr u b))))) (holds_none h e small t)
             (record {
               holds = r.holds;
               falls = r.falls ∙ sym (cond_true (fall u (seen thr e) (map (seen thr) fs)) (suc u) (and_both l (same-has ∙ t)));

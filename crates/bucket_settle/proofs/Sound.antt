@@ -24,13 +24,14 @@ use Rattle.gf2.proofs.Depend.{occupied-indep}
 use Rattle.gf2.proofs.Bound.{fall-bound}
 use Rattle.gf2.proofs.Loops.{length-sol_step}
 use Rattle.bucket.specs.declared.Bucket.{Bucket}
-use Rattle.bucket.specs.declared.Tried.{Tried}
+use Rattle.std.specs.Prelude.{Option as Optional, Some, None, unwrap_or}
 use Rattle.bucket.specs.Bucket.{largest_bound, lookup, add_at, add}
 use Rattle.bucket.proofs.Steps.{add-sound, add_goes, add-depends}
-use Rattle.bucket_rows.specs.declared.Rows.{Rows}
+use Rattle.std.specs.Prelude.{Option, Some}
+use Rattle.std.proofs.lemmas.Option.{same_Some}
 use Rattle.bucket_rows.specs.Elimination.{sound_rows}
 use Rattle.bucket_rows.proofs.Exact.{found_is}
-use Rattle.bucket_settle.specs.Settle.{SoundBucket, listed, contents, leaving, lowered, Settlement, ahead, settle}
+use Rattle.bucket_settle.specs.Settle.{SoundBucket, listed, contents, leaving, lowered, Settlement, ahead, or_else, settle}
 use Rattle.bucket_settle.specs.Steps.{leaving_of}
 use Rattle.bucket_settle.proofs.Hold.{Holds, holds_perm, fresh}
 use Rattle.bucket_settle.proofs.Settling.{rows_of, rows_ascending, holds-lowered, held, over, seen, under-held, settle_law}
@@ -83,11 +84,12 @@ module _ {n r : ℕ} {b : Bucket} (thr : ℕ → ℕ) (t : ℕ) (h : SoundBucket
       sym (sort_order (keep_perm (λ e. eqb (thr e.word) t) (rows_of (sound-listed h))) apart) ∙ sort-same (leaving n thr t b) up apart
 
   -- and the elimination gives these rows
-  pub leaving-found : {x : Rows} → x ≡ sound_rows n b.mark b.cols → leaving_of thr t b (chosen b.mark x.rows) ≡ leaving n thr t b
-  leaving-found e =
-      ap (λ (x : Rows). leaving_of thr t b (chosen b.mark x.rows))
-      (e ∙ found_is n b.mark b.cols h.matrix (record { inverse = h.sound.inverse; free = h.sound.free }))
-      ∙ leaving-rows
+  pub rows-found : {x : Option (List ℕ)} → x ≡ sound_rows n b.mark b.cols → x ≡ Some h.matrix
+  rows-found e = e ∙ found_is n b.mark b.cols h.matrix (record { inverse = h.sound.inverse; free = h.sound.free })
+
+  pub leaving-found : (rows : List ℕ) → Some rows ≡ sound_rows n b.mark b.cols → leaving_of thr t b (chosen b.mark rows) ≡ leaving n thr t b
+  leaving-found rows e =
+      ap (λ (ks : List ℕ). leaving_of thr t b (chosen b.mark ks)) (same_Some rows h.matrix (rows-found e)) ∙ leaving-rows
 
   -- the words that stay
   abbrev staying : List Entry
@@ -108,14 +110,14 @@ module _ {n r : ℕ} {b : Bucket} (thr : ℕ → ℕ) (t : ℕ) (h : SoundBucket
 -- ---- an add keeps a bucket sound
 
 module _ (n r : ℕ) (thr : ℕ → ℕ) (e : Entry) (small : e.word < 2 ^ n) where
-  added-sound : {b : Bucket} → SoundBucket n r b → SoundBucket n r (add n e.word e.plan b).bucket
+  added-sound : {b : Bucket} → SoundBucket n r b → SoundBucket n r (unwrap_or (add n e.word e.plan b) b)
   unfolding add_at
   added-sound {b} h =
       cases (elem e.word (sums (chosen b.mark h.matrix)))
-      (λ t. subst⁻¹ (λ (a : Tried). SoundBucket n r a.bucket) (add-depends n h.matrix b h.sound e.word e.plan small (true→T t)) h)
+      (λ t. subst⁻¹ (λ (a : Optional Bucket). SoundBucket n r (unwrap_or a b)) (add-depends n h.matrix b h.sound e.word e.plan small (true→T t)) h)
       (λ f.
       let g = add_goes n h.matrix b h.sound e.word e.plan small (false→T f) in
-      subst⁻¹ (λ (a : Tried). SoundBucket n r a.bucket) g.result (record {
+      subst⁻¹ (λ (a : Optional Bucket). SoundBucket n r (unwrap_or a b)) g.result (record {
         matrix = set h.matrix g.row e.word;
         sound = add-sound n h.matrix b g.row e.word e.plan h.sound g.row_lt small g.was_free g.has-bit;
         wide = length-sol_step _ _ b.sols ∙ h.wide;
@@ -130,14 +132,21 @@ module _ (n r : ℕ) (thr : ℕ → ℕ) (e : Entry) (small : e.word < 2 ^ n) wh
   keeps zero b q h = (h, omega arith)
   keeps (suc t) b q h =
       by_test (Kept b) (ltb (thr e.word) (suc t))
-      (λ l. by_test (Kept b) (add n e.word e.plan b).done (λ d. (added-sound h, omega arith)) (λ d. fallen (keeps t (lowered n thr t b) refl (lowered-sound thr t h low))))
+      (λ l. by_add (fallen (keeps t (lowered n thr t b) refl (lowered-sound thr t h low))) (add n e.word e.plan b) (added-sound h))
       (λ f. (h, omega arith))
     where
       low : t ≤ largest_bound
       low = omega (arith, h.low)
 
+      next : Settlement
+      next = ahead (leaving n thr t b) (settle n thr e t (lowered n thr t b))
+
       fallen : Kept (lowered n thr t b) (settle n thr e t (lowered n thr t b)) → Kept b (ahead (leaving n thr t b) (settle n thr e t (lowered n thr t b)))
       fallen k = (k.0, omega (arith, k.1, lowered-length thr t h, length-append (leaving n thr t b) (settle n thr e t (lowered n thr t b)).out))
+
+      by_add : Kept b next → (o : Optional Bucket) → SoundBucket n r (unwrap_or o b) → Kept b (or_else o next)
+      by_add f None k = f
+      by_add f (Some c) k = (k, omega arith)
 
   pub settle-sound : (b : Bucket) → SoundBucket n r b → SoundBucket n r (settle n thr e b.bound b).bucket
   settle-sound b h = (keeps b.bound b refl h).0

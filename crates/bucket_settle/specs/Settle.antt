@@ -1,13 +1,12 @@
 -- An add to one bucket of n rows, under its bound; document 01, "The whole table". thr gives the threshold of a vector.
 -- Assumes nothing.
-use Rattle.std.specs.Prelude.{ℕ, zero, suc, ◌^◌, ◌≤◌, ◌≡◌, cond, List, [], ◌∷◌, ◌++◌, map, eqb, ltb, length}
+use Rattle.std.specs.Prelude.{ℕ, zero, suc, ◌^◌, ◌≤◌, ◌≡◌, cond, List, [], ◌∷◌, ◌++◌, map, eqb, ltb, length, Option as Optional, Some, None}
 use Rattle.std.proofs.Math.Option.{Option, none, some}
 use Rattle.lists.specs.Lists.{keep, count_from}
 use Rattle.lists.specs.Entries.{Entry, words}
 use Rattle.identifier.specs.Place.{place_of, threshold_at}
 use Rattle.bucket.specs.declared.Bucket.{Bucket}
-use Rattle.bucket.specs.declared.Tried.{Tried}
-use Rattle.bucket.specs.Bucket.{Sound, largest_bound, lookup, live, add, withdraw}
+use Rattle.bucket.specs.Bucket.{Sound, largest_bound, lookup, live, add, without}
 
 -- document 01's sound bucket: columns invertible, free rows of K units, those of Z 0 (document 02, order 6); r solution words; the bound at
 -- most the largest
@@ -40,7 +39,7 @@ leaving n thr t b = keep (λ e. eqb (thr e.word) t) (contents n b)
 -- each of these vectors is withdrawn
 abbrev pub withdraw_all : ℕ → List ℕ → Bucket → Bucket
 withdraw_all n [] b = b
-withdraw_all n (k ∷ ks) b = withdraw_all n ks (withdraw n k b).bucket
+withdraw_all n (k ∷ ks) b = withdraw_all n ks (without n k b)
 
 -- the bucket under the bound t
 abbrev pub at_bound : ℕ → Bucket → Bucket
@@ -59,9 +58,10 @@ pub record Settlement : Type 0 where
 abbrev pub ahead : List Entry → Settlement → Settlement
 ahead es s = record { bucket = s.bucket; out = es ++ s.out }
 
--- the bucket after the add where it is done, else s
-abbrev pub or_else : Tried → Settlement → Settlement
-or_else a s = cond a.done (record { bucket = a.bucket; out = [] }) s
+-- the bucket after an add, if there is one, else s
+abbrev pub or_else : Optional Bucket → Settlement → Settlement
+or_else None s = s
+or_else (Some b) s = record { bucket = b; out = [] }
 
 -- The word e comes to the bucket b, whose bound is the number after e. While e depends there, the bound falls by one, and the words
 -- whose threshold equals the new bound leave, each withdrawn. If e's threshold is not below the bound, e leaves last.

@@ -2,18 +2,18 @@
 -- Assumes nothing.
 use Prim.Native.Nat.{ℕ, ◌+◌, ◌^◌, ◌<◌}
 use mathlib.Core.Path.{◌≡◌, sym, ap, ◌∙◌}
-use mathlib.Core.Bool.{Bool, true, false, cond}
+use mathlib.Core.Bool.{Bool}
 use mathlib.Core.List.{List}
 use native.Mathlib.Omega.{arith}
 use lib.Bits.{bit_xor, bit_or}
 use lib.Count.{count_trailing_zeros}
 use lib.ListN.{length, get_or, set, take, drop, length-set}
-use Rattle.lists.proofs.Tests.{cond_true, cond_false}
 use Rattle.gf2.specs.Vectors.{outside, product, col_step, row_step, sol_step, exchange, row_in}
 use Rattle.gf2.proofs.Loops.{length-sol_step}
 use Rattle.gf2.proofs.Inverse.{length-col_step}
 use Rattle.bucket.specs.declared.Bucket.{Bucket}
-use Rattle.bucket.specs.Bucket.{live, row_of, tried, add_at, withdraw_at, withdraw}
+use Rattle.std.specs.Prelude.{Option, Some, None, option_map, unwrap_or}
+use Rattle.bucket.specs.Bucket.{row_of, add_at, withdraw_at, withdraw, without}
 use Rattle.bucket.proofs.Laws.{add_cols, withdraw_cols}
 use Rattle.bucket_words.specs.Words.{bucket_words, words_of, bucket_from, Shaped, Stepped}
 use Rattle.bucket_words.proofs.Words.{words-bucket, words-all, from-shaped}
@@ -38,13 +38,13 @@ withdrawn_shaped n r i k b h =
     record { cols = length-exchange i (count_trailing_zeros n u) (col_step u v b.cols) ∙ length-col_step u v b.cols ∙ h.cols; sols = length-sol_step _ _ b.sols ∙ h.sols }
 
 -- k leaves row i, and row j is freed: the columns cs, the bit x, the row d of the solutions as it was and the solutions ss make the bucket after the step
-pub withdrawn_is : (n r : ℕ) (t : List ℕ) → length t ≡ bucket_words n r → (k i : ℕ) → i ≡ row_of n k (bucket_from n r t) → i < n → (j : ℕ) → j ≡ count_trailing_zeros n (get_or (take n t) i 0) → j < n
+pub withdrawn_is : (n r : ℕ) (t : List ℕ) → length t ≡ bucket_words n r → (k i : ℕ) → row_of n k (bucket_from n r t) ≡ Some i → (j : ℕ) → j ≡ count_trailing_zeros n (get_or (take n t) i 0) → j < n
     → {cs ss : List ℕ} {x d : ℕ} → cs ≡ row_step (get_or (exchange i j (take n t)) j 0) j (2 ^ j) (exchange i j (take n t)) → x ≡ 2 ^ j → d ≡ row_in (take r (drop (n + 1) t)) j
     → ss ≡ sol_step (get_or cs j 0) d (take r (drop (n + 1) t))
     → record { cols = cs; mark = outside (get_or t n 0) x; sols = ss; bound = get_or t (n + 1 + r) 0 } ≡ withdraw_at n i k (bucket_from n r t)
 unfolding withdraw_at bucket_from
-withdrawn_is n r t ht k i e hi j q hj c y w z =
-    let f = c ∙ withdraw_cols n k (bucket_from n r t) (from-shaped n r t (omega (arith, ht))).cols i e hi j q hj in
+withdrawn_is n r t ht k i e j q hj c y w z =
+    let f = c ∙ withdraw_cols n k (bucket_from n r t) e (from-shaped n r t (omega (arith, ht))).cols j q hj in
     rw (z, w, f, y, q)
 
 -- the words after a withdrawal, done or not, and the bucket that they stand for
@@ -52,27 +52,23 @@ module _ (n r k : ℕ) (xs : List ℕ) (h : length xs ≡ bucket_words n r) {don
   abbrev here : Bucket
   here = bucket_from n r xs
 
-  abbrev next : Bucket
-  next = withdraw_at n (row_of n k here) k here
-
   whole : Shaped n r here
   whole = from-shaped n r xs (omega (arith, h))
 
-  pub withdrawn_all : after ≡ words_of (withdraw n k here).bucket
-  unfolding withdraw
-  withdrawn_all = go (live n k here) g.says g.words
+  pub withdrawn_all : after ≡ words_of (without n k here)
+  withdrawn_all = go (withdraw n k here) g.words
     where
-      go : (c : Bool) → done ≡ (tried c next here).done → after ≡ cond done (words_of (tried c next here).bucket) xs → after ≡ words_of (tried c next here).bucket
-      go true s w = w ∙ cond_true (words_of next) xs s
-      go false s w = w ∙ cond_false (words_of here) xs s ∙ sym (words-all n r xs h)
+      go : (o : Option Bucket) → after ≡ unwrap_or (option_map words_of o) xs → after ≡ words_of (unwrap_or o here)
+      go None w = w ∙ sym (words-all n r xs h)
+      go (Some b) w = w
 
-  after-shaped : Shaped n r (withdraw n k here).bucket
+  after-shaped : Shaped n r (without n k here)
   unfolding withdraw
-  after-shaped = go (live n k here)
+  after-shaped = go (row_of n k here)
     where
-      go : (c : Bool) → Shaped n r (tried c next here).bucket
-      go true = withdrawn_shaped n r (row_of n k here) k here whole
-      go false = whole
+      go : (o : Option ℕ) → Shaped n r (unwrap_or (option_map (λ i. withdraw_at n i k here) o) here)
+      go None = whole
+      go (Some i) = withdrawn_shaped n r i k here whole
 
-  pub withdrawn_bucket : bucket_from n r after ≡ (withdraw n k here).bucket
+  pub withdrawn_bucket : bucket_from n r after ≡ without n k here
   withdrawn_bucket = ap (bucket_from n r) withdrawn_all ∙ words-bucket n r _ after-shaped

@@ -5,7 +5,7 @@ use mathlib.Core.List.{List, [], ◌∷◌, ◌++◌, append_assoc}
 use Prim.Native.Nat.{ℕ, suc, ◌+◌}
 use native.Mathlib.Numerals.{add-one}
 use native.Mathlib.Omega.{arith}
-use lib.ListN.{length, get_or, set, drop, length-append, length-drop, drop_of_length-le}
+use lib.ListN.{length, get_or, set, drop, length-append, drop_of_length-le}
 use lib.Seq.{drop-cons, drop-drop, set_at, take_at, drop_at}
 use borrow.Rule.Slice.PartMut.{put_mid}
 use Rattle.bucket.specs.declared.Bucket.{Bucket}
@@ -31,9 +31,6 @@ module _ {n r : ℕ} (t : List ℕ) {b : Bucket} (ht : length t ≡ bucket_words
   solved_is : solved ≡ (front ++ b.sols) ++ drop (n + 1 + r) t
   solved_is =
       rw (marked_is, take_at front (drop (n + 1) t) (n + 1) length_front, drop_at front (drop (n + 1) t) (n + 1) length_front, drop-drop r (n + 1) t, append_assoc front b.sols)
-
-  pub length_marked : length marked ≡ bucket_words n r
-  length_marked = rw marked_is (simp (length-append, length-drop) (omega arith))
 
   -- where the part has the bound, it is stored once the solutions are
   pub written : b.bound ≡ get_or t (n + 1 + r) 0 → solved ≡ words_of b

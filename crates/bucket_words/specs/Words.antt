@@ -1,8 +1,7 @@
 -- A bucket as words, at every number n of rows and r of solution words; document 01, "Layout": columns, mark, solutions, bound.
 -- Assumes nothing.
-use Rattle.std.specs.Prelude.{Bool, cond, List, [], ◌∷◌, ◌++◌, ◌≡◌, ℕ, ◌+◌, length, get_or, take, drop}
+use Rattle.std.specs.Prelude.{Bool, Option, is_some, option_map, unwrap_or, List, [], ◌∷◌, ◌++◌, ◌≡◌, ℕ, ◌+◌, length, get_or, take, drop}
 use Rattle.bucket.specs.declared.Bucket.{Bucket}
-use Rattle.bucket.specs.declared.Tried.{Tried}
 
 -- how many words a bucket has: columns, mark and bound, and the solutions
 abbrev pub bucket_words : ℕ → ℕ → ℕ
@@ -26,6 +25,6 @@ pub record Shaped (n r : ℕ) (b : Bucket) : Type 0 where
   pub sols : length b.sols ≡ r
 
 -- a step on the bucket of the words xs: whether it is done, and the words after it, which stay where it is not
-pub record Stepped (n r : ℕ) (step : Bucket → Tried) (xs : List ℕ) (done : Bool) (after : List ℕ) : Type 0 where
-  pub says : done ≡ (step (bucket_from n r xs)).done
-  pub words : after ≡ cond done (words_of (step (bucket_from n r xs)).bucket) xs
+pub record Stepped (n r : ℕ) (step : Bucket → Option Bucket) (xs : List ℕ) (done : Bool) (after : List ℕ) : Type 0 where
+  pub says : done ≡ is_some (step (bucket_from n r xs))
+  pub words : after ≡ unwrap_or (option_map words_of (step (bucket_from n r xs))) xs

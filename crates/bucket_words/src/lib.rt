@@ -12,34 +12,23 @@ ghost use Rattle.bucket_words.specs.Words.{bucket_words, bound_at, bucket_from, 
 
 use bucket::Bucket;
 
-// The words of `from` into `to`.
+// The words of `from` into `to`. By a loop: `copy_from_slice` calls C's memmove, and the library asks of C only memcpy and memset.
 pub fn put(to: &mut [u64], from: &[u64])
     requires { length to.old ≡ length from.now }
     ensures { to.new ≡ from.now }
 {
-    let mut i: usize = 0;
-    while i < from.len() {
-        to[i] = from[i];
-        i += 1;
+    for (i, x) in to.iter_mut().enumerate() {
+        *x = from[i];
     }
 }
 
-// The columns of a bucket from their words.
-pub fn cols_in(part: &[u64]) -> [u64; Bucket::ROWS]
-    requires { length part.now ≡ rows }
-    ensures { result ≡ part.now }
+// These N words as an array: the columns of a bucket, or its solutions.
+pub fn array_of<const N: usize>(words: &[u64]) -> [u64; N]
+    requires { length words.now ≡ N }
+    ensures { result ≡ words.now }
 {
-    let mut out = [0u64; Bucket::ROWS];
-    put(&mut out, part);
-    out
-}
-
-pub(crate) fn sols_in(part: &[u64]) -> [u64; Bucket::SOLUTIONS]
-    requires { length part.now ≡ solutions }
-    ensures { result ≡ part.now }
-{
-    let mut out = [0u64; Bucket::SOLUTIONS];
-    put(&mut out, part);
+    let mut out = [0; N];
+    put(&mut out, words);
     out
 }
 
@@ -48,19 +37,22 @@ pub fn load(part: &[u64]) -> Bucket
     requires { length part.now ≡ bucket_words rows solutions }
     ensures { result ≡ bucket_from rows solutions part.now }
 {
-    let cols = cols_in(&part[0..Bucket::ROWS]);
-    let sols = sols_in(&part[Bucket::SOLUTIONS_AT..Bucket::BOUND_AT]);
     Bucket {
-        cols,
+        cols: array_of(&part[0..Bucket::ROWS]),
         mark: part[Bucket::MARK_AT],
-        sols,
+        sols: array_of(&part[Bucket::SOLUTIONS_AT..Bucket::BOUND_AT]),
         bound: part[Bucket::BOUND_AT],
     }
 }
 
 // Columns, mark and solutions into a part of a table; the bound stays.
-pub(crate) fn store_step(part: &mut [u64], cols: &[u64], mark: u64, sols: &[u64])
-    requires { (length part.old ≡ bucket_words rows solutions) × ((length cols.now ≡ rows) × (length sols.now ≡ solutions)) }
+pub(crate) fn store_step(
+    part: &mut [u64],
+    cols: &[u64; Bucket::ROWS],
+    mark: u64,
+    sols: &[u64; Bucket::SOLUTIONS],
+)
+    requires { length part.old ≡ bucket_words rows solutions }
     ensures { part.new ≡ words_of (record { cols = cols.now; mark = mark; sols = sols.now; bound = get_or part.old (bound_at rows solutions) 0 }) }
 {
     put(&mut part[0..Bucket::ROWS], cols);
@@ -73,9 +65,7 @@ pub fn store(part: &mut [u64], b: Bucket)
     requires { length part.old ≡ bucket_words rows solutions }
     ensures { part.new ≡ words_of b }
 {
-    let cols = b.cols;
-    let sols = b.sols;
-    store_step(part, &cols, b.mark, &sols);
+    store_step(part, &b.cols, b.mark, &b.sols);
     part[Bucket::BOUND_AT] = b.bound;
 }
 
@@ -85,16 +75,15 @@ pub fn add_by(part: &mut [u64], k: u64, p: u64, plan: u64) -> bool
     ensures { Stepped rows solutions (add rows k plan) part.old result part.new }
 {
     let mark = part[Bucket::MARK_AT];
-    let i = bucket::lowest(p ^ (p & mark));
-    if i < Bucket::ROWS {
-        let cols = cols_in(&part[0..Bucket::ROWS]);
-        let sols = sols_in(&part[Bucket::SOLUTIONS_AT..Bucket::BOUND_AT]);
-        let stepped = bucket::col_step(i, p, cols);
-        let solved = bucket::sol_step(stepped[i], bucket::product_in(&sols, k) ^ plan, sols);
-        store_step(part, &stepped, mark | bits::power(i), &solved);
-        return true;
-    }
-    false
+    let Some(i) = bucket::lowest(p ^ (p & mark)) else {
+        return false;
+    };
+    let cols = array_of(&part[0..Bucket::ROWS]);
+    let sols = array_of(&part[Bucket::SOLUTIONS_AT..Bucket::BOUND_AT]);
+    let stepped = bucket::col_step(i, p, cols);
+    let solved = bucket::sol_step(stepped[i], bucket::product_in(&sols, k) ^ plan, sols);
+    store_step(part, &stepped, mark | bits::power(i), &solved);
+    true
 }
 
 // The withdrawal of k from the bucket of a part of a table: the row freed is the lowest set bit of k's column, and its plan bits are XORed
@@ -104,17 +93,16 @@ pub fn withdraw(part: &mut [u64], k: u64) -> bool
     ensures { Stepped rows solutions (withdraw rows k) part.old result part.new }
 {
     let mark = part[Bucket::MARK_AT];
-    let cols = cols_in(&part[0..Bucket::ROWS]);
+    let cols = array_of(&part[0..Bucket::ROWS]);
     let p = bucket::product(cols, k);
-    let i = bucket::row_by(mark, p);
-    if i < Bucket::ROWS {
-        let j = bucket::lowest(cols[i]);
-        let freed = bits::power(j); // k's product once the columns are exchanged
-        let next = bucket::col_step(j, freed, bucket::exchanged(i, j, cols));
-        let sols = sols_in(&part[Bucket::SOLUTIONS_AT..Bucket::BOUND_AT]);
-        let cleared = bucket::sol_step(next[j], bucket::product_in(&sols, freed), sols);
-        store_step(part, &next, mark ^ (mark & freed), &cleared);
-        return true;
-    }
-    false
+    let Some(i) = bucket::row_by(mark, p) else {
+        return false;
+    };
+    let j = u64::trailing_zeros(cols[i]) as usize; // a live vector's column is not 0
+    let freed = bits::power(j); // k's product once the columns are exchanged
+    let next = bucket::col_step(j, freed, bucket::exchanged(i, j, cols));
+    let sols = array_of(&part[Bucket::SOLUTIONS_AT..Bucket::BOUND_AT]);
+    let cleared = bucket::sol_step(next[j], bucket::product_in(&sols, freed), sols);
+    store_step(part, &next, mark ^ (mark & freed), &cleared);
+    true
 }

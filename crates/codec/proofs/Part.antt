@@ -6,25 +6,11 @@ use Prim.Native.Nat.{ℕ, zero, suc, ◌+◌, ◌≤◌, ◌<◌}
 use native.Mathlib.Nat.{le_of_lt, zero-add, suc-add, not-suc-le-zero}
 use native.Mathlib.Numerals.{add-one}
 use native.Mathlib.Omega.{arith}
-use lib.ListN.{length, get_or, take, drop, set, length-drop, drop_of_length-le}
-use lib.Seq.{length-take-le, take_all, take-nil, take-suc, get_or-take, get_or-drop, take-append_seam, drop_at}
+use lib.ListN.{length, get_or, take, drop, set}
+use lib.Seq.{length-take-le, take-suc, take-append_seam, drop_at}
+use borrow.Rule.Slice.PartMut.{put_mid}
+use Rattle.std.proofs.lemmas.List.{drop-drop}
 use Rattle.codec.specs.Parts.{part_at, written}
-
--- ---- a part
-
-pub length_part : (n a : ℕ) (t : List ℕ) → a + n ≤ length t → length (part_at n a t) ≡ n
-length_part n a t h = length-take-le n (drop a t) (rw length-drop (omega arith))
-
-pub get_d_part : (n a i : ℕ) (t : List ℕ) → i < n → get_or (part_at n a t) i 0 ≡ get_or t (a + i) 0
-get_d_part n a i t h = get_or-take n (drop a t) i 0 h ∙ get_or-drop a t i 0
-
--- no element is left past the end
-pub part-past : (n a : ℕ) (t : List ℕ) → length t ≤ a → part_at n a t ≡ []
-part-past n a t h = rw (drop_of_length-le t h, take-nil n)
-
--- a part that reaches past the end is what is left
-pub part-rest : (n a : ℕ) (t : List ℕ) → length t ≤ a + n → part_at n a t ≡ drop a t
-part-rest n a t h = take_all n (drop a t) (rw length-drop (omega arith))
 
 -- ---- the whole
 
@@ -45,6 +31,12 @@ written-fits zero (x ∷ p) (y ∷ t) h =
     rw (zero-add (suc (length p))) (ap (λ (l : List ℕ). x ∷ l) (written-fits zero p t (omega arith) ∙ rw (zero-add (length p))))
 written-fits (suc a) p [] h = absurd (not-suc-le-zero (rw suc-add at h))
 written-fits (suc a) p (y ∷ t) h = rw (suc-add a (length p)) (ap (λ (l : List ℕ). y ∷ l) (written-fits a p t (omega arith)))
+
+-- the elements of p put in the place of k others
+pub put_written : (a : ℕ) (p t : List ℕ) (k : ℕ) → k ≡ length p → a + k ≤ length t → put_mid a k t p ≡ written a p t
+put_written a p t k e h =
+    let f : a + length p ≤ length t = omega (arith, e) in
+    rw (e, written-fits a p t f, drop-drop)
 
 pub written_none : (a : ℕ) (t : List ℕ) → written a [] t ≡ t
 unfolding written

@@ -3,10 +3,10 @@
 use mathlib.Core.Path.{◌≡◌, refl, sym, ap, ap₂, ◌∙◌}
 use mathlib.Core.List.{List, [], ◌∷◌}
 use Prim.Native.Nat.{ℕ, zero, suc, ◌+◌, ◌*◌, ◌/◌, ◌%◌, ◌^◌, ◌≤◌, ◌<◌, suc-le-suc}
-use native.Mathlib.Nat.{pow-suc, zero-lt-suc}
+use native.Mathlib.Nat.{div-div-eq-div-mul, div-one, pow-suc, zero-lt-suc}
 use native.Mathlib.Omega.{arith}
+use Rattle.std.proofs.Common.{pow-add}
 use lib.ListN.{length, get_or}
-use lib.Seq.{drop-cons}
 use Rattle.codec.specs.Bytes.{from_bytes, to_bytes}
 use Rattle.codec.specs.Parts.{part_at, written}
 use Rattle.codec.proofs.Part.{part_same}
@@ -55,11 +55,15 @@ read_written a n x t fits small =
     ∙ ap from_bytes (part_same a (to_bytes n x) t (rw (length-to_bytes n x) fits))
     ∙ from_to n x small
 
-pub from_none : from_bytes [] ≡ 0
-unfolding from_bytes
-from_none = refl
-
--- the byte at k comes in below those after it
-pub from_next : (n k : ℕ) (t : List ℕ) → k < length t → from_bytes (part_at (suc n) k t) ≡ get_or t k 0 + 256 * from_bytes (part_at n (suc k) t)
-unfolding from_bytes
-from_next n k t h = rw (drop-cons t k 0)
+-- the bytes one by one
+pub to_bytes_each : (n x : ℕ) (s : List ℕ) → length s ≡ n → ((i : ℕ) → i < n → get_or s i 0 ≡ x / 2 ^ (8 * i) % 256) → s ≡ to_bytes n x
+unfolding to_bytes
+to_bytes_each zero x [] e h = refl
+to_bytes_each zero x (b ∷ s) e h = absurd (omega arith)
+to_bytes_each (suc n) x [] e h = absurd (omega arith)
+to_bytes_each (suc n) x (b ∷ s) e h =
+    ap₂ ◌∷◌ (h 0 (omega arith) ∙ rw div-one)
+    (to_bytes_each n (x / 256) s (omega arith) (λ i l. h (suc i) (omega arith) ∙ ap (λ (y : ℕ). y % 256) (deeper i)))
+  where
+    deeper : (i : ℕ) → x / 2 ^ (8 * suc i) ≡ x / 256 / 2 ^ (8 * i)
+    deeper i = let e : 8 * suc i ≡ 8 + 8 * i = omega arith in rw (e, pow-add) (sym (div-div-eq-div-mul x 256 (2 ^ (8 * i))))

@@ -16,8 +16,8 @@ pub fn wrapping_mul(a: u64, b: u64) -> u64
     let a1 = a >> 32;
     let b0 = b % 0x1_0000_0000;
     let b1 = b >> 32;
-    let cross = std::num::wrapping_add_u64(a1 * b0, a0 * b1);
-    std::num::wrapping_add_u64(cross << 32, a0 * b0)
+    let cross = (a1 * b0).wrapping_add(a0 * b1);
+    (cross << 32).wrapping_add(a0 * b0)
 }
 
 // x XOR x >> s.
@@ -38,23 +38,25 @@ fn un_xor_shift(x: u64, s: u64) -> u64
 }
 
 // S(n).
+#[tactic(auto, unfolding(crate::specs::Mix::mix_of))]
 pub fn mix(n: u64) -> u64
     ensures { result ≡ mix_of n }
 {
-    let z1 = std::num::wrapping_add_u64(n, 0x9e37_79b9_7f4a_7c15);
+    let z1 = n.wrapping_add(0x9e37_79b9_7f4a_7c15);
     let z2 = wrapping_mul(xor_shift(z1, 30), 0xbf58_476d_1ce4_e5b9);
     let z3 = wrapping_mul(xor_shift(z2, 27), 0x94d0_49bb_1331_11eb);
     xor_shift(z3, 31)
 }
 
 // The inverse of S.
+#[tactic(auto, unfolding(crate::specs::Mix::unmix_of))]
 pub fn unmix(n: u64) -> u64
     ensures { result ≡ unmix_of n }
 {
     let z3 = un_xor_shift(n, 31);
     let z2 = un_xor_shift(wrapping_mul(z3, 0x3196_42b2_d24d_8ec3), 27);
     let z1 = un_xor_shift(wrapping_mul(z2, 0x96de_1b17_3f11_9089), 30);
-    std::num::wrapping_add_u64(z1, 0x61c8_8646_80b5_83eb)
+    z1.wrapping_add(0x61c8_8646_80b5_83eb)
 }
 
 // One byte of FNV-1a 64, h being the hash of the bytes before it.
@@ -68,14 +70,9 @@ pub fn fnv_step(h: u64, b: u8) -> u64
 pub const FNV_START: u64 = 0xcbf2_9ce4_8422_2325;
 
 // FNV-1a 64 of the bytes.
+#[tactic(auto, unfolding(crate::specs::Fnv::fnv_from))]
 pub fn fnv(bytes: &[u8]) -> u64
     ensures { result ≡ fnv_of bytes.now }
 {
-    let mut h = FNV_START;
-    let mut i = 0;
-    while i < bytes.len() {
-        h = fnv_step(h, bytes[i]);
-        i += 1;
-    }
-    h
+    bytes.iter().fold(FNV_START, |h, b| fnv_step(h, *b))
 }

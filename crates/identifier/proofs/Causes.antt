@@ -10,15 +10,14 @@ use native.Mathlib.Omega.{arith}
 use lib.Dec.{ltb, leb}
 use lib.ListN.{length, get_or}
 use borrow.Author.Tests.{lt-ltb, le-ltb, ltb-true, ltb-false, leb-false, le-leb, lt-leb}
-use Rattle.answer.specs.Numbers.{number_of}
+use Rattle.answer.specs.Numbers.{Answer, cause_number}
 use Rattle.answer.specs.Causes.{Cause, Exactly}
+use Rattle.answer.proofs.Determined.{refused≢accepted}
 use Rattle.answer.proofs.Causes.{One, OneEach, one_value, one_if, Given, exactly}
-use Rattle.answer.specs.declared.Answer.{Answer}
-use Rattle.answer.specs.declared.Answer.TheVariants.{WrongLength, WrongByte, WrongKind}
+use Rattle.answer.specs.declared.Cause.TheVariants.{WrongLength, WrongByte, WrongKind}
 use Rattle.identifier.specs.Identifier.{between, Token, id_bytes, last_kind, is_kind, most_bytes, sized, allowed, word_of, first_refused, read_of}
-use Rattle.identifier.specs.Causes.{wrong_kind, wrong_length, AllowedTo, FirstNotAllowed, wrong_byte, id_causes, word_answer}
-use Rattle.identifier.specs.declared.Read.{Read}
-use Rattle.identifier.specs.declared.Read.TheVariants.{Word, Refused}
+use Rattle.identifier.specs.Causes.{wrong_kind, wrong_length, AllowedTo, FirstNotAllowed, wrong_byte, id_causes}
+use Rattle.std.specs.Prelude.{Ok, Err}
 use Rattle.identifier.proofs.Folding.{by_test}
 
 -- ---- the first byte that is not allowed
@@ -52,10 +51,6 @@ first_one s i j p q =
     clash : (i j : ℕ) → First s i → First s j → i < j → ⊥
     clash i j p q l = true≢false (sym (q.before i l) ∙ p.here (lt_of_lt_of_le l q.within))
 
--- turned down, or a word
-pub refused≢word : (a : Answer) (w : ℕ) → ◌≡◌ {A = Read} (Refused a) (Word w) → ⊥
-refused≢word a w e = let z : ◌≡◌ {A = ℕ} 0 1 = cc in omega arith
-
 -- the number of a cause of an identifier
 abbrev pub OfIdentifier : ℕ → Type 0
 OfIdentifier n = (n ≡ 15) ⊎ ((n ≡ 1) ⊎ (n ≡ 2))
@@ -69,19 +64,19 @@ of_identifier f n a b c (inr (inr e)) = ap f e ∙ c
 -- ---- the four outcomes
 
 module _ (i : Token) where
-  unkind : is_kind i.kind ≡ false → read_of i ≡ Refused WrongKind
+  unkind : is_kind i.kind ≡ false → read_of i ≡ Err WrongKind
   unfolding read_of
   unkind k = rw k
 
-  unsized : is_kind i.kind ≡ true → sized i.stated ≡ false → read_of i ≡ Refused (WrongLength i.stated)
+  unsized : is_kind i.kind ≡ true → sized i.stated ≡ false → read_of i ≡ Err (WrongLength i.stated)
   unfolding read_of
   unsized k e = rw (k, e)
 
-  refused : is_kind i.kind ≡ true → sized i.stated ≡ true → first_refused (id_bytes i) < length (id_bytes i) → read_of i ≡ Refused (WrongByte (first_refused (id_bytes i)))
+  refused : is_kind i.kind ≡ true → sized i.stated ≡ true → first_refused (id_bytes i) < length (id_bytes i) → read_of i ≡ Err (WrongByte (first_refused (id_bytes i)))
   unfolding read_of
   refused k e l = rw (k, e, lt-ltb (first_refused (id_bytes i)) (length (id_bytes i)) l)
 
-  accepted : is_kind i.kind ≡ true → sized i.stated ≡ true → length (id_bytes i) ≤ first_refused (id_bytes i) → read_of i ≡ Word (word_of i)
+  accepted : is_kind i.kind ≡ true → sized i.stated ≡ true → length (id_bytes i) ≤ first_refused (id_bytes i) → read_of i ≡ Ok (word_of i)
   unfolding read_of
   accepted k e l = rw (k, e, le-ltb (first_refused (id_bytes i)) (length (id_bytes i)) l)
 
@@ -96,24 +91,24 @@ module _ (i : Token) where
       m
 
   -- what holds of each refusal by 15, 1 or 2, and of the word, holds of what the identifier is found to be
-  pub by_reading : (P : Read → Type 0) → ((a : Answer) → OfIdentifier (number_of a) → P (Refused a)) → P (Word (word_of i)) → P (read_of i)
+  pub by_reading : (P : Answer → Type 0) → ((c : _) → OfIdentifier (cause_number c) → P (Err c)) → P (Ok (word_of i)) → P (read_of i)
   by_reading P f g =
       outcome (λ k. subst⁻¹ P (unkind k) (f _ (inl refl))) (λ k u. subst⁻¹ P (unsized k u) (f _ (inr (inl refl))))
       (λ k u l. subst⁻¹ P (refused k u l) (f _ (inr (inr refl)))) (λ k u l. subst⁻¹ P (accepted k u l) g)
 
   -- accepted, with the word: kind and number of bytes are right and each byte is allowed
-  pub read_word : (w : ℕ) → (read_of i ≡ Word w) ↔ ((is_kind i.kind ≡ true) × (sized i.stated ≡ true) × AllowedTo (id_bytes i) (length (id_bytes i)) × (w ≡ word_of i))
+  pub read_word : (w : ℕ) → (read_of i ≡ Ok w) ↔ ((is_kind i.kind ≡ true) × (sized i.stated ≡ true) × AllowedTo (id_bytes i) (length (id_bytes i)) × (w ≡ word_of i))
   read_word w = (
     λ e. outcome
-        (λ k. absurd (refused≢word _ w (sym (unkind k) ∙ e)))
-        (λ k u. absurd (refused≢word _ w (sym (unsized k u) ∙ e)))
-        (λ k u l. absurd (refused≢word _ w (sym (refused k u l) ∙ e)))
+        (λ k. absurd (refused≢accepted _ w (sym (unkind k) ∙ e)))
+        (λ k u. absurd (refused≢accepted _ w (sym (unsized k u) ∙ e)))
+        (λ k u l. absurd (refused≢accepted _ w (sym (refused k u l) ∙ e)))
         (λ k u l. let r = accepted k u l in (k, u, λ j h. (first-refused (id_bytes i)).before j (lt_of_lt_of_le h l), cc)),
     λ p.
         let s : List ℕ = id_bytes i in
         let all : First s (length s) = record { within = le_refl (length s); before = p.2; here = λ h. absurd (lt_irrefl (length s) h) } in
         let q : first_refused s ≡ length s = first_one s (first_refused s) (length s) (first-refused s) all in
-        accepted p.0 p.1 (rw q (le_refl (length s))) ∙ ap Word (sym p.3),
+        accepted p.0 p.1 (rw q (le_refl (length s))) ∙ ap Ok (sym p.3),
   )
 
 -- ---- as the first causes of a call
@@ -137,22 +132,22 @@ one_byte s i j p q = first_one s i j (made p) (made q)
 pub one_identifier : (i : Token) (cs : List Cause) (returns : ℕ → Type 0) → OneEach cs returns → OneEach (id_causes i ++ cs) returns
 one_identifier i cs returns o = (one_if 15 _ 0, (one_if 1 _ i.stated, (one_byte (id_bytes i), o)))
 
-module _ (i : Token) {A : Type 0} (answer : A → Answer) (f : Read → A) (refuses : (a : Answer) → answer (f (Refused a)) ≡ a) (cs : List Cause) (returns : ℕ → Type 0) where
+module _ (i : Token) {A : Type 0} (answer : A → Answer) (f : Answer → A) (refuses : (c : _) → answer (f (Err c)) ≡ Err c) (cs : List Cause) (returns : ℕ → Type 0) where
   -- a call that turns down what is no identifier meets causes 15, 1 and 2 first, and those of the word after them
-  pub identifier_given : (read_of i ≡ Word (word_of i) → Given cs returns (answer (f (Word (word_of i))))) → Given (id_causes i ++ cs) returns (answer (f (read_of i)))
+  pub identifier_given : (read_of i ≡ Ok (word_of i) → Given cs returns (answer (f (Ok (word_of i))))) → Given (id_causes i ++ cs) returns (answer (f (read_of i)))
   identifier_given g =
       outcome i
       (λ k. turned (unkind i k) (inl (refl, ((range_exactly last_kind i.kind).0 k, refl))))
       (λ k u. turned (unsized i k u) (inr (known k, inl (refl, ((range_exactly most_bytes i.stated).0 u, refl)))))
       (λ k u l. let h = first-refused (id_bytes i) in turned (refused i k u l) (inr (known k, inr (right u, inl (refl, (l, h.here l, h.before))))))
-      (λ k u l. subst⁻¹ P (ap (λ (x : Read). answer (f x)) (accepted i k u l))
+      (λ k u l. subst⁻¹ P (ap (λ (x : Answer). answer (f x)) (accepted i k u l))
       (inr (known k, inr (right u, inr (λ j p. all l j p, g (accepted i k u l))))))
     where
       P : Answer → Type 0
       P a = Given (id_causes i ++ cs) returns a
 
-      turned : {a : Answer} → read_of i ≡ Refused a → P a → P (answer (f (read_of i)))
-      turned e p = subst⁻¹ P (ap (λ (x : Read). answer (f x)) e ∙ refuses _) p
+      turned : {c : _} → read_of i ≡ Err c → P (Err c) → P (answer (f (read_of i)))
+      turned e p = subst⁻¹ P (ap (λ (x : Answer). answer (f x)) e ∙ refuses _) p
 
       known : is_kind i.kind ≡ true → (v : ℕ) → (wrong_kind i).met v → ⊥
       known k v p = true≢false (sym k ∙ (range_exactly last_kind i.kind).1 p.0)
@@ -164,7 +159,7 @@ module _ (i : Token) {A : Type 0} (answer : A → Answer) (f : Read → A) (refu
       all l j p = true≢false (sym ((first-refused (id_bytes i)).before j (lt_of_lt_of_le p.0 l)) ∙ p.1)
 
 -- reading itself gives each number if and only if its cause is the first met; accepted, it returns the word
-pub read_exactly : (i : Token) → Exactly (id_causes i) (λ v. v ≡ word_of i) (word_answer (read_of i))
+pub read_exactly : (i : Token) → Exactly (id_causes i) (λ v. v ≡ word_of i) (read_of i)
 read_exactly i =
-    exactly (id_causes i) (λ v. v ≡ word_of i) (word_answer (read_of i)) (one_identifier i [] (λ v. v ≡ word_of i) (one_value (word_of i)))
-    (identifier_given i (λ a. a) word_answer (λ a. refl) [] (λ v. v ≡ word_of i) (λ e. (refl, refl)))
+    exactly (id_causes i) (λ v. v ≡ word_of i) (read_of i) (one_identifier i [] (λ v. v ≡ word_of i) (one_value (word_of i)))
+    (identifier_given i (λ a. a) (λ a. a) (λ c. refl) [] (λ v. v ≡ word_of i) (λ e. (refl, refl)))

@@ -10,28 +10,28 @@ use lib.Dec.{ltb, leb-suc-suc}
 use lib.ListN.{length, drop, get_or}
 use lib.Seq.{drop-cons}
 use borrow.Author.Tests.{lt-ltb}
-use Rattle.answer.specs.declared.Answer.TheVariants.{WrongByte}
+use Rattle.answer.specs.Numbers.{Answer}
+use Rattle.answer.specs.declared.Cause.TheVariants.{WrongByte}
 use Rattle.hash.specs.Mix.{mix_of}
 use Rattle.hash.specs.Fnv.{fnv_step, fnv_from, fnv_start}
 use Rattle.identifier.specs.Identifier.{Token, id_bytes, is_kind, sized, allowed, folded, refused_from, fold_of, word_of, first_refused, read_of}
 use Rattle.identifier.specs.Scan.{scan}
-use Rattle.identifier.specs.declared.Read.{Read}
-use Rattle.identifier.specs.declared.Read.TheVariants.{Word, Refused}
+use Rattle.std.specs.Prelude.{Ok, Err}
 use Rattle.identifier.proofs.Folding.{by_test, entry-allowed, entry_refused, entry-low}
 
 -- what a scan of s finds
-abbrev found : ℕ → ℕ → List ℕ → Read
-found i h s = cond (ltb (first_refused s) (length s)) (Refused (WrongByte (i + first_refused s))) (Word (mix_of (fnv_from h (map folded s))))
+abbrev found : ℕ → ℕ → List ℕ → Answer
+found i h s = cond (ltb (first_refused s) (length s)) (Err (WrongByte (i + first_refused s))) (Ok (mix_of (fnv_from h (map folded s))))
 
 scan-next : (i h b : ℕ) (s : List ℕ) → allowed b ≡ true → scan i h (b ∷ s) ≡ scan (suc i) (fnv_step h (folded b)) s
 unfolding scan
 scan-next i h b s e = rw e
 
-scan-here : (i h b : ℕ) (s : List ℕ) → allowed b ≡ false → scan i h (b ∷ s) ≡ Refused (WrongByte i)
+scan-here : (i h b : ℕ) (s : List ℕ) → allowed b ≡ false → scan i h (b ∷ s) ≡ Err (WrongByte i)
 unfolding scan
 scan-here i h b s e = rw e
 
-pub scan-end : (i h : ℕ) → scan i h [] ≡ Word (mix_of h)
+pub scan-end : (i h : ℕ) → scan i h [] ≡ Ok (mix_of h)
 unfolding scan
 scan-end i h = refl
 
@@ -52,7 +52,7 @@ scan_read i k e = scan-found 0 (fnv_step fnv_start i.kind) (id_bytes i) ∙ rw (
 -- ---- one byte, by its entry of the table
 
 module _ (s : List ℕ) (i h : ℕ) (l : i < length s) where
-  pub scan_refused : refused_from ≤ fold_of (get_or s i 0) → scan i h (drop i s) ≡ Refused (WrongByte i)
+  pub scan_refused : refused_from ≤ fold_of (get_or s i 0) → scan i h (drop i s) ≡ Err (WrongByte i)
   scan_refused r =
       let b = get_or s i 0 in
       let e : allowed b ≡ false = by_test (allowed b) (λ a. absurd (omega (arith, entry-low b a))) (λ a. a) in

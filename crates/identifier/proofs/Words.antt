@@ -16,7 +16,7 @@ use Rattle.hash.proofs.FnvOne.{Small, first_byte_one}
 use Rattle.identifier.specs.Identifier.{Token, id_bytes, token, allowed, folded, refused_from, hashed, word_of, last_kind, is_kind, first_refused, read_of, only_case}
 use Rattle.identifier.specs.Causes.{AllowedTo}
 use Rattle.identifier.specs.Place.{second_of, first_of}
-use Rattle.identifier.specs.declared.Read.TheVariants.{Word}
+use Rattle.std.specs.Prelude.{Ok}
 use Rattle.identifier.proofs.Folding.{between_parts, allowed-folded, entry-allowed, entry-low, case_folded}
 use Rattle.identifier.proofs.Causes.{read_word}
 
@@ -63,7 +63,7 @@ kind_small : (k : ℕ) → is_kind k ≡ true → k < 2 ^ 64
 kind_small k e = lt_of_le_of_lt (between_parts 1 last_kind k e).1 (lit< tt)
 
 -- the same letters under two kinds have two words: FNV is one to one in its first byte, and so is S in all
-pub kinds_differ : (i j : Token) (v w : ℕ) → read_of i ≡ Word v → read_of j ≡ Word w → only_case (id_bytes i) (id_bytes j) ≡ true → (i.kind ≡ j.kind → ⊥) → v ≡ w → ⊥
+pub kinds_differ : (i j : Token) (v w : ℕ) → read_of i ≡ Ok v → read_of j ≡ Ok w → only_case (id_bytes i) (id_bytes j) ≡ true → (i.kind ≡ j.kind → ⊥) → v ≡ w → ⊥
 unfolding word_of
 kinds_differ i j v w f g e ne q =
     let p = (read_word i v).0 f in

@@ -2,11 +2,7 @@
 -- Assumes nothing.
 use Rattle.std.specs.Prelude.{ℕ, ◌<◌, ◌≡◌, ◌⊎◌, true, false, List, [], ◌∷◌, length, get_or}
 use Rattle.answer.specs.Causes.{Cause, cause_if}
-use Rattle.answer.specs.declared.Answer.{Answer}
-use Rattle.answer.specs.declared.Answer.TheVariants.{Accepted}
 use Rattle.identifier.specs.Identifier.{Token, id_bytes, allowed, last_kind, most_bytes}
-use Rattle.identifier.specs.declared.Read.{Read}
-use Rattle.identifier.specs.declared.Read.TheVariants.{Word, Refused}
 
 -- document 02, order 4, "kind not 1 to 7, before cause 1"; 0
 abbrev pub wrong_kind : Token → Cause
@@ -31,8 +27,3 @@ wrong_byte i = record { number = 2; met = FirstNotAllowed (id_bytes i) }
 -- an identifier's causes, in their order
 abbrev pub id_causes : Token → List Cause
 id_causes i = wrong_kind i ∷ wrong_length i ∷ wrong_byte i ∷ []
-
--- reading by itself: the word, or the answer that refuses
-abbrev pub word_answer : Read → Answer
-word_answer (Word w) = Accepted w
-word_answer (Refused a) = a

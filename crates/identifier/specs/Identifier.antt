@@ -1,10 +1,9 @@
 -- Document 01's identifier with document 02's order 4: which bytes are allowed, folding, kinds, the word, and the causes 15, 1 and 2; then order 3's 14.
-use Rattle.std.specs.Prelude.{ℕ, suc, ◌+◌, ◌-◌, ◌%◌, Bool, true, false, cond, not, ◌&&◌, ◌||◌, List, [], ◌∷◌, map, leb, ltb, eqb, length, take}
-use Rattle.answer.specs.declared.Answer.TheVariants.{WrongLength, WrongByte, WrongKind, DeskPlanGiven}
+use Rattle.std.specs.Prelude.{ℕ, suc, ◌+◌, ◌-◌, ◌%◌, Bool, true, false, cond, not, ◌&&◌, ◌||◌, List, [], ◌∷◌, map, leb, ltb, eqb, length, take, Ok, Err}
+use Rattle.answer.specs.Numbers.{Answer}
+use Rattle.answer.specs.declared.Cause.TheVariants.{WrongLength, WrongByte, WrongKind, DeskPlanGiven}
 use Rattle.hash.specs.Mix.{mix_of}
 use Rattle.hash.specs.Fnv.{fnv_of}
-use Rattle.identifier.specs.declared.Read.{Read}
-use Rattle.identifier.specs.declared.Read.TheVariants.{Word, Refused}
 
 -- first ≤ b ≤ last
 abbrev pub between : ℕ → ℕ → ℕ → Bool
@@ -91,17 +90,17 @@ first_refused [] = 0
 first_refused (b ∷ bs) = cond (allowed b) (suc (first_refused bs)) 0
 
 -- what an identifier is found to be: cause 15, then 1, then 2, else its word
-unfoldable pub read_of : Token → Read
+unfoldable pub read_of : Token → Answer
 read_of i =
-    cond (not (is_kind i.kind)) (Refused WrongKind)
-    (cond (not (sized i.stated)) (Refused (WrongLength i.stated))
-    (cond (ltb (first_refused (id_bytes i)) (length (id_bytes i))) (Refused (WrongByte (first_refused (id_bytes i))))
-    (Word (word_of i))))
+    cond (not (is_kind i.kind)) (Err WrongKind)
+    (cond (not (sized i.stated)) (Err (WrongLength i.stated))
+    (cond (ltb (first_refused (id_bytes i)) (length (id_bytes i))) (Err (WrongByte (first_refused (id_bytes i))))
+    (Ok (word_of i))))
 
 -- by what an identifier is read as, for a call that gives a plan: the word, where the plan is allowed, else cause 14 (document 02, order 3: "after cause 2")
-abbrev pub with_plan : Bool → Read → Read
-with_plan given (Refused a) = Refused a
-with_plan given (Word w) = cond given (Word w) (Refused DeskPlanGiven)
+abbrev pub with_plan : Bool → Answer → Answer
+with_plan given (Err c) = Err c
+with_plan given (Ok w) = cond given (Ok w) (Err DeskPlanGiven)
 
 -- a and b are equal, or one is a letter a to z and the other its capital
 abbrev pub same_letter : ℕ → ℕ → Bool

@@ -1,4 +1,5 @@
 pub mod Identifier
+pub mod Kinds
 pub mod Place
 pub mod Causes
 pub mod Scan

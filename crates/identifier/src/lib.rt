@@ -1,5 +1,6 @@
 // Identifiers: which kinds and bytes are one, the word of an identifier, and the place of a word at each level.
-// Definitions: specs/Identifier.antt, specs/Place.antt and specs/Causes.antt, in the documents' words; specs/Scan.antt has what one pass finds.
+// Definitions: specs/Identifier.antt, specs/Kinds.antt, specs/Place.antt and specs/Causes.antt, in the documents' words; specs/Scan.antt has what one pass
+// finds.
 // Laws: proofs/Folding.antt (what folding changes), proofs/Causes.antt (each cause is given if and only if it is the first met),
 // proofs/Words.antt (either case of a letter gives the same word, the same letters under two kinds give two, the vector at level 2
 // determines the word).
@@ -7,44 +8,48 @@
 
 mod fold;
 
-ghost use Rattle.std.specs.Prelude.{◌≡◌, ◌≤◌, not, length};
-ghost use Rattle.identifier.specs.Identifier.{between, most_bytes, read_of, with_plan};
+ghost use Rattle.std.specs.Prelude.{◌≡◌, ◌≤◌, length};
+ghost use Rattle.identifier.specs.Identifier.{most_bytes, read_of, with_plan};
+ghost use Rattle.identifier.specs.Kinds.{kind_of};
 ghost use Rattle.identifier.specs.Scan.{scan};
 ghost use Rattle.identifier.specs.Place.{second_of, first_of, place_of, threshold_at, bucket_at};
 
-use answer::Answer;
+use answer::Cause;
 
 // An identifier is 1 to 36 bytes of a kind. Only its word is kept of it.
 #[derive(Clone, Copy)]
 pub struct Identifier {}
 
-// The kinds of identifiers, document 02, order 4.
+// The kinds of identifiers and their numbers, document 02, order 4.
 #[derive(Clone, Copy)]
-pub struct Kind {}
-
-// What bytes that are handed in as an identifier are found to be.
-#[derive(Clone, Copy)]
-pub enum Read {
-    // An identifier: its word.
-    Word(u64),
-    // No identifier: the answer that says why.
-    Refused(Answer),
+pub enum Kind {
+    Central = 1,
+    Emaid = 2,
+    Iso14443 = 3,
+    Iso15693 = 4,
+    KeyCode = 5,
+    Local = 6,
+    MacAddress = 7,
 }
 
-impl Kind {
-    pub const CENTRAL: u8 = 1;
+// The kind of a number, or cause 15.
+impl TryFrom<u8> for Kind {
+    type Error = Cause;
 
-    pub const EMAID: u8 = 2;
+    ghost try_from_gives = { λ n r. r ≡ kind_of n };
 
-    pub const ISO14443: u8 = 3;
-
-    pub const ISO15693: u8 = 4;
-
-    pub const KEY_CODE: u8 = 5;
-
-    pub const LOCAL: u8 = 6;
-
-    pub const MAC_ADDRESS: u8 = 7;
+    fn try_from(n: u8) -> Result<Kind, Cause> {
+        match n {
+            1 => Ok(Kind::Central),
+            2 => Ok(Kind::Emaid),
+            3 => Ok(Kind::Iso14443),
+            4 => Ok(Kind::Iso15693),
+            5 => Ok(Kind::KeyCode),
+            6 => Ok(Kind::Local),
+            7 => Ok(Kind::MacAddress),
+            _ => Err(Cause::WrongKind),
+        }
+    }
 }
 
 impl Identifier {
@@ -54,63 +59,43 @@ impl Identifier {
     pub const THRESHOLDS: u64 = 8;
 
     // The word of the first n bytes as an identifier of this kind, or the cause for which they are turned down.
-    pub fn read(kind: u8, n: usize, s: &[u8]) -> Read
+    pub fn read(kind: u8, n: usize, s: &[u8]) -> Result<u64, Cause>
         requires { n ≤ most_bytes → n ≤ length s.now }
         ensures { result ≡ read_of (record { kind = kind; stated = n; bytes = s.now }) }
     {
-        if out_of_range(kind as u64, Kind::MAC_ADDRESS as u64) {
-            return Read::Refused(Answer::WrongKind);
-        }
-        if out_of_range(n as u64, Identifier::MAX_LEN as u64) {
-            return Read::Refused(Answer::WrongLength(n as u64));
+        Kind::try_from(kind)?;
+        if n == 0 || Identifier::MAX_LEN < n {
+            return Err(Cause::WrongLength(n as u64));
         }
         read_bytes(hash::fnv_step(hash::FNV_START, kind), &s[..n])
     }
 }
 
-// n is not 1 to last.
-fn out_of_range(n: u64, last: u64) -> bool
-    ensures { result ≡ not (between 1 last n) }
-{
-    if n < 1 {
-        return true;
-    }
-    if last < n {
-        return true;
-    }
-    false
-}
-
 // The word of the bytes of an identifier, start being the hash of its kind, or the index of the first byte that is not allowed. One pass;
 // the table of bytes is made once.
-fn read_bytes(start: u64, s: &[u8]) -> Read
+fn read_bytes(start: u64, s: &[u8]) -> Result<u64, Cause>
     ensures { result ≡ scan 0 start s.now }
 {
-    let n = s.len();
     let table = fold::table();
     let mut h = start;
-    let mut i = 0;
-    while i < n {
-        let b = table[s[i] as usize];
-        if fold::REFUSED <= b {
-            return Read::Refused(Answer::WrongByte(i as u64));
+    for (i, b) in s.iter().enumerate() {
+        let folded = table[*b as usize];
+        if fold::REFUSED <= folded {
+            return Err(Cause::WrongByte(i as u64));
         }
-        h = hash::fnv_step(h, b);
-        i += 1;
+        h = hash::fnv_step(h, folded);
     }
-    Read::Word(hash::mix(h))
+    Ok(hash::mix(h))
 }
 
 // What was read, for a call that gives a plan: cause 14, after those of the identifier, where the plan may not be given.
-pub fn with_plan(read: Read, allowed: bool) -> Read
+pub fn with_plan(read: Result<u64, Cause>, allowed: bool) -> Result<u64, Cause>
     ensures { result ≡ with_plan allowed read }
 {
     if allowed {
-        return read;
-    }
-    match read {
-        Read::Word(_) => Read::Refused(Answer::DeskPlanGiven),
-        Read::Refused(_) => read,
+        read
+    } else {
+        read.and(Err(Cause::DeskPlanGiven))
     }
 }
 

@@ -1,8 +1,7 @@
 -- What an entry for other languages does: the number of the answer is returned, and what goes with it is left in *value.
 -- Assumes nothing.
 use Rattle.std.specs.Prelude.{ℕ, ◌≡◌, List}
-use Rattle.answer.specs.declared.Answer.{Answer}
-use Rattle.answer.specs.Numbers.{number_of, value_of}
+use Rattle.answer.specs.Numbers.{Answer, number_of, value_of}
 use Rattle.table.specs.Calls.{Outcome}
 use Rattle.plane_write.specs.Write.{Written}
 

@@ -11,14 +11,23 @@ ghost use Rattle.plane_write.specs.Write.{write_call};
 ghost use Rattle.patch.specs.Calls.{make_call, apply_call};
 ghost use Rattle.limgoshi.specs.Entry.{Gives, GivesTable, GivesOutput};
 
+use answer::Answer;
+
+// The number of an answer; what is returned with it goes into `value`. The entries differ by what C hands in, and share this.
+fn give(a: Answer, value: &mut u64) -> u64
+    ensures { Gives a result value.new }
+{
+    *value = answer::value(a);
+    answer::number(a)
+}
+
 // Opens an empty table with b1 and b2 buckets.
 #[unsafe(no_mangle)]
 pub extern "C" fn limgoshi_open(t: &mut [u64], b1: u64, b2: u64, value: &mut u64) -> u64
     ensures { GivesTable (open_call b1 b2 t.old) result value.new t.new }
 {
     let opened = table_open::open(t, b1, b2);
-    *value = answer::value(opened);
-    answer::number(opened)
+    give(opened, value)
 }
 
 // Adds an identifier with its plan.
@@ -27,8 +36,7 @@ pub extern "C" fn limgoshi_add(t: &mut [u64], kind: u8, id: &[u8], plan: u8, val
     ensures { GivesTable (call t.old (add (token kind id.now) plan)) result value.new t.new }
 {
     let added = table_add::add(t, kind, id, plan);
-    *value = answer::value(added);
-    answer::number(added)
+    give(added, value)
 }
 
 // The plan of a live identifier.
@@ -37,8 +45,7 @@ pub extern "C" fn limgoshi_query(t: &[u64], kind: u8, id: &[u8], value: &mut u64
     ensures { GivesTable (call t.now (query (token kind id.now))) result value.new t.now }
 {
     let found = table_calls::query(t, kind, id);
-    *value = answer::value(found);
-    answer::number(found)
+    give(found, value)
 }
 
 // Changes the plan of a live identifier.
@@ -53,8 +60,7 @@ pub extern "C" fn limgoshi_change(
     ensures { GivesTable (call t.old (change (token kind id.now) plan)) result value.new t.new }
 {
     let changed = table_calls::change(t, kind, id, plan);
-    *value = answer::value(changed);
-    answer::number(changed)
+    give(changed, value)
 }
 
 // Withdraws a live identifier.
@@ -63,8 +69,7 @@ pub extern "C" fn limgoshi_withdraw(t: &mut [u64], kind: u8, id: &[u8], value: &
     ensures { GivesTable (call t.old (withdraw (token kind id.now))) result value.new t.new }
 {
     let withdrawn = table_calls::withdraw(t, kind, id);
-    *value = answer::value(withdrawn);
-    answer::number(withdrawn)
+    give(withdrawn, value)
 }
 
 // The number of live identifiers with a plan, as the table has it.
@@ -73,8 +78,7 @@ pub extern "C" fn limgoshi_plan_total(t: &[u64], plan: u8, value: &mut u64) -> u
     ensures { Gives (total_call t.now plan) result value.new }
 {
     let total = table_calls::plan_total(t, plan);
-    *value = answer::value(total);
-    answer::number(total)
+    give(total, value)
 }
 
 // Writes the plane of a table to the front of the output.
@@ -83,8 +87,7 @@ pub extern "C" fn limgoshi_write_plane(t: &[u64], out: &mut [u8], value: &mut u6
     ensures { GivesOutput (write_call t.now out.old) result value.new out.new }
 {
     let written = plane_write::write(t, out);
-    *value = answer::value(written);
-    answer::number(written)
+    give(written, value)
 }
 
 // The plan that a plane gives an identifier.
@@ -93,8 +96,7 @@ pub extern "C" fn limgoshi_plane_lookup(kind: u8, id: &[u8], plane: &[u8], value
     ensures { Gives (lookup_call (token kind id.now) plane.now) result value.new }
 {
     let looked_up = plane_lookup::lookup(kind, id, plane);
-    *value = answer::value(looked_up);
-    answer::number(looked_up)
+    give(looked_up, value)
 }
 
 // Makes the patch from an old plane to a new one, to the front of the output.
@@ -108,8 +110,7 @@ pub extern "C" fn limgoshi_make_patch(
     ensures { GivesOutput (make_call old.now new.now out.old) result value.new out.new }
 {
     let made = patch_make::make(old, new, out);
-    *value = answer::value(made);
-    answer::number(made)
+    give(made, value)
 }
 
 // Applies a patch to the plane that it was made for: the new plane, to the front of the output.
@@ -123,6 +124,5 @@ pub extern "C" fn limgoshi_apply_patch(
     ensures { GivesOutput (apply_call old.now patch.now out.old) result value.new out.new }
 {
     let applied = patch_apply::apply(old, patch, out);
-    *value = answer::value(applied);
-    answer::number(applied)
+    give(applied, value)
 }

@@ -4,39 +4,26 @@
 // stdin and stdout are document 01's session; `runs/` at the root has the edges.
 #![tactic(auto)]
 
-ghost use Rattle.std.specs.Prelude.{◌≡◌, length};
+ghost use Rattle.std.specs.Prelude.{◌≡◌, ◌≤◌, length, IfOk};
 ghost use Rattle.lines_run.specs.declared.TheConstants.{INPUT_LIMIT, MOST_OUTPUT};
-ghost use Rattle.lines.specs.Input.{Within};
 
 use std::io;
 use std::io::{Read, Write};
 
-// What was read.
-#[derive(Drop)]
-enum Input {
-    // As many bytes, at the start of the buffer.
-    Bytes(usize),
-    Failed,
-}
-
-// Reads until the buffer is full or the input ends.
-fn read_input(rt: &HostRuntime, buffer: &mut [u8]) -> Input
-    ensures { Within (length buffer.new) result }
+// Reads until the buffer is full or the input ends: the number of bytes. By a loop: `read_exact` takes an input that ends before for an error.
+fn read_input(rt: &HostRuntime, buffer: &mut [u8]) -> io::Result<usize>
+    ensures { IfOk result (λ n. n ≤ length buffer.new) }
 {
     let mut stdin = rt.stdin();
-    let mut n: usize = 0;
+    let mut n = 0;
     while n < buffer.len() {
-        match stdin.read(&mut buffer[n..]) {
-            Ok(more) => {
-                if more == 0 {
-                    return Input::Bytes(n);
-                }
-                n += more;
-            }
-            Err(_) => return Input::Failed,
+        let more = stdin.read(&mut buffer[n..])?;
+        if more == 0 {
+            break;
         }
+        n += more;
     }
-    Input::Bytes(n)
+    Ok(n)
 }
 
 // Zeros for the bytes of the input that count.
@@ -67,10 +54,9 @@ fn write_output(rt: &HostRuntime, input: &[u8]) -> io::Result<()> {
 
 fn main(rt: HostRuntime) -> io::Result<()> {
     let mut buffer = input_buffer();
-    let read = read_input(&rt, &mut buffer);
-    match read {
-        Input::Bytes(n) => write_output(&rt, &buffer[..n]),
-        Input::Failed => rt
+    match read_input(&rt, &mut buffer) {
+        Ok(n) => write_output(&rt, &buffer[..n]),
+        Err(_) => rt
             .stderr()
             .write_all(b"limgoshi: standard input could not be read\n"),
     }

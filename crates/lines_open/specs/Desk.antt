@@ -1,8 +1,7 @@
 -- What takes openings and calls, and what a command does; document 01, "The line program".
 -- Assumes nothing.
-use Rattle.std.specs.Prelude.{ℕ, cond, List, replicate}
-use Rattle.std.proofs.Math.Option.{Option, none, some}
-use Rattle.answer.specs.declared.Answer.{Answer}
+use Rattle.std.specs.Prelude.{ℕ, cond, List, replicate, Option, None, Some}
+use Rattle.answer.specs.Numbers.{Answer}
 use Rattle.identifier.specs.Identifier.{Token}
 use Rattle.model.specs.Model.{Call}
 use Rattle.model.specs.Machine.{Machine, accepted}
@@ -29,9 +28,9 @@ module _ {T : Type 0} (D : Desk T) where
 
   -- what a command does. An accepted opening starts afresh, a refused one keeps what was
   abbrev pub obey : Option T → Command → Turn T
-  obey m (opening b1 b2) = record { output = printed (D.answer b1 b2); state = cond (accepted (D.answer b1 b2)) (some (D.opened b1 b2)) m }
-  obey none (ask c) = refuse none
-  obey (some t) (ask c) = record { output = printed (D.calls.answer t c); state = some (D.calls.next t c) }
+  obey m (opening b1 b2) = record { output = printed (D.answer b1 b2); state = cond (accepted (D.answer b1 b2)) (Some (D.opened b1 b2)) m }
+  obey None (ask c) = refuse None
+  obey (Some t) (ask c) = record { output = printed (D.calls.answer t c); state = Some (D.calls.next t c) }
   obey m bad = refuse m
 
 -- the table. An opening gets one of the length that its numbers give

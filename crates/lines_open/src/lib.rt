@@ -3,43 +3,42 @@
 // does at a line). proofs/Opening.antt has what an opening leaves there.
 #![tactic(auto)]
 
-ghost use Rattle.std.specs.Prelude.{◌≡◌, ◌^◌, ◌≤◌, ◌<◌, length};
+ghost use Rattle.std.specs.Prelude.{◌≡◌, None, Some};
 ghost use Rattle.lines_text.specs.Line.{opening};
 ghost use Rattle.lines_open.specs.Desk.{obey, tables};
-ghost use Rattle.lines_open.specs.Buffer.{held_in, Did};
+ghost use Rattle.lines_open.specs.Buffer.{held_in, Fits, Did};
 
-use answer::Answer;
+use answer::{Answer, Cause};
 use table_layout::Table;
 
-// How far a run has come: the length of the table that is open, 0 if none is, and the number of bytes printed.
-#[derive(Clone, Copy)]
-pub struct Progress {
-    pub held: usize,
-    pub printed: usize,
+// A buffer for the longest table, and how many numbers the one that is open has. `Fits` is no ghost field: a field beside one cannot be lent.
+#[derive(Drop)]
+pub struct Buffer {
+    pub numbers: [u64; Table::LONGEST],
+    pub held: Option<usize>,
 }
 
-// `open`, in a buffer for the longest table.
-pub fn open_line(
-    t: &mut [u64],
-    held: usize,
-    b1: u64,
-    b2: u64,
-    out: &mut [u8],
-    at: usize,
-) -> Progress
-    requires { (length t.old ≡ Table.LONGEST) × (at < 2 ^ 31) × (held ≤ length t.old) }
-    ensures { Did (obey tables (held_in held t.old) (opening b1 b2)) at t.old out.old result t.new out.new }
-{
-    if table_layout::in_range(b1, b2) {
-        let n = table_layout::length_of(b1, b2);
-        let a = table_open::open(&mut t[..n], b1, b2);
-        return Progress {
-            held: n,
-            printed: lines_text::put_answer(out, at, a),
-        };
+impl Buffer {
+    // No table is open.
+    pub fn new() -> Self
+        ensures { result.held ≡ None }
+    {
+        Buffer {
+            numbers: [0; Table::LONGEST],
+            held: None,
+        }
     }
-    Progress {
-        held,
-        printed: lines_text::put_answer(out, at, Answer::WrongBuckets),
+
+    // `open`.
+    pub fn open_line(&mut self, b1: u64, b2: u64) -> Answer
+        requires { Fits self.old }
+        ensures { Did (obey tables (held_in self.old) (opening b1 b2)) self.old (Some result) self.new }
+    {
+        if table_layout::in_range(b1, b2) {
+            let n = table_layout::length_of(b1, b2);
+            self.held = Some(n);
+            return table_open::open(&mut self.numbers[..n], b1, b2);
+        }
+        Err(Cause::WrongBuckets)
     }
 }

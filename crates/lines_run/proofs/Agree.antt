@@ -2,7 +2,7 @@
 -- Assumes nothing.
 use mathlib.Core.Path.{◌≡◌, refl, ap, ap₂}
 use mathlib.Core.List.{List, [], ◌∷◌, ◌++◌}
-use mathlib.Core.Option.{Option, none, some}
+use Rattle.std.specs.Prelude.{Option, None, Some}
 use Prim.Native.Nat.{ℕ, suc}
 use lib.Dec.{leb}
 use lib.ListN.{length}
@@ -27,20 +27,20 @@ use Rattle.lines_run.specs.Run.{counted, line_limit, turn, output_from, output_o
 
 -- either nothing is open, or the table stands for the state
 abbrev pub BothStand : Option (List ℕ) → Option State → Type 0
-BothStand none none = Unit {0}
-BothStand none (some s) = ⊥
-BothStand (some t) none = ⊥
-BothStand (some t) (some s) = FlatStands t s
+BothStand None None = Unit {0}
+BothStand None (Some s) = ⊥
+BothStand (Some t) None = ⊥
+BothStand (Some t) (Some s) = FlatStands t s
 
 -- the same is printed, and what is open stands again
 abbrev pub SameTurn : Turn (List ℕ) → Turn State → Type 0
 SameTurn x y = (x.output ≡ y.output) × BothStand x.state y.state
 
 ask_same : (m : Option (List ℕ)) (k : Option State) → BothStand m k → (c : Call Token) → SameTurn (obey tables m (ask c)) (obey states k (ask c))
-ask_same none none h c = (refl, tt)
-ask_same none (some s) h c = absurd h
-ask_same (some t) none h c = absurd h
-ask_same (some t) (some s) h c = (ap printed (refines.says t s (R.ask c) h), refines.goes t s (R.ask c) h)
+ask_same None None h c = (refl, tt)
+ask_same None (Some s) h c = absurd h
+ask_same (Some t) None h c = absurd h
+ask_same (Some t) (Some s) h c = (ap printed (refines.says t s (R.ask c) h), refines.goes t s (R.ask c) h)
 
 pub obey-same : (m : Option (List ℕ)) (k : Option State) → BothStand m k → (c : Command) → SameTurn (obey tables m c) (obey states k c)
 obey-same m k h (opening b1 b2) =
@@ -67,23 +67,23 @@ from-same m k h (s ∷ r ∷ rs) =
 -- "so statement 3 covers what the program answers"
 pub as_model : (s : List ℕ) → output s ≡ output_of states s
 unfolding output
-as_model s = from-same none none tt (parted lf (counted s))
+as_model s = from-same None None tt (parted lf (counted s))
 
 -- ---- the table is sound at each line
 
 state_of : Option (List ℕ) → Option State
-state_of none = none
-state_of (some t) = some (flat_state t)
+state_of None = None
+state_of (Some t) = Some (flat_state t)
 
 ready_both : (m : Option (List ℕ)) → AllReady m → BothStand m (state_of m)
 unfolding state_of
-ready_both none h = tt
-ready_both (some t) h = sound_stands t h.shape h.sound
+ready_both None h = tt
+ready_both (Some t) h = sound_stands t h.shape h.sound
 
 both_ready : (m : Option (List ℕ)) (k : Option State) → BothStand m k → AllReady m
-both_ready none k h = tt
-both_ready (some t) none h = absurd h
-both_ready (some t) (some s) h = let r = stands_sound t s h in record { shape = r.0; sound = r.2 }
+both_ready None k h = tt
+both_ready (Some t) None h = absurd h
+both_ready (Some t) (Some s) h = let r = stands_sound t s h in record { shape = r.0; sound = r.2 }
 
 pub ready_next : (m : Option (List ℕ)) → AllReady m → (s : List ℕ) → AllReady (turn tables m s).state
 ready_next m h s = both_ready (turn tables m s).state (turn states (state_of m) s).state (turn-same m (state_of m) (ready_both m h) s).1

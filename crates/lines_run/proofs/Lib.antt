@@ -2,5 +2,4 @@ pub mod Lines
 pub mod Agree
 pub mod Session
 pub mod Asked
-pub mod Turns
 pub mod Running

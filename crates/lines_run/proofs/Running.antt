@@ -1,96 +1,91 @@
 -- A run at the start of a line: what is printed, and what the lines from there on add to it.
 -- Assumes nothing.
-use mathlib.Core.Path.{◌≡◌, refl, sym, ap, ◌∙◌, subst⁻¹}
-use mathlib.Core.List.{List, ◌++◌}
-use mathlib.Core.Option.{Option, none}
-use Prim.Native.Nat.{ℕ, ◌+◌, ◌*◌, ◌≤◌, ◌<◌}
-use native.Mathlib.Nat.{zero-add}
-use native.Mathlib.Omega.{arith}
-use lib.ListN.{length, drop, length-append, length-take}
+use Rattle.std.proofs.Common.{◌≡◌, ℕ, ◌+◌, ◌*◌, ◌≤◌, List, [], ◌∷◌, ◌++◌, length, min, take, leb, sym, ap, ◌∙◌, subst, arith, length-append}
+use lib.ListN.{length-take}
+use lib.Seq.{take_all}
+use borrow.Author.Tests.{leb-true, leb-false}
+use Rattle.lists.proofs.Tests.{cases}
+use Rattle.std.specs.Prelude.{Option, None}
+use Rattle.answer.specs.Numbers.{Answer}
 use Rattle.codec.specs.Parts.{written}
 use Rattle.codec.proofs.Part.{written-append, written_none}
-use Rattle.table.specs.Layout.{longest}
-use Rattle.table.specs.Calls.{rows, solutions}
-use Rattle.lines_text.specs.Line.{lf, place_of, parted}
-use Rattle.lines_text.specs.Parsed.{between}
+use Rattle.lines_text.specs.Line.{lf, parted}
 use Rattle.lines_text.specs.Printed.{most_printed, bad_line}
-use Rattle.lines_open.specs.declared.Progress.{Progress}
+use Rattle.lines_open.specs.declared.Buffer.{Buffer}
 use Rattle.lines_open.specs.Desk.{tables}
-use Rattle.lines_open.specs.Buffer.{held_in, Did}
+use Rattle.lines_open.specs.Buffer.{held_in, said, Did}
 use Rattle.lines_run.specs.Run.{input_limit, counted, turn, output_from, output}
 use Rattle.lines_run.specs.Buffer.{AllReady, Holds, Printed}
 use Rattle.lines_run.proofs.Agree.{ready_next}
 use Rattle.lines_run.proofs.Lines.{turn_most, from_line, from-unfinished, from_end}
 
--- what the lines of s from index i on print, if m is open
-abbrev rest : List ℕ → Option (List ℕ) → ℕ → List ℕ
-rest s m i = output_from tables m (parted lf (drop i s))
+-- what the lines of s print, if m is open
+abbrev pub lines_from : Option (List ℕ) → List ℕ → List ℕ
+lines_from m s = output_from tables m (parted lf s)
 
--- at the line of s that is from index start to before end: o are the bytes, o₀ were those at first
-pub record Running (s o₀ t o : List ℕ) (held at start end : ℕ) : Type 0 where
-  pub long : length t ≡ longest rows solutions
+-- at the start of the lines `rest` of s: at is the number of bytes printed, o are the bytes, o₀ were those at first
+pub record Running (s o₀ : List ℕ) (b : Buffer) (o : List ℕ) (at : ℕ) (rest : List ℕ) : Type 0 where
   pub wide : length o ≡ length o₀
-  pub holds : Holds held t
-  pub starts : start ≤ length s
-  pub ends : end ≡ start + place_of lf (drop start s)
-  pub few : at ≤ most_printed * start
-  pub count : at + length (rest s (held_in held t) start) ≡ length (rest s none 0)
-  pub bytes : written at (rest s (held_in held t) start) o ≡ written 0 (rest s none 0) o₀
+  pub holds : Holds b
+  pub left : length rest ≤ length s
+  pub few : at + most_printed * length rest ≤ most_printed * length s
+  pub count : at + length (lines_from (held_in b) rest) ≡ length (lines_from None s)
+  pub bytes : written at (lines_from (held_in b) rest) o ≡ written 0 (lines_from None s) o₀
 
-pub running_first : (s t o : List ℕ) (end : ℕ) → length t ≡ longest rows solutions → end ≡ 0 + place_of lf (drop 0 s) → Running s o t o 0 0 0 end
-running_first s t o end l e = record { long = l; wide = refl; holds = record { fits = omega arith; ready = tt }; starts = omega arith; ends = e; few = omega arith; count = zero-add (length (rest s none 0)); bytes = refl }
-
-module _ (s o₀ t o : List ℕ) (held at start end : ℕ) (h : Running s o₀ t o held at start end) where
+module _ (s o₀ : List ℕ) (b : Buffer) (o : List ℕ) (at : ℕ) (rest : List ℕ) (h : Running s o₀ b o at rest) where
   -- one line further
-  module _ (k : end < length s) (p : Progress) (t' o' : List ℕ) (d : Did (turn tables (held_in held t) (between start end s)) at t o p t' o') where
-    more : rest s (held_in held t) start ≡ (turn tables (held_in held t) (between start end s)).output ++ rest s (held_in p.held t') (end + 1)
-    more = from_line tables (held_in held t) s start end h.ends k ∙ ap (λ m. (turn tables (held_in held t) (between start end s)).output ++ rest s m (end + 1)) (sym d.state)
+  module _ (line after : List ℕ) (e : parted lf rest ≡ line ∷ parted lf after) (l : length line + 1 + length after ≡ length rest)
+      (b' : Buffer) (a : Option Answer) (d : Did (turn tables (held_in b) line) b a b') where
+    more : lines_from (held_in b) rest ≡ said a ++ lines_from (held_in b') after
+    more = from_line tables (held_in b) rest line after e ∙ rw (d.output, d.state)
 
-    pub running_next : length t' ≡ length t → length o' ≡ length o → (e : ℕ) → e ≡ (end + 1) + place_of lf (drop (end + 1) s) → Running s o₀ t' o' p.held p.printed (end + 1) e
-    running_next l m e f =
-        let w = (turn tables (held_in held t) (between start end s)).output in
-        let r = rest s (held_in p.held t') (end + 1) in
+    said_most : length (said a) ≤ most_printed
+    said_most = rw d.output (turn_most tables (held_in b) line)
+
+    pub running_next : (at' : ℕ) (o' : List ℕ) → length o' ≡ length o → (at' ≡ at + length (said a)) × (o' ≡ written at (said a) o) → Running s o₀ b' o' at' after
+    running_next at' o' w p = record {
+      wide = w ∙ h.wide;
+      holds = record { fits = d.fits; ready = subst AllReady (sym d.state) (ready_next (held_in b) h.holds.ready line) };
+      left = let q = h.left in omega arith;
+      few = let q = h.few in let n = said_most in let k = p.0 in omega arith;
+      count = let q = h.count in let k = p.0 in let n : length (lines_from (held_in b) rest) ≡ length (said a) + length (lines_from (held_in b') after) = ap length more ∙ length-append (said a) (lines_from (held_in b') after) in omega arith;
+      bytes = rw (p.1, p.0) (sym (written-append at (said a) (lines_from (held_in b') after) o) ∙ ap (λ (r : List ℕ). written at r o) (sym more) ∙ h.bytes);
+    }
+
+  module _ (e : parted lf rest ≡ rest ∷ []) where
+    -- a last line without LF
+    pub running_bad : (length rest ≡ 0 → ⊥) → (k : ℕ) (o' : List ℕ) → (k ≡ at + length bad_line) × (o' ≡ written at bad_line o)
+        → Printed (lines_from None s) (most_printed * length s) o₀ k o'
+    running_bad i k o' p =
+        let u = from-unfinished tables (held_in b) rest i e in
         record {
-          long = l ∙ h.long;
-          wide = m ∙ h.wide;
-          holds = record { fits = d.fits; ready = subst⁻¹ AllReady d.state (ready_next (held_in held t) h.holds.ready (between start end s)) };
-          starts = omega arith;
-          ends = f;
-          few = let n = turn_most tables (held_in held t) (between start end s) in let q = d.ends in let a = h.few in let b = h.ends in omega arith;
-          count = let c = h.count in let q = d.ends in let b : length (rest s (held_in held t) start) ≡ length w + length r = ap length more ∙ length-append w r in omega arith;
-          bytes = rw (d.output, d.ends) (sym (written-append at w r o) ∙ ap (λ (l : List ℕ). written at l o) (sym more) ∙ h.bytes);
+          count = let c = h.count in let n = ap length u in let q = p.0 in omega arith;
+          bytes = p.1 ∙ ap (λ (r : List ℕ). written at r o) (sym u) ∙ h.bytes;
+          fits = let f = h.few in let q = p.0 in omega arith;
         }
 
-  -- a last line without LF
-  pub running_bad : length s ≤ end → start < length s → (k : ℕ) (o' : List ℕ) → (k ≡ at + length bad_line) × (o' ≡ written at bad_line o)
-      → Printed (rest s none 0) (most_printed * length s) o₀ k o'
-  running_bad l i k o' p =
-      let e = from-unfinished tables (held_in held t) s start end h.ends i l in
-      record {
-        count = let c = h.count in let b = ap length e in let q = p.0 in omega arith;
-        bytes = p.1 ∙ ap (λ (r : List ℕ). written at r o) (sym e) ∙ h.bytes;
-        fits = let f = h.few in let q = p.0 in omega arith;
-      }
+    pub running_end : length rest ≡ 0 → Printed (lines_from None s) (most_printed * length s) o₀ at o
+    running_end i =
+        let u = from_end tables (held_in b) rest i e in
+        record {
+          count = let c = h.count in let n = ap length u in omega arith;
+          bytes = sym (written_none at o) ∙ ap (λ (r : List ℕ). written at r o) (sym u) ∙ h.bytes;
+          fits = let f = h.few in omega arith;
+        }
 
-  pub running_end : length s ≤ start → Printed (rest s none 0) (most_printed * length s) o₀ at o
-  running_end l =
-      let e = from_end tables (held_in held t) s start l in
-      record {
-        count = let c = h.count in let b = ap length e in omega arith;
-        bytes = sym (written_none at o) ∙ ap (λ (r : List ℕ). written at r o) (sym e) ∙ h.bytes;
-        fits = let f = h.few in let q = h.starts in omega arith;
-      }
-
--- the bytes that count are not more than the limit
-pub counted_most : (s : List ℕ) → length (counted s) ≤ input_limit
-counted_most s = rw length-take (omega arith)
+-- the bytes that count
+pub counted_is : (s : List ℕ) (k : ℕ) → k ≡ min (length s) input_limit → take k s ≡ counted s
+counted_is s k e =
+    cases (leb (length s) input_limit)
+    (λ t. let l = leb-true _ _ t in take_all k s (omega arith) ∙ sym (take_all input_limit s (omega arith)))
+    (λ t. let l = leb-false _ _ t in let n : k ≡ input_limit = omega arith in rw n)
 
 -- x are the bytes of the input s that count
-pub run-printed : (s x : List ℕ) → x ≡ counted s → (o o' : List ℕ) (k : ℕ) → Printed (output_from tables none (parted lf x)) (most_printed * length x) o k o'
+pub run-printed : (s x : List ℕ) → x ≡ counted s → (o o' : List ℕ) (k : ℕ) → Printed (lines_from None x) (most_printed * length x) o k o'
     → Printed (output s) (most_printed * length (counted s)) o k o'
 unfolding output
 run-printed s x e o o' k p = rw (← e) p
 
 -- the longest output of all
 pub run_most : (s : List ℕ) (k : ℕ) → k ≤ most_printed * length (counted s) → k ≤ most_printed * input_limit
-run_most s k h = omega (arith, counted_most s)
+run_most s k h = let l : length (counted s) ≤ input_limit = rw length-take (omega arith) in omega arith

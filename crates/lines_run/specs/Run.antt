@@ -1,8 +1,7 @@
 -- What the line program prints for an input; document 01, "The line program".
 -- Assumes nothing.
-use Rattle.std.specs.Prelude.{ℕ, suc, cond, List, [], ◌∷◌, ◌++◌, leb, length, take}
-use Rattle.std.proofs.Math.Option.{Option, none}
-use Rattle.answer.specs.declared.Answer.TheVariants.{Accepted, WrongBuckets}
+use Rattle.std.specs.Prelude.{ℕ, suc, cond, List, [], ◌∷◌, ◌++◌, leb, length, take, Option, None, Ok, Err}
+use Rattle.answer.specs.declared.Cause.TheVariants.{WrongBuckets}
 use Rattle.model.specs.Model as M
 use Rattle.model.specs.Model.{State}
 use Rattle.model.specs.Request.{serve}
@@ -41,7 +40,7 @@ module _ {T : Type 0} (D : Desk T) where
 
   -- what is printed for an input
   abbrev pub output_of : List ℕ → List ℕ
-  output_of s = output_from none (parted lf (counted s))
+  output_of s = output_from None (parted lf (counted s))
 
 -- what the line program prints for an input
 unfoldable pub output : List ℕ → List ℕ
@@ -50,7 +49,7 @@ output s = output_of tables s
 -- the model in the table's place
 abbrev pub states : Desk State
 states = record {
-  answer = λ b1 b2. cond (in_range b1 b2) (Accepted 0) WrongBuckets;
+  answer = λ b1 b2. cond (in_range b1 b2) (Ok 0) (Err WrongBuckets);
   opened = λ b1 b2. M.opened (record { buckets1 = b1; buckets2 = b2 });
   calls = record { answer = λ t c. (serve t c).answer; next = λ t c. (serve t c).after };
 }

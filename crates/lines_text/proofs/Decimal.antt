@@ -9,63 +9,53 @@ use native.Mathlib.Omega.{arith}
 use lib.Dec.{eqb, leb}
 use lib.ListN.{length, get_or, take, drop, set, length-set, length-drop, drop_of_length-le}
 use lib.Seq.{take_all, drop-cons}
-use borrow.Author.Tests.{le-leb, lt-leb, lt-ltb, le-ltb, eq-eqb, ne_eqb, leb-true}
+use mathlib.Core.Bool.{true, false}
+use borrow.Author.Tests.{le-leb, lt-leb, lt-ltb, le-ltb, eq-eqb, ne_eqb, eqb-true, leb-true}
 use Rattle.lists.proofs.Parts.{drop-set}
 use Rattle.lists.proofs.Tests.{cases}
-use Rattle.lines_text.specs.declared.Number.TheVariants.{Of, Wrong}
 use Rattle.lines_text.specs.Decimal.{digit_of, is_digit, grown, read_on, number_to, digits_then, most_digits}
-use Rattle.lines_text.specs.Parsed.{AtMost}
+use Rattle.std.specs.Prelude.{Some, None, IfSome}
 
 -- ---- a field
 
 module _ (limit : ℕ) where
-  pub number_none : (s : List ℕ) → length s ≡ 0 → number_to limit s ≡ Wrong
+  pub number_none : (s : List ℕ) → length s ≡ 0 → number_to limit s ≡ None
   unfolding number_to
   number_none [] e = refl
   number_none (b ∷ s) e = absurd (omega arith)
 
-  pub number_zero : (s : List ℕ) → get_or s 0 0 ≡ 48 → length s ≡ 1 → number_to limit s ≡ Of 0
+  pub number_leading : (s : List ℕ) → 1 < length s → get_or s 0 0 ≡ 48 → number_to limit s ≡ None
   unfolding number_to
-  number_zero [] z e = absurd (omega arith)
-  number_zero (b ∷ []) z e = rw (eq-eqb b 48 z)
-  number_zero (b ∷ c ∷ s) z e = absurd (omega arith)
+  number_leading [] h z = refl
+  number_leading (b ∷ []) h z = absurd (omega arith)
+  number_leading (b ∷ c ∷ s) h z = rw (eq-eqb b 48 z)
 
-  pub number_leading : (s : List ℕ) → get_or s 0 0 ≡ 48 → (length s ≡ 1 → ⊥) → number_to limit s ≡ Wrong
-  unfolding number_to
-  number_leading [] z h = refl
-  number_leading (b ∷ []) z h = absurd (h refl)
-  number_leading (b ∷ c ∷ s) z h = rw (eq-eqb b 48 z)
-
-  pub number_read : (s : List ℕ) → (length s ≡ 0 → ⊥) → (get_or s 0 0 ≡ 48 → ⊥) → read_on limit 0 s ≡ number_to limit s
-  unfolding number_to
+  pub number_read : (s : List ℕ) → (length s ≡ 0 → ⊥) → (1 < length s → get_or s 0 0 ≡ 48 → ⊥) → read_on limit 0 s ≡ number_to limit s
+  unfolding number_to read_on
   number_read [] h z = absurd (h refl)
-  number_read (b ∷ s) h z = rw (ne_eqb b 48 z)
+  number_read (b ∷ []) h z = cases (eqb b 48) (λ e. rw (eqb-true b 48 e, le-leb 0 limit (omega arith))) (λ e. rw e)
+  number_read (b ∷ c ∷ s) h z = rw (ne_eqb b 48 (z (omega arith)))
 
-  pub read_end : (n i : ℕ) (s : List ℕ) → length s ≤ i → read_on limit n (drop i s) ≡ Of n
+  pub read_end : (n i : ℕ) (s : List ℕ) → length s ≤ i → read_on limit n (drop i s) ≡ Some n
   unfolding read_on
   read_end n i s h = rw drop_of_length-le
 
   module _ (n i : ℕ) (s : List ℕ) (h : i < length s) where
-    pub read_low : get_or s i 0 < 48 → read_on limit n (drop i s) ≡ Wrong
+    pub read_other : is_digit (get_or s i 0) ≡ false → read_on limit n (drop i s) ≡ None
     unfolding read_on
-    read_low l = rw (drop-cons s i 0, lt-leb 48 (get_or s i 0) l)
+    read_other d = rw (drop-cons s i 0, d)
 
-    pub read_high : 48 ≤ get_or s i 0 → 57 < get_or s i 0 → read_on limit n (drop i s) ≡ Wrong
+    pub read_over : is_digit (get_or s i 0) ≡ true → limit < grown n (get_or s i 0) → read_on limit n (drop i s) ≡ None
     unfolding read_on
-    read_high l u = rw (drop-cons s i 0, le-leb 48 (get_or s i 0) l, lt-leb (get_or s i 0) 57 u)
+    read_over d o = rw (drop-cons s i 0, d, lt-leb (grown n (get_or s i 0)) limit o)
 
-    pub read_over : 48 ≤ get_or s i 0 → get_or s i 0 ≤ 57 → limit < grown n (get_or s i 0) → read_on limit n (drop i s) ≡ Wrong
-    unfolding read_on
-    read_over l u o = rw (drop-cons s i 0, le-leb 48 (get_or s i 0) l, le-leb (get_or s i 0) 57 u, lt-leb (grown n (get_or s i 0)) limit o)
-
-    pub read_more : 48 ≤ get_or s i 0 → get_or s i 0 ≤ 57 → grown n (get_or s i 0) ≤ limit
+    pub read_more : is_digit (get_or s i 0) ≡ true → grown n (get_or s i 0) ≤ limit
         → read_on limit (grown n (get_or s i 0)) (drop (i + 1) s) ≡ read_on limit n (drop i s)
     unfolding read_on
-    read_more l u o =
-        rw (add-one i, drop-cons s i 0, le-leb 48 (get_or s i 0) l, le-leb (get_or s i 0) 57 u, le-leb (grown n (get_or s i 0)) limit o)
+    read_more d o = rw (add-one i, drop-cons s i 0, d, le-leb (grown n (get_or s i 0)) limit o)
 
   -- what is read is at most the limit
-  read_most : (n : ℕ) (s : List ℕ) → n ≤ limit → AtMost limit (read_on limit n s)
+  read_most : (n : ℕ) (s : List ℕ) → n ≤ limit → IfSome (read_on limit n s) (λ k. k ≤ limit)
   unfolding read_on
   read_most n [] l = l
   read_most n (b ∷ s) l =
@@ -73,7 +63,7 @@ module _ (limit : ℕ) where
       (λ d. cases (leb (grown n b) limit) (λ e. rw (d, e) (read_most (grown n b) s (leb-true (grown n b) limit e))) (λ e. rw (d, e) tt))
       (λ d. rw d tt)
 
-  pub number_most : (s : List ℕ) → AtMost limit (number_to limit s)
+  pub number_most : (s : List ℕ) → IfSome (number_to limit s) (λ k. k ≤ limit)
   unfolding number_to
   number_most [] = tt
   number_most (b ∷ []) = cases (eqb b 48) (λ e. rw e (omega arith)) (λ e. rw e (read_most 0 (b ∷ []) (omega arith)))

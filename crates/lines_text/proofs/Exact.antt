@@ -10,19 +10,18 @@ use native.Mathlib.Omega.{arith}
 use lib.Dec.{eqb, leb, ltb}
 use borrow.Author.Tests.{le-leb, ne_eqb, eqb-true, eqb-false, leb-true, ltb-true, ltb-false}
 use Rattle.lists.proofs.Tests.{cases}
-use Rattle.lines_text.specs.declared.Number.TheVariants.{Of, Wrong}
+use Rattle.std.specs.Prelude.{Some, None, IfSome}
 use Rattle.lines_text.specs.Decimal.{digit_of, grown, read_on, only_zero, number_to, digits_then, most_digits, decimal}
 use Rattle.lines_text.specs.Line.{most_buckets, most_kind, most_plan}
-use Rattle.lines_text.specs.Parsed.{AtMost}
 use Rattle.lines_text.proofs.Decimal.{digits_more, digits_last, number_most}
 
 -- a field s is read as n if n is not above the limit and s is its decimal, and only then
 abbrev pub Exactly : ℕ → Type 0
 Exactly limit =
-    (n : ℕ) (s : List ℕ) → (number_to limit s ≡ Of n → (n ≤ limit) × (s ≡ decimal n)) × ((n ≤ limit) × (s ≡ decimal n) → number_to limit s ≡ Of n)
+    (n : ℕ) (s : List ℕ) → (number_to limit s ≡ Some n → (n ≤ limit) × (s ≡ decimal n)) × ((n ≤ limit) × (s ≡ decimal n) → number_to limit s ≡ Some n)
 
-wrong_of : (n : ℕ) → Wrong ≡ Of n → ⊥
-wrong_of n e = let z : ◌≡◌ {A = ℕ} 0 1 = cc in omega arith
+none_some : (n : ℕ) → None ≡ Some n → ⊥
+none_some n e = let z : ◌≡◌ {A = ℕ} 0 1 = cc in omega arith
 
 -- one digit less to print
 tenth : (k n : ℕ) → n < 10 ^ suc k → n / 10 < 10 ^ k
@@ -61,7 +60,7 @@ module _ (limit : ℕ) where
       (λ k n s h p. rw (digits_last k n s h, ne_eqb (digit_of n) 0x30 (λ e. omega arith)))
       (λ k n s h ih p. rw (digits_more (suc k) n s h) (ih (omega arith)))
 
-  number_decimal : (n : ℕ) → n < 10 ^ most_digits → n ≤ limit → number_to limit (decimal n) ≡ Of n
+  number_decimal : (n : ℕ) → n < 10 ^ most_digits → n ≤ limit → number_to limit (decimal n) ≡ Some n
   unfolding number_to digits_then read_on
   number_decimal zero h l = refl
   number_decimal (suc n) h l = first_read (most_digits - 1) (suc n) [] h (omega arith) ∙ digits_read (most_digits - 1) (suc n) [] h l
@@ -79,19 +78,19 @@ module _ (limit : ℕ) where
   abbrev Taken : ℕ → ℕ → Type 0
   Taken m b = (0x30 ≤ b) × (b ≤ 0x39) × (grown m b ≤ limit)
 
-  read_on-taken : (m b n : ℕ) (s : List ℕ) → read_on limit m (b ∷ s) ≡ Of n → Taken m b × (read_on limit (grown m b) s ≡ Of n)
+  read_on-taken : (m b n : ℕ) (s : List ℕ) → read_on limit m (b ∷ s) ≡ Some n → Taken m b × (read_on limit (grown m b) s ≡ Some n)
   unfolding read_on
   read_on-taken m b n s e = by_tests (leb 0x30 b) (leb b 0x39) (leb (grown m b) limit) refl refl refl e
     where
       by_tests : (t u v : Bool) → leb 0x30 b ≡ t → leb b 0x39 ≡ u → leb (grown m b) limit ≡ v
-          → cond (t && u) (cond v (read_on limit (grown m b) s) Wrong) Wrong ≡ Of n → Taken m b × (read_on limit (grown m b) s ≡ Of n)
+          → cond (t && u) (cond v (read_on limit (grown m b) s) None) None ≡ Some n → Taken m b × (read_on limit (grown m b) s ≡ Some n)
       by_tests true true true p q r e = ((leb-true 0x30 b p, leb-true b 0x39 q, leb-true (grown m b) limit r), e)
-      by_tests true true false p q r e = absurd (wrong_of n e)
-      by_tests true false v p q r e = absurd (wrong_of n e)
-      by_tests false u v p q r e = absurd (wrong_of n e)
+      by_tests true true false p q r e = absurd (none_some n e)
+      by_tests true false v p q r e = absurd (none_some n e)
+      by_tests false u v p q r e = absurd (none_some n e)
 
   -- the digits of m, which is not 0, and then s: those of the number that is read
-  digits_printed : (k m n : ℕ) (s : List ℕ) → limit < 10 ^ suc (suc k) → 0 < m → read_on limit m s ≡ Of n
+  digits_printed : (k m n : ℕ) (s : List ℕ) → limit < 10 ^ suc (suc k) → 0 < m → read_on limit m s ≡ Some n
       → digits_then (suc (suc k)) m s ≡ digits_then (suc (suc k)) n []
   unfolding read_on
   digits_printed k m n [] h p e = let q : m ≡ n = cc in rw q
@@ -102,16 +101,16 @@ module _ (limit : ℕ) where
       let l : m < 10 ^ suc k = rw u at (tenth (suc k) (grown m b) (omega arith)) in
       digits_enough k m (b ∷ s) l ∙ sym (rw (u, v) at (digits_more (suc k) (grown m b) s (omega arith))) ∙ digits_printed k (grown m b) n s h (omega arith) r
 
-  number_printed : (n : ℕ) (s : List ℕ) → limit < 10 ^ most_digits → number_to limit s ≡ Of n → s ≡ decimal n
+  number_printed : (n : ℕ) (s : List ℕ) → limit < 10 ^ most_digits → number_to limit s ≡ Some n → s ≡ decimal n
   unfolding number_to
-  number_printed n [] h e = absurd (wrong_of n e)
+  number_printed n [] h e = absurd (none_some n e)
   number_printed n (b ∷ s) h e = by_test (eqb b 0x30) refl s e
     where
-      by_test : (t : Bool) → eqb b 0x30 ≡ t → (s : List ℕ) → cond t (only_zero s) (read_on limit 0 (b ∷ s)) ≡ Of n → b ∷ s ≡ decimal n
+      by_test : (t : Bool) → eqb b 0x30 ≡ t → (s : List ℕ) → cond t (only_zero s) (read_on limit 0 (b ∷ s)) ≡ Some n → b ∷ s ≡ decimal n
       by_test true z [] e =
           let q : 0 ≡ n = cc in
           rw (← q, eqb-true b 0x30 z) (sym (digits_last (most_digits - 1) 0 [] (omega arith)))
-      by_test true z (c ∷ s) e = absurd (wrong_of n e)
+      by_test true z (c ∷ s) e = absurd (none_some n e)
       by_test false z s e =
           let (t, r) = read_on-taken 0 b n s e in
           let f : b ≡ 0x30 → ⊥ = eqb-false b 0x30 z in
@@ -122,7 +121,7 @@ module _ (limit : ℕ) where
 
   pub number_exactly : limit < 10 ^ most_digits → Exactly limit
   number_exactly h n s = (
-    λ e. (subst (AtMost limit) e (number_most limit s), number_printed n s h e),
+    λ e. (subst (λ r. IfSome r (λ k. k ≤ limit)) e (number_most limit s), number_printed n s h e),
     λ e. rw e.1 (number_decimal n (omega arith) e.0),
   )
 
@@ -135,7 +134,7 @@ pub plan_exactly : Exactly most_plan
 plan_exactly = number_exactly most_plan (omega arith)
 
 -- KIND, "a digit field": one digit, and nothing else
-pub digit_field : (k : ℕ) (s : List ℕ) → (number_to most_kind s ≡ Of k → (k ≤ most_kind) × (s ≡ digit_of k ∷ [])) × ((k ≤ most_kind) × (s ≡ digit_of k ∷ []) → number_to most_kind s ≡ Of k)
+pub digit_field : (k : ℕ) (s : List ℕ) → (number_to most_kind s ≡ Some k → (k ≤ most_kind) × (s ≡ digit_of k ∷ [])) × ((k ≤ most_kind) × (s ≡ digit_of k ∷ []) → number_to most_kind s ≡ Some k)
 digit_field k s =
     let (there, back) = number_exactly most_kind (omega arith) k s in
     let one : k ≤ most_kind → decimal k ≡ digit_of k ∷ [] = λ h. digits_last (most_digits - 1) k [] (omega arith) in

@@ -1,5 +1,5 @@
 pub mod Decimal
 pub mod Parted
-pub mod Forms
 pub mod Printed
 pub mod Exact
+pub mod Forms

@@ -6,16 +6,15 @@ use Prim.Native.Nat.{ℕ, zero, suc, ◌+◌, ◌/◌, ◌%◌, ◌≤◌}
 use native.Mathlib.Omega.{arith}
 use lib.Dec.{ltb}
 use lib.ListN.{length, length-append}
-use borrow.Author.Tests.{eq-eqb, ne_eqb}
+use borrow.Author.Tests.{ne_eqb}
 use Rattle.lists.proofs.Tests.{cases}
 use Rattle.codec.specs.Parts.{written}
 use Rattle.codec.proofs.Part.{written-append}
-use Rattle.answer.specs.declared.Answer.{Answer}
-use Rattle.answer.specs.Numbers.{number_of, value_of}
+use Rattle.answer.specs.Numbers.{Answer, number_of, value_of}
 use Rattle.model.specs.Machine.{accepted}
 use Rattle.lines_text.specs.Decimal.{digit_of, digits_then, most_digits, decimal}
 use Rattle.lines_text.specs.Line.{lf}
-use Rattle.lines_text.specs.Printed.{ok_start, no_start, printed, most_printed}
+use Rattle.lines_text.specs.Printed.{no_start, printed, most_printed}
 
 -- ---- lengths
 
@@ -39,10 +38,6 @@ printed_most a =
 -- ---- an answer
 
 module _ (a : Answer) where
-  pub printed-ok : number_of a ≡ 0 → printed a ≡ ok_start ++ (decimal (value_of a) ++ (lf ∷ []))
-  unfolding printed
-  printed-ok e = rw (eq-eqb (number_of a) 0 e)
-
   pub printed_no : (number_of a ≡ 0 → ⊥) → printed a ≡ no_start ++ (decimal (number_of a) ++ (lf ∷ []))
   unfolding printed
   printed_no e = rw (ne_eqb (number_of a) 0 e)

@@ -1,8 +1,6 @@
 -- Decimal numbers as the line program reads and prints them.
 -- Assumes nothing.
-use Rattle.std.specs.Prelude.{ℕ, zero, suc, ◌+◌, ◌-◌, ◌*◌, ◌/◌, ◌%◌, Bool, cond, ◌&&◌, List, [], ◌∷◌, leb, ltb, eqb}
-use Rattle.lines_text.specs.declared.Number.{Number}
-use Rattle.lines_text.specs.declared.Number.TheVariants.{Of, Wrong}
+use Rattle.std.specs.Prelude.{ℕ, zero, suc, ◌+◌, ◌-◌, ◌*◌, ◌/◌, ◌%◌, Bool, cond, ◌&&◌, List, [], ◌∷◌, leb, ltb, eqb, Option, Some, None}
 
 -- the byte of the digit d
 abbrev pub digit_of : ℕ → ℕ
@@ -17,18 +15,18 @@ abbrev pub grown : ℕ → ℕ → ℕ
 grown n b = 10 * n + (b - 0x30)
 
 -- the number of the digits of n and then those of s, if it is at most limit
-unfoldable pub read_on : ℕ → ℕ → List ℕ → Number
-read_on limit n [] = Of n
-read_on limit n (b ∷ s) = cond (is_digit b) (cond (leb (grown n b) limit) (read_on limit (grown n b) s) Wrong) Wrong
+unfoldable pub read_on : ℕ → ℕ → List ℕ → Option ℕ
+read_on limit n [] = Some n
+read_on limit n (b ∷ s) = cond (is_digit b) (cond (leb (grown n b) limit) (read_on limit (grown n b) s) None) None
 
 -- the field after a first 0: there is none
-abbrev pub only_zero : List ℕ → Number
-only_zero [] = Of 0
-only_zero (b ∷ s) = Wrong
+abbrev pub only_zero : List ℕ → Option ℕ
+only_zero [] = Some 0
+only_zero (b ∷ s) = None
 
 -- document 01's "decimal without leading zeros", to limit
-unfoldable pub number_to : ℕ → List ℕ → Number
-number_to limit [] = Wrong
+unfoldable pub number_to : ℕ → List ℕ → Option ℕ
+number_to limit [] = None
 number_to limit (b ∷ s) = cond (eqb b 0x30) (only_zero s) (read_on limit 0 (b ∷ s))
 
 -- the digits of n, at most k of them, and then s

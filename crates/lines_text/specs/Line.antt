@@ -1,12 +1,11 @@
 -- A line of the line program: its fields, and what it asks for; document 01, "The line program", with document 02's order 4: "the kind is a digit
 -- field before ID".
 -- Assumes nothing.
-use Rattle.std.specs.Prelude.{ℕ, suc, cond, List, [], ◌∷◌, eqb}
+use Rattle.std.specs.Prelude.{ℕ, cond, List, [], ◌∷◌, eqb, Option, Some, None}
+use Rattle.std.specs.List.{slice_split}
 use Rattle.codec.specs.Bytes.{eq_list}
 use Rattle.identifier.specs.Identifier.{Token, token}
 use Rattle.model.specs.Model.{Call, add, change, withdraw, query}
-use Rattle.lines_text.specs.declared.Number.{Number}
-use Rattle.lines_text.specs.declared.Number.TheVariants.{Of, Wrong}
 use Rattle.lines_text.specs.Decimal.{number_to}
 
 -- LF
@@ -17,20 +16,9 @@ lf = 0x0a
 abbrev pub space : ℕ
 space = 0x20
 
--- the index of the first b, or the length if there is none
-unfoldable pub place_of : ℕ → List ℕ → ℕ
-place_of b [] = 0
-place_of b (x ∷ s) = cond (eqb x b) 0 (suc (place_of b s))
-
--- x before the first of the parts
-abbrev pub before : ℕ → List (List ℕ) → List (List ℕ)
-before x [] = (x ∷ []) ∷ []
-before x (p ∷ ps) = (x ∷ p) ∷ ps
-
 -- the parts of s that single b part, empty ones too
 unfoldable pub parted : ℕ → List ℕ → List (List ℕ)
-parted b [] = [] ∷ []
-parted b (x ∷ s) = cond (eqb x b) ([] ∷ parted b s) (before x (parted b s))
+parted b = slice_split (λ x. eqb x b)
 
 -- what a line asks for: an opening, a call, or nothing that the program knows
 pub data Command : Type 0 where
@@ -51,9 +39,9 @@ abbrev pub most_plan : ℕ
 most_plan = 255
 
 -- what f makes of the number that a field says; `bad` if it says none
-abbrev pub with_number : Number → (ℕ → Command) → Command
-with_number (Of n) f = f n
-with_number Wrong f = bad
+abbrev pub with_number : Option ℕ → (ℕ → Command) → Command
+with_number (Some n) f = f n
+with_number None f = bad
 
 -- `open B1 B2`
 abbrev pub open_with : List ℕ → List ℕ → Command

@@ -1,53 +1,39 @@
 -- What the parser makes of a line, and what it stands for.
 -- Assumes nothing.
-use Rattle.std.specs.Prelude.{ℕ, ◌-◌, ◌≤◌, List}
-use Rattle.codec.specs.Parts.{part_at}
+use Rattle.std.specs.Prelude.{◌≤◌, Option, Some, None}
 use Rattle.identifier.specs.Identifier.{token}
 use Rattle.model.specs.Model.{Call, add, change, withdraw, query}
 use Rattle.lines_text.specs.declared.Verb.{Verb}
 use Rattle.lines_text.specs.declared.Verb.TheVariants.{Add, Set, Del, Get}
-use Rattle.lines_text.specs.declared.Number.{Number}
-use Rattle.lines_text.specs.declared.Number.TheVariants.{Of, Wrong}
 use Rattle.lines_text.specs.declared.Parsed.{Parsed}
-use Rattle.lines_text.specs.declared.Parsed.TheVariants.{Open, Ask, Bad}
+use Rattle.lines_text.specs.declared.Parsed.TheVariants.{Open, Ask}
 use Rattle.lines_text.specs.Line.{Command, opening, ask, bad, most_buckets, most_kind, most_plan}
 
--- the bytes of the line s from index start to before end
-abbrev pub between : ℕ → ℕ → List ℕ → List ℕ
-between start end s = part_at (end - start) start s
-
 -- the call that a verb asks for, of the identifier or word i
-abbrev pub call_of : {I : Type 0} → Verb → I → ℕ → Call I
-call_of Add i p = add i p
-call_of Set i p = change i p
-call_of Del i p = withdraw i
-call_of Get i p = query i
+abbrev pub call_of : {I : Type 0} → Verb → I → Call I
+call_of (Add plan) i = add i plan
+call_of (Set plan) i = change i plan
+call_of Del i = withdraw i
+call_of Get i = query i
 
--- what the line s asks for by its parsed form
-abbrev pub meant : List ℕ → Parsed → Command
-meant s (Open b1 b2) = opening b1 b2
-meant s (Ask v kind start end plan) = ask (call_of v (token kind (between start end s)) plan)
-meant s Bad = bad
+-- what a line asks for by its parsed form
+abbrev pub meant : Parsed → Command
+meant (Open b1 b2) = opening b1 b2
+meant (Ask verb kind id) = ask (call_of verb (token kind id.now))
 
--- a number is at most limit
-abbrev pub AtMost : ℕ → Number → Type 0
-AtMost limit (Of n) = n ≤ limit
-AtMost limit Wrong = Unit {0}
+-- and `bad` if it has none
+abbrev pub meant_or_bad : Option Parsed → Command
+meant_or_bad (Some p) = meant p
+meant_or_bad None = bad
 
--- the identifier lies in the n bytes of a line, and the numbers are at most their limits
-abbrev pub Within : ℕ → Parsed → Type 0
-Within n (Open b1 b2) = (b1 ≤ most_buckets) × (b2 ≤ most_buckets)
-Within n (Ask v kind start end plan) = (kind ≤ most_kind) × (start ≤ end) × (end ≤ n) × (plan ≤ most_plan)
-Within n Bad = Unit {0}
+-- the plan of a verb is at most its limit
+abbrev pub PlanWithin : Verb → Type 0
+PlanWithin (Add plan) = plan ≤ most_plan
+PlanWithin (Set plan) = plan ≤ most_plan
+PlanWithin Del = Unit {0}
+PlanWithin Get = Unit {0}
 
--- `open` with what its two fields say
-abbrev pub open_form : Number → Number → Parsed
-open_form (Of b1) (Of b2) = Open b1 b2
-open_form (Of b1) Wrong = Bad
-open_form Wrong n = Bad
-
--- a call with what KIND and PLAN say; `del` and `get` have plan 0
-abbrev pub ask_form : Verb → Number → ℕ → ℕ → Number → Parsed
-ask_form v (Of k) start end (Of p) = Ask v k start end p
-ask_form v (Of k) start end Wrong = Bad
-ask_form v Wrong start end n = Bad
+-- the numbers are at most their limits
+abbrev pub Within : Parsed → Type 0
+Within (Open b1 b2) = (b1 ≤ most_buckets) × (b2 ≤ most_buckets)
+Within (Ask verb kind id) = (kind ≤ most_kind) × PlanWithin verb

@@ -1,8 +1,7 @@
 -- What the line program prints for one line: an answer, or `bad`; document 01, "The line program".
 -- Assumes nothing.
 use Rattle.std.specs.Prelude.{ℕ, ◌+◌, cond, List, [], ◌∷◌, ◌++◌, length}
-use Rattle.answer.specs.declared.Answer.{Answer}
-use Rattle.answer.specs.Numbers.{number_of, value_of}
+use Rattle.answer.specs.Numbers.{Answer, number_of, value_of}
 use Rattle.model.specs.Machine.{accepted}
 use Rattle.lines_text.specs.Decimal.{most_digits, decimal}
 use Rattle.lines_text.specs.Line.{lf, space}

@@ -5,55 +5,32 @@
 // proofs/Parted.antt (the parts between single bytes), proofs/Printed.antt (the longest line that is printed).
 #![tactic(auto)]
 
-ghost use Rattle.std.specs.Prelude.{◌≡◌, ◌+◌, ◌^◌, ◌≤◌, ◌<◌, ◌∷◌, [], ◌++◌, length, take, drop};
+ghost use Rattle.std.specs.Prelude.{◌≡◌, ◌+◌, ◌^◌, ◌≤◌, ◌<◌, ◌∷◌, [], ◌++◌, length, IfSome, MatchOption};
 ghost use Rattle.codec.specs.Parts.{written};
 ghost use Rattle.lines_text.specs.Decimal.{grown, number_to, digit_of, decimal};
-ghost use Rattle.lines_text.specs.Line.{lf, most_buckets, place_of, of_three, of_four, command_of};
-ghost use Rattle.lines_text.specs.Parsed.{between, meant, Within, open_form, ask_form};
+ghost use Rattle.lines_text.specs.Line.{lf, most_buckets, parted, ask, ask_with, of_three, of_four, command_of};
+ghost use Rattle.lines_text.specs.Parsed.{call_of, meant_or_bad, PlanWithin, Within};
 ghost use Rattle.lines_text.specs.Printed.{bad_line, printed};
 
 use answer::Answer;
 
-// What a field is read as.
-#[derive(Clone, Copy)]
-pub enum Number {
-    // A decimal number without leading zeros, not above its limit.
-    Of(u64),
-    Wrong,
-}
-
-// Which call a line asks for: its first word.
+// Which call a line asks for: its first word, and the plan that `add` and `set` give.
 #[derive(Clone, Copy)]
 pub enum Verb {
-    Add,
-    Set,
+    Add(u64),
+    Set(u64),
     Del,
     Get,
 }
 
-// What a line asks for. The identifier of a call has this kind and the bytes from start to before end; `del` and `get` have plan 0.
+// What a line asks for: an opening with B1 and B2, or a call.
 #[derive(Clone, Copy)]
-pub enum Parsed {
+pub enum Parsed<'a> {
     Open(u64, u64),
-    Ask {
-        verb: Verb,
-        kind: u64,
-        start: usize,
-        end: usize,
-        plan: u64,
-    },
-    Bad,
+    Ask { verb: Verb, kind: u8, id: &'a [u8] },
 }
 
-impl Number {
-    // The digits of a 64-bit number, at most.
-    pub(crate) const MOST_DIGITS: usize = 20;
-
-    // The index of the last of them.
-    pub(crate) const LAST_DIGIT: usize = Self::MOST_DIGITS - 1;
-}
-
-impl Parsed {
+impl Parsed<'_> {
     // The largest B1 and B2.
     pub(crate) const MOST_BUCKETS: u64 = 999;
 
@@ -64,8 +41,14 @@ impl Parsed {
     pub(crate) const MOST_PLAN: u64 = 255;
 }
 
+// The digits of a 64-bit number, at most.
+pub(crate) const MOST_DIGITS: usize = 20;
+
+// The index of the last of them.
+pub(crate) const LAST_DIGIT: usize = MOST_DIGITS - 1;
+
 // The longest line that is printed: `ok `, the digits of a number and LF.
-pub const MOST_PRINTED: usize = 3 + Number::MOST_DIGITS + 1;
+pub const MOST_PRINTED: usize = 3 + MOST_DIGITS + 1;
 
 // One digit more.
 pub(crate) fn push_digit(n: u64, b: u8) -> u64
@@ -75,37 +58,26 @@ pub(crate) fn push_digit(n: u64, b: u8) -> u64
     10 * n + (b - b'0') as u64
 }
 
-// The number that the field says, to limit.
-pub(crate) fn read_number(s: &[u8], limit: u64) -> Number
+// The number that the field says, to limit: decimal without leading zeros.
+pub(crate) fn read_number(s: &[u8], limit: u64) -> Option<u64>
     requires { limit ≤ most_buckets }
-    ensures { result ≡ number_to limit s.now }
+    ensures value { result ≡ number_to limit s.now }
+    ensures within { IfSome result (λ n. n ≤ limit) }
 {
-    if s.len() == 0 {
-        return Number::Wrong;
+    if s.is_empty() || (s.len() > 1 && s[0] == b'0') {
+        return None;
     }
-    if s[0] == b'0' {
-        if s.len() == 1 {
-            return Number::Of(0);
+    let mut n = 0;
+    for b in s {
+        if !b.is_ascii_digit() {
+            return None;
         }
-        return Number::Wrong;
-    }
-    let mut n: u64 = 0;
-    let mut i: usize = 0;
-    while i < s.len() {
-        let b = s[i];
-        if b < b'0' {
-            return Number::Wrong;
-        }
-        if b'9' < b {
-            return Number::Wrong;
-        }
-        n = push_digit(n, b);
+        n = push_digit(n, *b);
         if limit < n {
-            return Number::Wrong;
+            return None;
         }
-        i += 1;
     }
-    Number::Of(n)
+    Some(n)
 }
 
 // The byte of a digit.
@@ -116,14 +88,14 @@ pub(crate) fn digit(d: u64) -> u8
     (48 + d) as u8
 }
 
-// Prints x from index at on, as much as fits. The next index.
+// Prints x from index at on, as much as fits. The next index. Digit by digit: the library's writer to a slice says nothing of the bytes that it writes.
 pub(crate) fn put_decimal(out: &mut [u8], at: usize, x: u64) -> usize
     requires { at < 2 ^ 32 }
     ensures { (result ≡ at + length (decimal x)) × (out.new ≡ written at (decimal x) out.old) }
 {
-    let mut digits = [0u8; Number::MOST_DIGITS];
+    let mut digits = [0u8; MOST_DIGITS];
     let mut left = x;
-    let mut i: usize = Number::LAST_DIGIT;
+    let mut i: usize = LAST_DIGIT;
     while 10 <= left {
         digits[i] = digit(left % 10);
         left = left / 10;
@@ -131,122 +103,80 @@ pub(crate) fn put_decimal(out: &mut [u8], at: usize, x: u64) -> usize
     }
     digits[i] = digit(left);
     codec::put_bytes(out, at, &digits[i..]);
-    at + (Number::MOST_DIGITS - i)
+    at + (MOST_DIGITS - i)
 }
 
-// The index of the first b from index a on, or the length if there is none.
-pub fn place(s: &[u8], b: u8, a: usize) -> usize
-    requires { a ≤ length s.now }
-    ensures { result ≡ a + place_of b (drop a s.now) }
+// A call with what KIND says.
+pub(crate) fn ask_form<'a>(verb: Verb, kind: &[u8], id: &'a [u8]) -> Option<Parsed<'a>>
+    ensures means { meant_or_bad result ≡ ask_with kind.now id.now (λ i. ask (call_of verb i)) }
+    ensures within { PlanWithin verb → IfSome result Within }
 {
-    let mut i = a;
-    while i < s.len() {
-        if s[i] == b {
-            return i;
-        }
-        i += 1;
-    }
-    i
+    let kind = read_number(kind, Parsed::MOST_KIND)? as u8;
+    Some(Parsed::Ask { verb, kind, id })
 }
 
-// `open` with what its two fields say.
-pub(crate) fn open_form(x: Number, y: Number) -> Parsed
-    ensures { result ≡ open_form x y }
+// A line of three fields.
+pub(crate) fn three_fields<'a>(word: &[u8], second: &[u8], third: &'a [u8]) -> Option<Parsed<'a>>
+    ensures means { meant_or_bad result ≡ of_three word.now second.now third.now }
+    ensures within { IfSome result Within }
 {
-    match x {
-        Number::Of(b1) => match y {
-            Number::Of(b2) => Parsed::Open(b1, b2),
-            Number::Wrong => Parsed::Bad,
-        },
-        Number::Wrong => Parsed::Bad,
-    }
-}
-
-// A call with what KIND and PLAN say.
-pub(crate) fn ask_form(verb: Verb, kind: Number, start: usize, end: usize, plan: Number) -> Parsed
-    ensures { result ≡ ask_form verb kind start end plan }
-{
-    match kind {
-        Number::Of(k) => match plan {
-            Number::Of(p) => Parsed::Ask {
-                verb,
-                kind: k,
-                start,
-                end,
-                plan: p,
-            },
-            Number::Wrong => Parsed::Bad,
-        },
-        Number::Wrong => Parsed::Bad,
-    }
-}
-
-// A line of three fields, parted at a and b.
-pub(crate) fn three_fields(s: &[u8], a: usize, b: usize) -> Parsed
-    requires { (a < b) × (b < length s.now) }
-    ensures { (meant s.now result ≡ of_three (take a s.now) (between (a + 1) b s.now) (drop (b + 1) s.now)) × Within (length s.now) result }
-{
-    let start = a + 1;
-    let next = b + 1;
-    let end = s.len();
-    let word = &s[..a];
-    let second = &s[start..b];
     if codec::same(word, b"open") {
-        return open_form(
-            read_number(second, Parsed::MOST_BUCKETS),
-            read_number(&s[next..], Parsed::MOST_BUCKETS),
-        );
+        let b1 = read_number(second, Parsed::MOST_BUCKETS)?;
+        let b2 = read_number(third, Parsed::MOST_BUCKETS)?;
+        return Some(Parsed::Open(b1, b2));
     }
-    let kind = read_number(second, Parsed::MOST_KIND);
     if codec::same(word, b"del") {
-        return ask_form(Verb::Del, kind, next, end, Number::Of(0));
+        return ask_form(Verb::Del, second, third);
     }
     if codec::same(word, b"get") {
-        return ask_form(Verb::Get, kind, next, end, Number::Of(0));
+        return ask_form(Verb::Get, second, third);
     }
-    Parsed::Bad
+    None
 }
 
-// A line of four fields, parted at a, b and c.
-pub(crate) fn four_fields(s: &[u8], a: usize, b: usize, c: usize) -> Parsed
-    requires { (a < b) × (b < c) × (c < length s.now) }
-    ensures { (meant s.now result ≡ of_four (take a s.now) (between (a + 1) b s.now) (between (b + 1) c s.now) (drop (c + 1) s.now)) × Within (length s.now) result }
+// A line of four fields.
+pub(crate) fn four_fields<'a>(
+    word: &[u8],
+    second: &[u8],
+    third: &'a [u8],
+    fourth: &[u8],
+) -> Option<Parsed<'a>>
+    ensures means { meant_or_bad result ≡ of_four word.now second.now third.now fourth.now }
+    ensures within { IfSome result Within }
 {
-    let start = a + 1;
-    let next = b + 1;
-    let last = c + 1;
-    let word = &s[..a];
-    let kind = read_number(&s[start..b], Parsed::MOST_KIND);
-    let plan = read_number(&s[last..], Parsed::MOST_PLAN);
+    let plan = read_number(fourth, Parsed::MOST_PLAN);
     if codec::same(word, b"add") {
-        return ask_form(Verb::Add, kind, next, c, plan);
+        return ask_form(Verb::Add(plan?), second, third);
     }
     if codec::same(word, b"set") {
-        return ask_form(Verb::Set, kind, next, c, plan);
+        return ask_form(Verb::Set(plan?), second, third);
     }
-    Parsed::Bad
+    None
+}
+
+// The bytes before the first b and those after it, if there is one.
+pub fn split_once(s: &[u8], b: u8) -> Option<(&[u8], &[u8])>
+    ensures parts { MatchOption result (parted b s.now ≡ s.now ∷ []) (λ p. parted b s.now ≡ p.0.now ∷ parted b p.1.now) }
+    ensures lengths { IfSome result (λ p. length p.0.now + 1 + length p.1.now ≡ length s.now) }
+{
+    let i = s.iter().position(|x| *x == b)?;
+    Some((&s[..i], &s[i + 1..]))
 }
 
 // What a line asks for, without its LF.
-pub fn parse(s: &[u8]) -> Parsed
-    ensures { (meant s.now result ≡ command_of s.now) × Within (length s.now) result }
+pub fn parse(s: &[u8]) -> Option<Parsed>
+    ensures means { meant_or_bad result ≡ command_of s.now }
+    ensures within { IfSome result Within }
 {
-    let a = place(s, b' ', 0);
-    if s.len() <= a {
-        return Parsed::Bad;
+    let (word, rest) = split_once(s, b' ')?;
+    let (second, rest) = split_once(rest, b' ')?;
+    match split_once(rest, b' ') {
+        None => three_fields(word, second, rest),
+        Some((third, rest)) => match split_once(rest, b' ') {
+            None => four_fields(word, second, third, rest),
+            Some(_) => None,
+        },
     }
-    let b = place(s, b' ', a + 1);
-    if s.len() <= b {
-        return Parsed::Bad;
-    }
-    let c = place(s, b' ', b + 1);
-    if s.len() <= c {
-        return three_fields(s, a, b);
-    }
-    if place(s, b' ', c + 1) < s.len() {
-        return Parsed::Bad;
-    }
-    four_fields(s, a, b, c)
 }
 
 // Prints the bytes of start, n and LF from index at on, as much as fits. The next index.
@@ -266,11 +196,10 @@ pub fn put_answer(out: &mut [u8], at: usize, a: Answer) -> usize
     requires { at < 2 ^ 31 }
     ensures { (result ≡ at + length (printed a)) × (out.new ≡ written at (printed a) out.old) }
 {
-    let cause = answer::number(a);
-    if cause == 0 {
-        return put_line(out, at, b"ok ", answer::value(a));
+    match a {
+        Ok(n) => put_line(out, at, b"ok ", n),
+        Err(_) => put_line(out, at, b"no ", answer::number(a)),
     }
-    put_line(out, at, b"no ", cause)
 }
 
 // Prints `bad`.

@@ -11,10 +11,10 @@ use mathlib.Core.List.{List, [], ◌∷◌, ◌++◌}
 use lib.Dec.{eqb}
 use lib.ListN.{length}
 use borrow.Author.Tests.{eqb-true, eqb-false}
+use Rattle.answer.specs.Numbers.{Answer}
 use Rattle.lists.specs.Entries.{Entry, find, insert, update, remove, Ascending}
 use Rattle.lists.proofs.Tests.{cases}
 use Rattle.lists.proofs.Entries.{insert-length, insert-found, insert-other, remove-length, remove-found, remove-other, update-length, update_found, update_other, none≢some}
-use Rattle.answer.specs.declared.Answer.{Answer}
 use Rattle.model.specs.Levels.{Level}
 use Rattle.model.specs.Model.{State, Call, add, change, withdraw, query, Outcome, step}
 use Rattle.model.specs.Machine.{Machine, accepted, after, answers, accepted_of, AllAccepted, Alike, Refines, Compares}

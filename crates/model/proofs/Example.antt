@@ -3,9 +3,10 @@
 use Prim.Native.Nat.{ℕ}
 use mathlib.Core.Path.{◌≡◌, refl}
 use mathlib.Core.List.{[], ◌∷◌, map}
+use Rattle.std.specs.Prelude.{Ok, Err}
 use Rattle.hash.specs.Mix.{mix_of}
 use Rattle.hash.specs.Fnv.{fnv_from}
-use Rattle.answer.specs.declared.Answer.TheVariants.{Accepted, WrongByte, Live, NotLive, WrongKind}
+use Rattle.answer.specs.declared.Cause.TheVariants.{WrongByte, Live, NotLive, WrongKind}
 use Rattle.identifier.specs.Identifier.{Token, token, allowed, folded, word_of, first_refused, read_of}
 use Rattle.model.specs.Levels.{Level}
 use Rattle.model.specs.Model.{Size, add, change, withdraw, query, opened}
@@ -44,7 +45,7 @@ session :
     (map ask
     (add Bus-17 40 ∷ add BUS-17 41 ∷ query bus_17 ∷ change b_uS_17 9 ∷ add Tram_2 0
     ∷ withdraw BUS-17 ∷ query BUS-17 ∷ query tram_2 ∷ add a/b 3 ∷ []))
-    ≡ Accepted 1 ∷ Live 40 ∷ Accepted 40 ∷ Accepted 40 ∷ Accepted 2 ∷ Accepted 9 ∷ NotLive ∷ Accepted 0 ∷ WrongByte 1 ∷ []
+    ≡ Ok 1 ∷ Err (Live 40) ∷ Ok 40 ∷ Ok 40 ∷ Ok 2 ∷ Ok 9 ∷ Err NotLive ∷ Ok 0 ∷ Err (WrongByte 1) ∷ []
 unfolding Bus-17 BUS-17 bus_17 b_uS_17 Tram_2 tram_2 a/b mix_of fnv_from allowed folded word_of first_refused read_of
 session = refl
 
@@ -58,8 +59,8 @@ seven :
     (map ask
     (add (A 1) 10 ∷ add (A 2) 20 ∷ add (A 3) 30 ∷ add (A 4) 40 ∷ add (A 5) 50 ∷ add (A 6) 60 ∷ add (A 7) 70 ∷ add (A 8) 80
     ∷ query (A 0) ∷ query (A 1) ∷ query (A 2) ∷ query (A 3) ∷ query (A 4) ∷ query (A 5) ∷ query (A 6) ∷ query (A 7) ∷ []))
-    ≡ Accepted 1 ∷ Accepted 2 ∷ Accepted 3 ∷ Accepted 4 ∷ Accepted 5 ∷ Accepted 6 ∷ Accepted 7 ∷ WrongKind
-    ∷ WrongKind ∷ Accepted 10 ∷ Accepted 20 ∷ Accepted 30 ∷ Accepted 40 ∷ Accepted 50 ∷ Accepted 60 ∷ Accepted 70 ∷ []
+    ≡ Ok 1 ∷ Ok 2 ∷ Ok 3 ∷ Ok 4 ∷ Ok 5 ∷ Ok 6 ∷ Ok 7 ∷ Err WrongKind
+    ∷ Err WrongKind ∷ Ok 10 ∷ Ok 20 ∷ Ok 30 ∷ Ok 40 ∷ Ok 50 ∷ Ok 60 ∷ Ok 70 ∷ []
 unfolding A mix_of fnv_from allowed folded word_of first_refused read_of
 seven = refl
 

@@ -11,12 +11,13 @@ use mathlib.Core.Option.{none}
 use mathlib.Core.List.{List, map, ◌++◌, Permᴰ}
 use lib.Dec.{lit<}
 use lib.ListN.{length, get_or}
+use Rattle.std.specs.Prelude.{Err}
 use Rattle.lists.specs.Entries.{Entry, words, find, insert}
 use Rattle.lists.proofs.Keep.{tabulate-at}
 use Rattle.gf2.specs.Bound.{Largest}
 use Rattle.bucket.specs.Bucket.{largest_bound}
 use Rattle.answer.specs.Numbers.{number_of}
-use Rattle.answer.specs.declared.Answer.TheVariants.{Full}
+use Rattle.answer.specs.declared.Cause.TheVariants.{Full}
 use Rattle.model.specs.Levels.{Level, first_level, second_level, threshold, passed, due, lower}
 use Rattle.model.specs.Model.{Size, State, Call, add_of, change, withdraw, query, Outcome, opened, would_leave, base, step, lifted}
 use Rattle.model.specs.Request.{Request, respond, calls_of}
@@ -62,7 +63,7 @@ module _ (L1 L2 : Level) (s : State) (e : Entry) where
 
   -- statement 3, the base list: refused as full exactly when more than 64 words would fall to it under the bounds that the add would so
   -- leave (Steps.bounds-first and Steps.bounds-second: these are those of would_leave, accepted or not)
-  pub full_exactly : find e.word s.live ≡ none → ((step L1 L2 s (add_of e)).answer ≡ Full) ↔ (64 < length (base L1 L2 (would_leave L1 L2 s e)))
+  pub full_exactly : find e.word s.live ≡ none → ((step L1 L2 s (add_of e)).answer ≡ Err Full) ↔ (64 < length (base L1 L2 (would_leave L1 L2 s e)))
   full_exactly f = Steps.full_exactly L1 L2 s e f
 
 module _ (L1 L2 : Level) (s : State) where

@@ -9,12 +9,12 @@ use mathlib.Core.List.{List}
 use lib.Dec.{ltb, lit<}
 use lib.ListN.{length, get_or}
 use borrow.Author.Tests.{ltb-true, ltb-false, lt-ltb, le-ltb}
+use Rattle.std.specs.Prelude.{Ok, Err}
 use Rattle.lists.specs.Entries.{Entry, words, find, insert, update, remove}
 use Rattle.lists.proofs.Tests.{cases, by_test, cond_true, cond_false}
 use Rattle.gf2.specs.Bound.{Largest}
-use Rattle.answer.specs.declared.Answer.{Answer}
-use Rattle.answer.specs.declared.Answer.TheVariants.{Accepted, Live, NotLive, Full}
-use Rattle.answer.specs.Numbers.{number_of}
+use Rattle.answer.specs.declared.Cause.TheVariants.{Live, NotLive, Full}
+use Rattle.answer.specs.Numbers.{Answer, number_of}
 use Rattle.model.specs.Levels.{Level, due, passed}
 use Rattle.model.specs.Model.{base_limit, State, Call, add, add_of, change, withdraw, query, Outcome, with_live, settled, would_leave, base, step_add, step_live, step}
 use Rattle.model.specs.Machine.{accepted}
@@ -85,16 +85,16 @@ module _ (L1 L2 : Level) where
     -- accepted where the base list has room
     pub accepts : length (base L1 L2 (would_leave L1 L2 s e)) ≤ base_limit
         → step L1 L2 s (add_of e)
-        ≡ record { answer = Accepted (length (insert e s.live)); after = would_leave L1 L2 s e }
+        ≡ record { answer = Ok (length (insert e s.live)); after = would_leave L1 L2 s e }
     accepts h = ap (step_add L1 L2 s e) f ∙ cond_false _ _ (le-ltb base_limit (length (base L1 L2 (would_leave L1 L2 s e))) h)
 
     -- refused as full where it has not
     pub overfull : base_limit < length (base L1 L2 (would_leave L1 L2 s e))
-        → step L1 L2 s (add_of e) ≡ record { answer = Full; after = s }
+        → step L1 L2 s (add_of e) ≡ record { answer = Err Full; after = s }
     overfull h = ap (step_add L1 L2 s e) f ∙ cond_true _ _ (lt-ltb base_limit (length (base L1 L2 (would_leave L1 L2 s e))) h)
 
     -- refused as full exactly where it has not
-    pub full_exactly : ((step L1 L2 s (add_of e)).answer ≡ Full) ↔ (base_limit < length (base L1 L2 (would_leave L1 L2 s e)))
+    pub full_exactly : ((step L1 L2 s (add_of e)).answer ≡ Err Full) ↔ (base_limit < length (base L1 L2 (would_leave L1 L2 s e)))
     full_exactly = (
       λ r. cases (ltb base_limit (length (base L1 L2 (would_leave L1 L2 s e))))
           (λ t. ltb-true base_limit (length (base L1 L2 (would_leave L1 L2 s e))) t)
@@ -106,17 +106,17 @@ module _ (L1 L2 : Level) where
   pub record Added (s : State) (e : Entry) : Type 0 where
     pub fresh : find e.word s.live ≡ none
     pub fits : length (base L1 L2 (would_leave L1 L2 s e)) ≤ base_limit
-    pub left : step L1 L2 s (add_of e) ≡ record { answer = Accepted (length (insert e s.live)); after = would_leave L1 L2 s e }
+    pub left : step L1 L2 s (add_of e) ≡ record { answer = Ok (length (insert e s.live)); after = would_leave L1 L2 s e }
 
   -- the add of e is refused and changes nothing, or tells that
   add_cases : (s : State) (e : Entry) (P : Outcome → Type 0) → ((a : Answer) → accepted a ≡ false → 5 < number_of a → P (record { answer = a; after = s }))
-      → (Added s e → P (record { answer = Accepted (length (insert e s.live)); after = would_leave L1 L2 s e })) → P (step L1 L2 s (add_of e))
+      → (Added s e → P (record { answer = Ok (length (insert e s.live)); after = would_leave L1 L2 s e })) → P (step L1 L2 s (add_of e))
   add_cases s e P refused adds = go (find e.word s.live) refl
     where
       go : (o : Option ℕ) → find e.word s.live ≡ o → P (step_add L1 L2 s e o)
-      go (some q) f = refused (Live q) refl (lit< tt)
+      go (some q) f = refused (Err (Live q)) refl (lit< tt)
       go none f =
-          by_test P (ltb base_limit (length (base L1 L2 (would_leave L1 L2 s e)))) (λ t. refused Full refl (lit< tt))
+          by_test P (ltb base_limit (length (base L1 L2 (would_leave L1 L2 s e)))) (λ t. refused (Err Full) refl (lit< tt))
           (λ t. let h = ltb-false base_limit _ t in adds (record { fresh = f; fits = h; left = accepts s e f h }))
 
   pub added : (s : State) (e : Entry) → accepted (step L1 L2 s (add_of e)).answer ≡ true → Added s e
@@ -126,14 +126,14 @@ module _ (L1 L2 : Level) where
 
   module _ (s : State) (P : Call ℕ → Outcome → Type 0)
       (refused : (c : Call ℕ) (a : Answer) → accepted a ≡ false → 5 < number_of a → P c (record { answer = a; after = s }))
-      (adds : (e : Entry) → Added s e → P (add_of e) (record { answer = Accepted (length (insert e s.live)); after = would_leave L1 L2 s e }))
+      (adds : (e : Entry) → Added s e → P (add_of e) (record { answer = Ok (length (insert e s.live)); after = would_leave L1 L2 s e }))
       (changes : (e : Entry) (q : ℕ) → find e.word s.live ≡ some q
-      → P (change e.word e.plan) (record { answer = Accepted q; after = with_live s (update e s.live) }))
-      (withdraws : (w q : ℕ) → find w s.live ≡ some q → P (withdraw w) (record { answer = Accepted q; after = with_live s (remove w s.live) }))
-      (queries : (w q : ℕ) → P (query w) (record { answer = Accepted q; after = s })) where
+      → P (change e.word e.plan) (record { answer = Ok q; after = with_live s (update e s.live) }))
+      (withdraws : (w q : ℕ) → find w s.live ≡ some q → P (withdraw w) (record { answer = Ok q; after = with_live s (remove w s.live) }))
+      (queries : (w q : ℕ) → P (query w) (record { answer = Ok q; after = s })) where
     live_cases : (c : Call ℕ) (l : List Entry) (o : Option ℕ)
-        → ((q : ℕ) → o ≡ some q → P c (record { answer = Accepted q; after = with_live s l })) → P c (step_live s l o)
-    live_cases c l none f = refused c NotLive refl (lit< tt)
+        → ((q : ℕ) → o ≡ some q → P c (record { answer = Ok q; after = with_live s l })) → P c (step_live s l o)
+    live_cases c l none f = refused c (Err NotLive) refl (lit< tt)
     live_cases c l (some q) f = f q refl
 
     pub by_step : (c : Call ℕ) → P c (step L1 L2 s c)

@@ -1,8 +1,7 @@
 -- Calls put one after the other, to a table or to the model; document 01, "A list of calls".
 -- Assumes nothing.
 use Rattle.std.specs.Prelude.{◌≡◌, Bool, true, cond, List, [], ◌∷◌, eqb}
-use Rattle.answer.specs.declared.Answer.{Answer}
-use Rattle.answer.specs.Numbers.{number_of}
+use Rattle.answer.specs.Numbers.{Answer, number_of}
 
 -- what takes calls C: the answer to a call, and what the call leaves. T is a table, or a state of the model
 pub record Machine (T C : Type 0) : Type 0 where

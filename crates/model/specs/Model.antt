@@ -1,12 +1,12 @@
 -- The state that settles every answer, and what each call does to it; document 01, "The whole table". Words stand for identifiers.
 -- Assumes nothing.
-use Rattle.std.specs.Prelude.{ℕ, cond, List, [], ltb, length}
+use Rattle.std.specs.Prelude.{ℕ, cond, List, [], ltb, length, Ok, Err}
 use Rattle.std.proofs.Math.Option.{Option, none, some}
+use Rattle.answer.specs.Numbers.{Answer}
 use Rattle.lists.specs.Lists.{tabulate}
 use Rattle.lists.specs.Entries.{Entry, words, find, insert, update, remove}
 use Rattle.bucket.specs.Bucket.{largest_bound}
-use Rattle.answer.specs.declared.Answer.{Answer}
-use Rattle.answer.specs.declared.Answer.TheVariants.{Accepted, Live, NotLive, Full}
+use Rattle.answer.specs.declared.Cause.TheVariants.{Live, NotLive, Full}
 use Rattle.model.specs.Levels.{Level, lower, passed}
 
 -- the base list has at most this many entries
@@ -51,8 +51,8 @@ with_live s l = record { size = s.size; live = l; bounds1 = s.bounds1; bounds2 =
 
 -- a call that asks for a live word and leaves the live words l, by the plan of the word, if it is live
 abbrev pub step_live : State → List Entry → Option ℕ → Outcome
-step_live s l (some p) = record { answer = Accepted p; after = with_live s l }
-step_live s l none = record { answer = NotLive; after = s }
+step_live s l (some p) = record { answer = Ok p; after = with_live s l }
+step_live s l none = record { answer = Err NotLive; after = s }
 
 module _ (L1 L2 : Level) where
   -- the state with these live words, and the bounds lowered for them: first level before second, where the words are due that the
@@ -75,12 +75,12 @@ module _ (L1 L2 : Level) where
   abbrev pub unless_full : State → State → Outcome
   unless_full s t =
       cond (ltb base_limit (length (base t)))
-      (record { answer = Full; after = s })
-      (record { answer = Accepted (length t.live); after = t })
+      (record { answer = Err Full; after = s })
+      (record { answer = Ok (length t.live); after = t })
 
   -- the add of e, by the plan of its word, if that is live
   abbrev pub step_add : State → Entry → Option ℕ → Outcome
-  step_add s e (some p) = record { answer = Live p; after = s }
+  step_add s e (some p) = record { answer = Err (Live p); after = s }
   step_add s e none = unless_full s (would_leave s e)
 
   -- what a call does

@@ -1,10 +1,9 @@
 -- Calls as they are put, with anything as identifier, at document 01's two levels.
 -- Assumes nothing.
-use Rattle.std.specs.Prelude.{ℕ, Bool, true, List, [], ◌∷◌}
+use Rattle.std.specs.Prelude.{ℕ, Bool, true, List, [], ◌∷◌, Ok, Err}
+use Rattle.answer.specs.Numbers.{Answer}
 use Rattle.lists.specs.Entries.{assignable}
 use Rattle.identifier.specs.Identifier.{Token, word_of, read_of, with_plan}
-use Rattle.identifier.specs.declared.Read.{Read}
-use Rattle.identifier.specs.declared.Read.TheVariants.{Word, Refused}
 use Rattle.model.specs.Levels.{first_level, second_level}
 use Rattle.model.specs.Model.{State, Call, add, change, withdraw, query, Outcome, step}
 
@@ -30,7 +29,7 @@ plan_allowed (withdraw i) = true
 plan_allowed (query i) = true
 
 -- what a call is for: the word of its identifier, or the cause that is met before the table is looked at
-abbrev pub word_for : Call Token → Read
+abbrev pub word_for : Call Token → Answer
 word_for c = with_plan (plan_allowed c) (read_of (subject c))
 
 -- the call by the word of its identifier
@@ -38,9 +37,9 @@ abbrev pub by_word : Call Token → Call ℕ
 by_word c = ask_of (word_of (subject c)) c
 
 -- by what it is for: turned down (causes 15, 1, 2, 14), or the word is taken
-abbrev pub serve_read : State → Call Token → Read → Outcome
-serve_read s c (Refused a) = record { answer = a; after = s }
-serve_read s c (Word w) = step first_level second_level s (ask_of w c)
+abbrev pub serve_read : State → Call Token → Answer → Outcome
+serve_read s c (Err e) = record { answer = Err e; after = s }
+serve_read s c (Ok w) = step first_level second_level s (ask_of w c)
 
 -- what a call does
 abbrev pub serve : State → Call Token → Outcome

@@ -8,15 +8,13 @@ use mathlib.Core.List.{List, [], ◌∷◌}
 use lib.Dec.{eqb}
 use lib.ListN.{length}
 use borrow.Author.Tests.{eqb-false, ne_eqb}
+use Rattle.std.specs.Prelude.{Result, Ok, Err}
 use Rattle.hash.specs.Fnv.{fnv_of}
-use Rattle.answer.specs.declared.Answer.{Answer}
-use Rattle.answer.specs.declared.Answer.TheVariants.{WrongPlane, UnlikePlanes, WrongPatch, WrongSum}
-use Rattle.answer.specs.Numbers.{number_of, value_of}
+use Rattle.answer.specs.declared.Cause.TheVariants.{WrongPlane, UnlikePlanes, WrongPatch, WrongSum}
+use Rattle.answer.specs.Numbers.{cause_number, cause_value}
 use Rattle.answer.specs.Causes.{Cause, cause_if, Exactly}
 use Rattle.answer.proofs.Causes.{one_value, one_if, Given, exactly, unless_met}
 use Rattle.table.proofs.Causes.{and_fails}
-use Rattle.plane.specs.declared.Wrong.{Wrong}
-use Rattle.plane.specs.declared.Wrong.TheVariants.{Nowhere, At}
 use Rattle.plane.specs.Record.{format1}
 use Rattle.plane.specs.Plane.{plane_from, wrong_at, buckets1, buckets2}
 use Rattle.plane.specs.Causes.{wrong_plane}
@@ -34,24 +32,24 @@ use Rattle.patch.proofs.Calls.{left}
 use Rattle.patch.proofs.Offset.{patch_offset_exactly}
 
 -- a cause with an offset, as the scan x finds it; then what follows, o
-unless-wrong : (c : Cause) (answer : ℕ → Answer) → ((at : ℕ) → (number_of (answer at) ≡ c.number) × (value_of (answer at) ≡ at)) → (cs : List Cause) (returns : ℕ → Type 0) (out : List ℕ) (o : Written) (x : Wrong)
-    → ((at : ℕ) → (x ≡ At at) ↔ c.met at) → Given cs returns o.answer → Given (c ∷ cs) returns (unless_wrong answer out x o).answer
-unless-wrong c answer n cs returns out o Nowhere e g = inr (λ at m. at_nowhere (sym ((e at).1 m)), g)
-unless-wrong c answer n cs returns out o (At at) e g = inl ((n at).0, rw (n at).1 ((e at).0 refl))
+unless-wrong : (c : Cause) (cause : ℕ → _) → ((at : ℕ) → (cause_number (cause at) ≡ c.number) × (cause_value (cause at) ≡ at)) → (cs : List Cause) (returns : ℕ → Type 0) (out : List ℕ) (o : Written) (x : Result (Unit {0}) ℕ)
+    → ((at : ℕ) → (x ≡ Err at) ↔ c.met at) → Given cs returns o.answer → Given (c ∷ cs) returns (unless_wrong cause out x o).answer
+unless-wrong c cause n cs returns out o (Ok u) e g = inr (λ at m. at_nowhere (sym ((e at).1 m)), g)
+unless-wrong c cause n cs returns out o (Err at) e g = inl ((n at).0, rw (n at).1 ((e at).0 refl))
 
 -- what both calls meet: cause 10 of the plane p, then c, as the scan y finds it, then two pairs of numbers of which one differs, then 9
-two_exactly : (p out bytes : List ℕ) (c : Cause) (answer : ℕ → Answer) → ((at : ℕ) → (number_of (answer at) ≡ c.number) × (value_of (answer at) ≡ at)) → (y : Wrong) → ((at : ℕ) → (y ≡ At at) ↔ c.met at)
-    → (a : Answer) → value_of a ≡ 0 → (i j u v : ℕ)
-    → Exactly (wrong_plane format1 p ∷ c ∷ cause_if (number_of a) ((i ≡ j → ⊥) ⊎ (u ≡ v → ⊥)) 0 ∷ too_short bytes out ∷ []) (λ l. l ≡ length bytes) (left out answer a bytes (wrong_at format1 p) y (eqb i j && eqb u v)).answer
-two_exactly p out bytes c answer n y e a z i j u v =
-    let differ : Cause = cause_if (number_of a) ((i ≡ j → ⊥) ⊎ (u ≡ v → ⊥)) 0 in
+two_exactly : (p out bytes : List ℕ) (c : Cause) (cause : ℕ → _) → ((at : ℕ) → (cause_number (cause at) ≡ c.number) × (cause_value (cause at) ≡ at)) → (y : Result (Unit {0}) ℕ) → ((at : ℕ) → (y ≡ Err at) ↔ c.met at)
+    → (a : _) → cause_value a ≡ 0 → (i j u v : ℕ)
+    → Exactly (wrong_plane format1 p ∷ c ∷ cause_if (cause_number a) ((i ≡ j → ⊥) ⊎ (u ≡ v → ⊥)) 0 ∷ too_short bytes out ∷ []) (λ l. l ≡ length bytes) (left out cause a bytes (wrong_at format1 p) y (eqb i j && eqb u v)).answer
+two_exactly p out bytes c cause n y e a z i j u v =
+    let differ : Cause = cause_if (cause_number a) ((i ≡ j → ⊥) ⊎ (u ≡ v → ⊥)) 0 in
     let short : List Cause = too_short bytes out ∷ [] in
     let o : Written = cond (eqb i j && eqb u v) (put_front bytes out) (turned_down a out) in
-    exactly (wrong_plane format1 p ∷ c ∷ differ ∷ short) (λ l. l ≡ length bytes) (unless_wrong WrongPlane out (wrong_at format1 p) (unless_wrong answer out y o)).answer
-    (one_offset format1 p, ((λ s t f g. at_one (sym ((e s).1 f) ∙ (e t).1 g)), (one_if (number_of a) _ 0, (one_if 9 _ (length bytes), one_value (length bytes)))))
-    (unless-wrong (wrong_plane format1 p) WrongPlane (λ at. (refl, refl)) (c ∷ differ ∷ short) (λ l. l ≡ length bytes) out (unless_wrong answer out y o) (wrong_at format1 p) (offset_exactly format1 p)
-    (unless-wrong c answer n (differ ∷ short) (λ l. l ≡ length bytes) out o y e
-    (unless_met (λ (w : Written). w.answer) (number_of a) _ 0 short (λ l. l ≡ length bytes) (eqb i j && eqb u v) (put_front bytes out) (turned_down a out)
+    exactly (wrong_plane format1 p ∷ c ∷ differ ∷ short) (λ l. l ≡ length bytes) (unless_wrong WrongPlane out (wrong_at format1 p) (unless_wrong cause out y o)).answer
+    (one_offset format1 p, ((λ s t f g. at_one (sym ((e s).1 f) ∙ (e t).1 g)), (one_if (cause_number a) _ 0, (one_if 9 _ (length bytes), one_value (length bytes)))))
+    (unless-wrong (wrong_plane format1 p) WrongPlane (λ at. (refl, refl)) (c ∷ differ ∷ short) (λ l. l ≡ length bytes) out (unless_wrong cause out y o) (wrong_at format1 p) (offset_exactly format1 p)
+    (unless-wrong c cause n (differ ∷ short) (λ l. l ≡ length bytes) out o y e
+    (unless_met (λ (w : Written). w.answer) (cause_number a) _ 0 short (λ l. l ≡ length bytes) (eqb i j && eqb u v) (put_front bytes out) (turned_down a out)
     (and_fails (eqb i j) (eqb u v) (eqb-false i j, ne_eqb i j) (eqb-false u v, ne_eqb u v)) (refl, z) (λ t. front_given bytes out))))
 
 pub make_exactly : (p q out : List ℕ) → Exactly (make_causes p q out) (make_returns p q) (make_call p q out).answer

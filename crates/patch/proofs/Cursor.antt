@@ -1,90 +1,26 @@
--- A cursor over the base list: entries as pairs one by one, where a word stands in an ascending list, and one entry removed or entered there.
+-- A cursor over the base list: where a word stands in an ascending list, and one entry removed or entered there.
 -- Assumes nothing.
-use Prim.Native.Nat.{ℕ, zero, suc, ◌+◌, ◌-◌, ◌*◌, ◌≤◌, ◌<◌}
+use Prim.Native.Nat.{ℕ, zero, suc, ◌≤◌, ◌<◌, ◌+◌}
 use native.Mathlib.Nat.{le_of_lt}
 use native.Mathlib.Omega.{arith}
-use mathlib.Core.Path.{◌≡◌, refl, sym, ap, ap₂, ◌∙◌}
-use mathlib.Core.Bool.{true, false, cond, true≢false}
-use mathlib.Core.Option.{none}
+use mathlib.Core.Path.{◌≡◌, refl, sym, ap, ◌∙◌}
+use mathlib.Core.Bool.{true, false}
+use mathlib.Core.Option.{none, some}
+use mathlib.Core.Option as Math
 use mathlib.Core.List.{List, [], ◌∷◌, ◌++◌, append_assoc}
 use lib.Dec.{eqb, ltb}
-use lib.ListN.{length, get_or, take, drop, set, take-append-drop, drop_of_length-le}
-use lib.Seq.{drop-cons, drop-drop, take-add, append_snoc}
+use lib.ListN.{length, take, drop, take-append-drop, length-drop}
+use lib.Seq.{append_snoc, length-take-le}
 use borrow.Author.Tests.{ltb-true, ltb-false, eqb-true, eqb-false, lt-ltb, le-ltb, eq-eqb, ne_eqb}
+use Rattle.std.specs.Prelude.{Option, Some, None}
+use Rattle.std.specs.Option.{is_some}
 use Rattle.lists.specs.Lists.{Every}
 use Rattle.lists.specs.Entries.{Entry, find, insert, update, remove, Above, Ascending}
-use Rattle.lists.proofs.Tests.{cases, by_test}
+use Rattle.lists.proofs.Tests.{cases, by_test, cond_false}
 use Rattle.lists.proofs.Every.{every, every_append}
 use Rattle.lists.proofs.Entries.{none_find, above_mem, above_up}
-use Rattle.codec.specs.Parts.{written}
-use Rattle.codec.proofs.Part.{written_none, written-append, written_two}
-use Rattle.table.specs.Layout.{pair_numbers, pairs_from}
-use Rattle.table.proofs.Numbers.{length-pairs_from, length_pairs, read_pair}
-use Rattle.plane.specs.Record.{read_all, entry_body, entry_length, entry_from}
-use Rattle.plane.proofs.Read.{length-read_all, read_add, entry-part}
 use Rattle.patch.specs.Base.{is_there, enter}
-use Rattle.patch.specs.Cursor.{below, is_first}
-
--- ---- the entries that pairs hold, from the entry i on
-
-module _ (xs : List ℕ) (k i : ℕ) where
-  abbrev left : List Entry
-  left = drop i (pairs_from k xs)
-
-  pub pair-next : i < k → left ≡ record { word = get_or xs (2 * i) 0; plan = get_or xs (2 * i + 1) 0 } ∷ drop (suc i) (pairs_from k xs)
-  pair-next h =
-      let z : Entry = record { word = 0; plan = 0 } in
-      let l : i < length (pairs_from k xs) = rw (length-pairs_from k xs) h in
-      drop-cons (pairs_from k xs) i z l ∙ ap {B = List Entry} (λ e. e ∷ drop (suc i) (pairs_from k xs)) (read_pair k xs i z h)
-
-  pub none_left_lem : k ≤ i → left ≡ []
-  none_left_lem h = drop_of_length-le (pairs_from k xs) {i = i} (rw (length-pairs_from k xs) h)
-
-  module _ (w : ℕ) where
-    pub below-here : i < k → w ≤ get_or xs (2 * i) 0 → below w left ≡ 0
-    below-here h l = ap (below w) (pair-next h) ∙ rw (le-ltb (get_or xs (2 * i) 0) w l)
-
-    pub below_next : i < k → get_or xs (2 * i) 0 < w → below w left ≡ suc (below w (drop (suc i) (pairs_from k xs)))
-    below_next h l = ap (below w) (pair-next h) ∙ rw (lt-ltb (get_or xs (2 * i) 0) w l)
-
-    pub below_end : k ≤ i → below w left ≡ 0
-    below_end h = ap (below w) (none_left_lem h)
-
-    pub first-here : i < k → is_first w left ≡ eqb (get_or xs (2 * i) 0) w
-    first-here h = ap (is_first w) (pair-next h)
-
-    pub first-end : k ≤ i → is_first w left ≡ false
-    first-end h = ap (is_first w) (none_left_lem h)
-
--- ---- the pairs of entries that are read one by one
-
-pairs_append : (a b : List Entry) → pair_numbers (a ++ b) ≡ pair_numbers a ++ pair_numbers b
-pairs_append [] b = refl
-pairs_append (e ∷ a) b = ap {B = List ℕ} (λ l. e.word ∷ e.plan ∷ l) (pairs_append a b)
-
--- one entry more
-pub pairs_more : (es : List Entry) (e : Entry) (t : List ℕ)
-    → written 0 (pair_numbers (es ++ e ∷ [])) t ≡ set (set (written 0 (pair_numbers es) t) (2 * length es) e.word) (2 * length es + 1) e.plan
-pairs_more es e t =
-    let n : 0 + length (pair_numbers es) ≡ 2 * length es = omega (arith, length_pairs es) in
-    rw (pairs_append, written-append, n) (sym (written_two (2 * length es) e.word e.plan [] (written 0 (pair_numbers es) t)) ∙ written_none (2 * length es + 2) _)
-
--- the first i entries of a plane's base list, which starts at `first`, and the one at the offset `at`
-pub loaded_next : (i at first w : ℕ) (p s t : List ℕ) → at ≡ first + i * entry_length → w ≡ (entry_from (take (at + entry_length - at) (drop at p))).word
-    → s ≡ written 0 (pair_numbers (read_all entry_length entry_from i (drop first p))) t
-    → set (set s (2 * i) w) (2 * i + 1) (get_or (take (at + entry_length - at) (drop at p)) entry_body 0) ≡ written 0 (pair_numbers (read_all entry_length entry_from (i + 1) (drop first p))) t
-unfolding read_all
-loaded_next i at first w p s t h k q =
-    let e : Entry = entry_from (drop (i * entry_length) (drop first p)) in
-    let es : List Entry = read_all entry_length entry_from i (drop first p) in
-    let same : entry_from (take (at + entry_length - at) (drop at p)) ≡ e = entry-part at p ∙ rw (h, ← drop-drop (i * entry_length) first p) in
-    ap₂ (λ (v : ℕ) (l : List ℕ). set (set l (2 * i) v) (2 * i + 1) (entry_from (take (at + entry_length - at) (drop at p))).plan) k q
-    ∙ ap (λ (x : Entry). set (set (written 0 (pair_numbers es) t) (2 * i) x.word) (2 * i + 1) x.plan) same
-    ∙ sym (rw (read_add entry_length entry_from i 1 (drop first p), pairs_more es e t, length-read_all entry_length entry_from i (drop first p)))
-
-pub loaded_none : (p t : List ℕ) → t ≡ written 0 (pair_numbers (read_all entry_length entry_from 0 p)) t
-unfolding read_all
-loaded_none p t = sym (written_none 0 t)
+use Rattle.patch.specs.Cursor.{below, plan_first, after}
 
 -- ---- smaller words in front: what is found, removed or entered is so behind them
 
@@ -120,39 +56,84 @@ module _ (e : Entry) where
 
 -- ---- a list with no smaller word in front
 
+-- a plan, or none, as `find` gives it
+abbrev pub found : Option ℕ → Math.Option ℕ
+found None = none
+found (Some p) = some p
+
+-- no word is below 0
+pub below_zero : (es : List Entry) → below 0 es ≡ 0
+below_zero [] = refl
+below_zero (e ∷ es) = cond_false (suc (below 0 es)) 0 (le-ltb e.word 0 (omega arith))
+
 module _ (w : ℕ) where
   pub none_above : (es : List Entry) → Above w es → find w es ≡ none
   none_above es h = none_find w es (λ x m e. let l = above_mem w es h x m in omega (arith, e))
 
-  pub not_below : (x : Entry) (r : List Entry) → below w (x ∷ r) ≡ 0 → w ≤ x.word
+  not_below : (x : Entry) (r : List Entry) → below w (x ∷ r) ≡ 0 → w ≤ x.word
   not_below x r z = cases (ltb x.word w) (λ t. absurd (let k : suc (below w r) ≡ 0 = rw t at z in omega arith)) (λ g. ltb-false x.word w g)
 
   -- another word in front is larger, and so are all
-  pub larger : (x : Entry) (r : List Entry) → Ascending (x ∷ r) → below w (x ∷ r) ≡ 0 → is_first w (x ∷ r) ≡ false → Above w (x ∷ r)
+  larger : (x : Entry) (r : List Entry) → Ascending (x ∷ r) → below w (x ∷ r) ≡ 0 → eqb x.word w ≡ false → Above w (x ∷ r)
   larger x r a z f =
       let l : w < x.word = omega (arith, not_below x r z, eqb-false x.word w f) in
       (l, above_up l r a.0)
 
-  pub there-front : (r : List Entry) → Ascending r → below w r ≡ 0 → is_there (find w r) ≡ is_first w r
-  there-front [] a z = refl
-  there-front (x ∷ r) a z =
+  find-front : (r : List Entry) → Ascending r → below w r ≡ 0 → find w r ≡ found (plan_first w r)
+  find-front [] a z = refl
+  find-front (x ∷ r) a z =
       cases (eqb x.word w)
       (λ t. rw (eq-eqb w x.word (sym (eqb-true x.word w t)), t))
       (λ f. rw (none_above (x ∷ r) (larger x r a z f), f))
 
-  remove-front : (r : List Entry) → is_first w r ≡ true → remove w r ≡ drop 1 r
-  remove-front [] h = absurd (true≢false (sym h))
-  remove-front (x ∷ r) h = rw (eq-eqb w x.word (sym (eqb-true x.word w h)))
+  -- a lower word is not there
+  find-lower : (v : ℕ) → v < w → (r : List Entry) → below w r ≡ 0 → (below v r ≡ 0) × (plan_first v r ≡ None)
+  find-lower v l [] z = (refl, refl)
+  find-lower v l (x ∷ r) z =
+      let k = not_below x r z in
+      (cond_false (suc (below v r)) 0 (le-ltb x.word v (omega arith)), rw (ne_eqb x.word v (λ q. omega (arith, q))))
+
+  -- the words behind it are larger
+  after-ascending : (r : List Entry) → Ascending r → Ascending (after w r)
+  after-ascending [] a = tt
+  after-ascending (x ∷ r) a = by_test (λ (l : List Entry). Ascending l) (eqb x.word w) (λ t. a.1) (λ f. a)
+
+  above-below : (r : List Entry) → Above w r → below (suc w) r ≡ 0
+  above-below [] h = refl
+  above-below (x ∷ r) h = cond_false (suc (below (suc w) r)) 0 (le-ltb x.word (suc w) (omega (arith, h.0)))
+
+  after-below : (r : List Entry) → Ascending r → below w r ≡ 0 → below (suc w) (after w r) ≡ 0
+  after-below [] a z = refl
+  after-below (x ∷ r) a z =
+      cases (eqb x.word w)
+      (λ t. rw t (above-below r (rw (eqb-true x.word w t) at a.0)))
+      (λ f. rw f (above-below (x ∷ r) (larger x r a z f)))
+
+  after-find : (v : ℕ) → w < v → (r : List Entry) → find v (after w r) ≡ find v r
+  after-find v l [] = refl
+  after-find v l (x ∷ r) =
+      cases (eqb x.word w) (λ t. rw (t, ne_eqb v x.word (λ q. omega (arith, q, eqb-true x.word w t)))) (λ f. rw f)
+
+  remove-front : (r : List Entry) → Ascending r → below w r ≡ 0 → remove w r ≡ after w r
+  remove-front [] a z = refl
+  remove-front (x ∷ r) a z =
+      cases (eqb x.word w)
+      (λ t. rw (eq-eqb w x.word (sym (eqb-true x.word w t)), t))
+      (λ f. rw f (none_removed (x ∷ r) (larger x r a z f)))
+    where
+      none_removed : (l : List Entry) → Above w l → remove w l ≡ l
+      none_removed [] h = refl
+      none_removed (y ∷ l) h = rw (ne_eqb w y.word (λ q. omega (arith, h.0, q))) (ap {B = List Entry} (λ m. y ∷ m) (none_removed l h.1))
 
 -- an entry takes the place of the one in front, if that has its word
-enter-front : (e : Entry) (r : List Entry) → Ascending r → below e.word r ≡ 0 → enter e r ≡ e ∷ drop (cond (is_first e.word r) 1 0) r
+enter-front : (e : Entry) (r : List Entry) → Ascending r → below e.word r ≡ 0 → enter e r ≡ e ∷ after e.word r
 enter-front e [] a z = refl
 enter-front e (x ∷ r) a z =
     cases (eqb x.word e.word)
     (λ t. rw (eq-eqb e.word x.word (sym (eqb-true x.word e.word t)), t))
     (λ f. let h = larger e.word x r a z f in rw (none_above e.word (x ∷ r) h, lt-ltb e.word x.word h.0, f))
 
--- ---- the cursor after `below`
+-- ---- the place of a word
 
 pub ascending_drop : (i : ℕ) (es : List Entry) → Ascending es → Ascending (drop i es)
 ascending_drop zero es a = a
@@ -160,66 +141,91 @@ ascending_drop (suc i) [] a = a
 ascending_drop (suc i) (x ∷ es) a = ascending_drop i es a.1
 
 module _ (w : ℕ) where
-  -- the entries that it passes are there and have smaller words; the next has not
+  -- the entries from the first word on that is not below w
+  abbrev pub from : List Entry → List Entry
+  from es = drop (below w es) es
+
   pub below_length : (es : List Entry) → below w es ≤ length es
   below_length [] = omega arith
   below_length (e ∷ es) =
       by_test (λ (i : ℕ). i ≤ suc (length es)) (ltb e.word w) (λ t. let h = below_length es in omega arith) (λ f. omega arith)
 
-  pub below-low : (es : List Entry) → Low w (take (below w es) es)
+  below-low : (es : List Entry) → Low w (take (below w es) es)
   below-low [] = tt
   below-low (e ∷ es) = cases (ltb e.word w) (λ t. rw t (ltb-true e.word w t, below-low es)) (λ f. rw f tt)
 
-  pub below-drop : (es : List Entry) → below w (drop (below w es) es) ≡ 0
-  below-drop [] = refl
-  below-drop (e ∷ es) = cases (ltb e.word w) (λ t. rw t (below-drop es)) (λ f. rw (f, f))
+  below-from : (es : List Entry) → below w (from es) ≡ 0
+  below-from [] = refl
+  below-from (e ∷ es) = cases (ltb e.word w) (λ t. rw t (below-from es)) (λ f. rw (f, f))
 
-  module _ (R : List Entry) where
-    pub find-below : (v : ℕ) → w ≤ v → find v R ≡ find v (drop (below w R) R)
-    find-below v l =
-        ap (find v) (sym (take-append-drop (below w R) R)) ∙ find-low v (take (below w R) R) (drop (below w R) R) (low_up w v l (take (below w R) R) (below-low R))
+  find-below : (R : List Entry) (v : ℕ) → w ≤ v → find v R ≡ find v (from R)
+  find-below R v l =
+      ap (find v) (sym (take-append-drop (below w R) R)) ∙ find-low v (take (below w R) R) (from R) (low_up w v l (take (below w R) R) (below-low R))
 
-    pub there-first : Ascending R → is_there (find w R) ≡ is_first w (drop (below w R) R)
-    there-first a = ap is_there (find-below w (omega arith)) ∙ there-front w (drop (below w R) R) (ascending_drop (below w R) R a) (below-drop R)
-
--- ---- an entry removed or entered at the cursor: a are the entries before it, R those from it on
-
-module _ (w : ℕ) (a R : List Entry) (l : Low w a) where
+-- an entry removed or entered there: a are the entries before R
+module _ (w : ℕ) (a R : List Entry) (l : Low w a) (s : Ascending R) where
   abbrev front : List Entry
   front = a ++ take (below w R) R
 
   pub low-front : Low w front
   low-front = every_append (λ e. e.word < w) a (take (below w R) R) l (below-low w R)
 
-  split : a ++ R ≡ front ++ drop (below w R) R
-  split = ap (λ (r : List Entry). a ++ r) (sym (take-append-drop (below w R) R)) ∙ sym (append_assoc a (take (below w R) R) (drop (below w R) R))
+  split : a ++ R ≡ front ++ from w R
+  split = ap (λ (r : List Entry). a ++ r) (sym (take-append-drop (below w R) R)) ∙ sym (append_assoc a (take (below w R) R) (from w R))
 
-  pub remove-at : is_first w (drop (below w R) R) ≡ true → remove w (a ++ R) ≡ front ++ drop 1 (drop (below w R) R)
-  remove-at h = ap (remove w) split ∙ remove-low w front (drop (below w R) R) low-front ∙ ap (λ (r : List Entry). front ++ r) (remove-front w (drop (below w R) R) h)
+  pub remove-at : remove w (a ++ R) ≡ front ++ after w (from w R)
+  remove-at =
+      ap (remove w) split ∙ remove-low w front (from w R) low-front
+      ∙ ap (λ (r : List Entry). front ++ r) (remove-front w (from w R) (ascending_drop (below w R) R s) (below-from w R))
 
-pub enter-at : (e : Entry) (a R : List Entry) → Low e.word a → Ascending R
-    → enter e (a ++ R) ≡ ((a ++ take (below e.word R) R) ++ e ∷ []) ++ drop (cond (is_first e.word (drop (below e.word R) R)) 1 0) (drop (below e.word R) R)
+pub enter-at : (e : Entry) (a R : List Entry) → Low e.word a → Ascending R → enter e (a ++ R) ≡ ((a ++ take (below e.word R) R) ++ e ∷ []) ++ after e.word (from e.word R)
 enter-at e a R l s =
-    let from : List Entry = drop (below e.word R) R in
     let before : List Entry = a ++ take (below e.word R) R in
-    ap (enter e) (split e.word a R l) ∙ enter-low e before from (low-front e.word a R l)
-    ∙ ap (λ (x : List Entry). before ++ x) (enter-front e from (ascending_drop (below e.word R) R s) (below-drop e.word R)) ∙ sym (append_snoc before e _)
+    ap (enter e) (split e.word a R l s) ∙ enter-low e before (from e.word R) (low-front e.word a R l s)
+    ∙ ap (λ (x : List Entry). before ++ x) (enter-front e (from e.word R) (ascending_drop (below e.word R) R s) (below-from e.word R)) ∙ sym (append_snoc before e _)
 
--- ---- the cursor in a list: i entries are passed, and `seek` goes on from there
+-- ---- the cursor: `left` are the entries of R that are still to come, and no word below `least` is sought any more
 
-module _ (w i : ℕ) (es : List Entry) (l : Low w (take i es)) where
-  abbrev j : ℕ
-  j = i + below w (drop i es)
+pub record Left (least : ℕ) (R left : List Entry) : Type 0 where
+  pub ascending : Ascending left
+  pub ahead : below least left ≡ 0
+  pub same : (v : ℕ) → least ≤ v → find v R ≡ find v left
 
-  pub seek_low : Low w (take j es)
-  seek_low = rw (take-add i (below w (drop i es)) es) (low-front w (take i es) (drop i es) l)
+pub left_all : (R : List Entry) → Ascending R → Left 0 R R
+left_all R a = record { ascending = a; ahead = below_zero R; same = λ v l. refl }
 
-  passed : find w es ≡ find w (drop i es)
-  passed = ap (find w) (sym (take-append-drop i es)) ∙ find-low w (take i es) (drop i es) l
+module _ {least : ℕ} {R left : List Entry} (h : Left least R left) (w : ℕ) where
+  pub left_find : least ≤ w → find w R ≡ found (plan_first w (from w left))
+  left_find l = h.same w l ∙ find-below w left w (omega arith) ∙ find-front w (from w left) (ascending_drop (below w left) left h.ascending) (below-from w left)
 
-  pub seek_find : find w es ≡ find w (drop j es)
-  seek_find = passed ∙ find-below w (drop i es) w (omega arith) ∙ ap (find w) (drop-drop (below w (drop i es)) i es)
+  pub left_lower : w < least → plan_first w (from w left) ≡ None
+  left_lower l =
+      let n = find-lower least w l left h.ahead in
+      rw n.0 n.1
 
-  pub seek_there : Ascending es → is_there (find w es) ≡ is_first w (drop j es)
-  seek_there a =
-      ap is_there passed ∙ there-first w (drop i es) (ascending_drop i es a) ∙ ap (is_first w) (drop-drop (below w (drop i es)) i es)
+  pub left_next : least ≤ w → Left (suc w) R (after w (from w left))
+  left_next l = record {
+    ascending = after-ascending w (from w left) (ascending_drop (below w left) left h.ascending);
+    ahead = after-below w (from w left) (ascending_drop (below w left) left h.ascending) (below-from w left);
+    same = λ v k. h.same v (omega arith) ∙ find-below w left v (omega arith) ∙ sym (after-find w v k (from w left));
+  }
+
+-- a word is there if it has a plan
+pub there_some : (o : Option ℕ) → is_there (found o) ≡ is_some o
+there_some None = refl
+there_some (Some p) = refl
+
+-- the entries before and after it, and itself, are no more than those of the list
+pub place_length : (w : ℕ) (es : List Entry) → length (take (below w es) es) + length (after w (from w es)) ≤ length es
+place_length w es = omega (arith, below_length w es, length-take-le (below w es) es (below_length w es), length-drop (below w es) es, after-length (from w es))
+  where
+    after-length : (r : List Entry) → length (after w r) ≤ length r
+    after-length [] = omega arith
+    after-length (x ∷ r) = by_test (λ (l : List Entry). length l ≤ suc (length r)) (eqb x.word w) (λ t. omega arith) (λ f. omega arith)
+
+pub place-fewer : (w : ℕ) (es : List Entry) → is_some (plan_first w (from w es)) ≡ true → length (take (below w es) es) + 1 + length (after w (from w es)) ≤ length es
+place-fewer w es h = omega (arith, length-take-le (below w es) es (below_length w es), length-drop (below w es) es, below_length w es, after-fewer (from w es) h)
+  where
+    after-fewer : (r : List Entry) → is_some (plan_first w r) ≡ true → 1 + length (after w r) ≤ length r
+    after-fewer [] e = cc
+    after-fewer (x ∷ r) e = cases (eqb x.word w) (λ t. rw t (omega arith)) (λ f. let z : false ≡ true = rw f at e in cc)

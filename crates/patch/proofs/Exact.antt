@@ -8,10 +8,10 @@ use native.Mathlib.Omega.{arith}
 use lib.Dec.{leb, ltb}
 use lib.ListN.{length, get_or, drop, length-drop}
 use lib.Seq.{drop-cons, drop-drop}
+use Rattle.std.specs.Prelude.{Ok}
 use Rattle.lists.specs.Entries.{Entry}
 use Rattle.lists.proofs.Tests.{and_both}
 use Rattle.codec.specs.Bytes.{to_bytes}
-use Rattle.plane.specs.declared.Wrong.TheVariants.{Nowhere}
 use Rattle.plane.specs.Record.{Format, bytes_of, word_bytes, word_from, bucket_length, bucket_bytes, bucket_from, entry_from, end_record}
 use Rattle.plane.specs.Plane.{Plane, fits, whole, entry_allowed, end_wrong}
 use Rattle.plane.specs.Fits.{Below, FitsEntry}
@@ -65,13 +65,13 @@ module _ (gone : List ℕ) (s : Filled) (p : List ℕ) (e : fits new_records (ne
 
 -- ---- the patch
 
-module _ (F : Format) (P : Plane) (d : List ℕ) (e : patch_wrong_at F P d ≡ Nowhere) (b : AllBytes d) where
+module _ (F : Format) (P : Plane) (d : List ℕ) (e : patch_wrong_at F P d ≡ Ok tt) (b : AllBytes d) where
   pub record Parts : Type 0 where
     pub sums : whole sums_kind sums_body d ≡ true
-    pub changes : changes_wrong F P d ≡ Nowhere
-    pub gone : gone_wrong F P d ≡ Nowhere
-    pub news : news_wrong F P d ≡ Nowhere
-    pub end : end_wrong (end_in F d) (drop (end_in F d) d) ≡ Nowhere
+    pub changes : changes_wrong F P d ≡ Ok tt
+    pub gone : gone_wrong F P d ≡ Ok tt
+    pub news : news_wrong F P d ≡ Ok tt
+    pub end : end_wrong (end_in F d) (drop (end_in F d) d) ≡ Ok tt
 
   pub parts : Parts
   unfolding patch_wrong_at

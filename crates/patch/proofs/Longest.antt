@@ -9,6 +9,7 @@ use mathlib.Core.List.{List, [], ◌∷◌, map}
 use lib.Dec.{eqb, leb, ltb}
 use lib.ListN.{length, length-append, length-map}
 use borrow.Author.Tests.{leb-true, ltb-true, eqb-true}
+use Rattle.std.specs.Prelude.{Ok}
 use Rattle.lists.specs.Entries.{Entry, find, Ascending, Distinct}
 use Rattle.lists.proofs.Tests.{cases}
 use Rattle.lists.proofs.Entries.{none≢some}
@@ -16,7 +17,6 @@ use Rattle.lists.proofs.Sorts.{ascending_distinct}
 use Rattle.model.specs.Model.{base_limit}
 use Rattle.table.specs.Layout.{most_buckets1, most_buckets2}
 use Rattle.plane.specs.Record.{format1}
-use Rattle.plane.specs.declared.Wrong.TheVariants.{Nowhere}
 use Rattle.plane.specs.Plane.{Plane, plane_from, wrong_at, all_allowed, entry_allowed, exceeding}
 use Rattle.plane.specs.Fits.{Fits}
 use Rattle.plane.proofs.Scan.{both}
@@ -102,11 +102,11 @@ module _ (P : Plane) (D : Patch) (f : Fits format1 P) (h : FitsPatch format1 P D
       rw (patch_length D h.sized) (omega (arith, changes_few (length (buckets_of P)) 0 D.changes t.0, gone_few P.base D.gone t.1.0, f.few, few_news, most))
 
 -- so has one that is wrong nowhere
-pub right_most : (p d : List ℕ) → AllBytes p → AllBytes d → wrong_at format1 p ≡ Nowhere → patch_wrong_at format1 (plane_from format1 p) d ≡ Nowhere → length d ≤ 6598
+pub right_most : (p d : List ℕ) → AllBytes p → AllBytes d → wrong_at format1 p ≡ Ok tt → patch_wrong_at format1 (plane_from format1 p) d ≡ Ok tt → length d ≤ 6598
 right_most p d bp bd ep ed =
     rw (patch_written format1 (plane_from format1 p) d ed bd)
     at (patch_most (plane_from format1 p) (patch_from format1 d) (read_fits format1 p ep bp) (patch_fits format1 (plane_from format1 p) d ed bd))
 
 -- and one that is made
-pub made_most : (p q : List ℕ) → AllBytes p → AllBytes q → wrong_at format1 p ≡ Nowhere → wrong_at format1 q ≡ Nowhere → length (patch_bytes format1 (patch_of format1 p q)) ≤ 6598
+pub made_most : (p q : List ℕ) → AllBytes p → AllBytes q → wrong_at format1 p ≡ Ok tt → wrong_at format1 q ≡ Ok tt → length (patch_bytes format1 (patch_of format1 p q)) ≤ 6598
 made_most p q bp bq ep eq = patch_most (plane_from format1 p) (patch_of format1 p q) (read_fits format1 p ep bp) (made-fits format1 format1_own p q bp bq ep eq)

@@ -7,12 +7,11 @@ use mathlib.Core.Bool.{Bool, cond, not, ◌&&◌, and-true}
 use mathlib.Core.List.{List, [], ◌∷◌, ◌++◌, map}
 use lib.Dec.{leb, ltb, leb-zero}
 use lib.ListN.{length}
+use Rattle.std.specs.Prelude.{Result, Ok, Err}
 use Rattle.lists.specs.Lists.{count_from}
 use Rattle.lists.specs.Entries.{Entry, assignable, find}
 use Rattle.bucket.specs.Bucket.{largest_bound}
 use Rattle.model.specs.Model.{base_limit}
-use Rattle.plane.specs.declared.Wrong.{Wrong}
-use Rattle.plane.specs.declared.Wrong.TheVariants.{Nowhere, At}
 use Rattle.plane.specs.Record.{Format, word_bytes, entry_body, end_length}
 use Rattle.plane.specs.Plane.{Plane, whole}
 use Rattle.plane.specs.Offset.{Expected, expected_end}
@@ -67,8 +66,8 @@ module _ (F : Format) (P : Plane) (d : List ℕ) where
       let gs : List Expected = map (expected_gone F P d) (count_from 0 (gone_in F d)) in
       let ns : List Expected = map (expected_new F P d) (count_from 0 (news_in F d)) in
       let e : List Expected = expected_end (end_in F d) d ∷ [] in
-      let o : Wrong = more d end in
-      ap₂ (λ (b : Bool) (x : Wrong). cond b x (At 0)) (sym (and-true (whole sums_kind sums_body d)))
+      let o : Result (Unit {0}) ℕ = more d end in
+      ap₂ (λ (b : Bool) (x : Result (Unit {0}) ℕ). cond b x (Err 0)) (sym (and-true (whole sums_kind sums_body d)))
       (rw (
         end-found (end_in F d) d,
         scan-found new_records (new_allowed gone) filled (unfilled P.base gone) (news_at F d) d (expected_new F P d) new_same (found d e o) (news_in F d),
@@ -80,8 +79,8 @@ module _ (F : Format) (P : Plane) (d : List ℕ) where
       (scan-found (change_records F) (change_allowed (length (buckets_of P))) next_index 0 changes_at d (expected_change F P d) change-same (found d gs (found d ns (found d e o))) (changes_in F d)))
 
   -- cause 12's offset, and none
-  pub patch_offset_exactly : (at : ℕ) → (patch_wrong_at F P d ≡ At at) ↔ WrongPatchOffset F P d at
+  pub patch_offset_exactly : (at : ℕ) → (patch_wrong_at F P d ≡ Err at) ↔ WrongPatchOffset F P d at
   patch_offset_exactly at = rw patch_found (found_exactly d end at (expected_patch F P d))
 
-  pub patch_nowhere_exactly : (patch_wrong_at F P d ≡ Nowhere) ↔ RightPatch F P d
+  pub patch_nowhere_exactly : (patch_wrong_at F P d ≡ Ok tt) ↔ RightPatch F P d
   patch_nowhere_exactly = rw patch_found (found_nowhere d end (expected_patch F P d))

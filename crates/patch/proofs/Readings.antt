@@ -4,11 +4,10 @@
 use mathlib.Core.Path.{◌≡◌, refl}
 use mathlib.Core.List.{List, [], ◌∷◌, ◌++◌, map}
 use Prim.Native.Nat.{ℕ}
+use Rattle.std.specs.Prelude.{Result, Ok, Err}
 use Rattle.codec.specs.Bytes.{from_bytes, to_bytes, eq_list}
 use Rattle.lists.specs.Lists.{count_from}
 use Rattle.lists.specs.Entries.{Entry}
-use Rattle.plane.specs.declared.Wrong.{Wrong}
-use Rattle.plane.specs.declared.Wrong.TheVariants.{Nowhere, At}
 use Rattle.plane.specs.Record.{Format, bytes_of, read_all, end_record}
 use Rattle.plane.specs.Plane.{Plane}
 use Rattle.patch.specs.Record.{sums_record, change_record, gone_record, new_record}
@@ -44,7 +43,7 @@ eight w p = new_record (record { word = w; plan = p })
 abbrev four : List ℕ
 four = end_record
 
-abbrev wrong : List ℕ → Wrong
+abbrev wrong : List ℕ → Result (Unit {0}) ℕ
 wrong d = patch_wrong_at short P d
 
 pub readings :
@@ -63,12 +62,12 @@ pub readings :
     ∷ (five ++ (6 ∷ 0 ∷ [])) ∷ five ∷ (five ++ six 0 1) ∷ (five ++ (9 ∷ [])) ∷ (five ++ (4 ∷ 0x45 ∷ 0x4e ∷ 0x44 ∷ 0 ∷ [])) ∷ (five ++ four ++ (0 ∷ []))
     ∷ []
     )
-    ≡ Nowhere ∷ Nowhere ∷ Nowhere
-    ∷ At 0 ∷ At 0 ∷ At 0 ∷ At 17
-    ∷ At 26 ∷ At 27 ∷ At 27
-    ∷ At 20 ∷ At 20 ∷ At 26 ∷ At 27
-    ∷ At 17 ∷ At 17 ∷ At 17 ∷ At 26
-    ∷ At 17 ∷ At 17 ∷ At 20 ∷ At 17 ∷ At 17 ∷ At 22
+    ≡ Ok tt ∷ Ok tt ∷ Ok tt
+    ∷ Err 0 ∷ Err 0 ∷ Err 0 ∷ Err 17
+    ∷ Err 26 ∷ Err 27 ∷ Err 27
+    ∷ Err 20 ∷ Err 20 ∷ Err 26 ∷ Err 27
+    ∷ Err 17 ∷ Err 17 ∷ Err 17 ∷ Err 26
+    ∷ Err 17 ∷ Err 17 ∷ Err 20 ∷ Err 17 ∷ Err 17 ∷ Err 22
     ∷ []
 unfolding patch_wrong_at changes_wrong gone_wrong news_wrong changes_in gone_in news_in run patch_from read_all bytes_of from_bytes to_bytes eq_list
 readings = refl
@@ -78,6 +77,6 @@ pub readings_full :
     map (patch_wrong_at short Full) (
     (five ++ eight 100 0 ++ four) ∷ (five ++ eight 3 1 ++ four) ∷ (five ++ seven 7 ++ eight 100 0 ++ four) ∷ (five ++ seven 7 ++ eight 3 1 ++ eight 100 0 ++ eight 101 0 ++ four) ∷ []
     )
-    ≡ At 17 ∷ Nowhere ∷ Nowhere ∷ At 46 ∷ []
+    ≡ Err 17 ∷ Ok tt ∷ Ok tt ∷ Err 46 ∷ []
 unfolding patch_wrong_at changes_wrong gone_wrong news_wrong changes_in gone_in news_in run patch_from read_all bytes_of from_bytes to_bytes eq_list
 readings_full = refl

@@ -9,10 +9,10 @@ use native.Mathlib.Omega.{arith}
 use borrow.Author.Tests.{le-leb, eq-eqb, ne_eqb}
 use lib.ListN.{length, get_or, drop, length-append, length-drop}
 use lib.Seq.{drop_at, drop-drop}
+use Rattle.std.specs.Prelude.{Ok}
 use Rattle.codec.specs.Bytes.{to_bytes}
 use Rattle.codec.proofs.Equal.{equal_refl}
 use Rattle.codec.proofs.Round.{length-to_bytes}
-use Rattle.plane.specs.declared.Wrong.TheVariants.{Nowhere}
 use Rattle.plane.specs.Record.{Format, bytes_of, read_all, word_bytes, word_from, Kind, size_of, record_of, entry_from, end_bytes, end_record, end_length}
 use Rattle.plane.specs.Plane.{Plane, whole, wrong_in, all_allowed, end_wrong}
 use Rattle.plane.specs.Fits.{Below}
@@ -65,7 +65,7 @@ module _ {A : Type 0} (k : Kind A) where
         read_at : read_all (size_of k) k.read n (drop at d) ≡ xs
         read_at = rw (e, h) (read_back (record_of k) (size_of k) k.read xs q b)
 
-        right_at : {S : Type 0} (allowed : S → A → Bool) (next : S → A → S) (s : S) → all_allowed allowed next s xs ≡ true → wrong_in k allowed next s n at (drop at d) ≡ Nowhere
+        right_at : {S : Type 0} (allowed : S → A → Bool) (next : S → A → S) (s : S) → all_allowed allowed next s xs ≡ true → wrong_in k allowed next s n at (drop at d) ≡ Ok tt
         right_at allowed next s a = rw (e, h) (scan_right k allowed next s xs q at b a)
 
 -- ---- each kind
@@ -169,24 +169,24 @@ module _ (F : Format) (own : OwnKind F) (D : Patch) (h : Sized F D) where
 
   -- and is wrong nowhere for a plane that allows it
   module _ (P : Plane) (a : allowed P D ≡ true) where
-    changes_right : changes_wrong F P d ≡ Nowhere
+    changes_right : changes_wrong F P d ≡ Ok tt
     unfolding changes_wrong
     changes_right =
         right_at (change_records F) D.changes C-back d changes_at (G ++ (N ++ end_record)) at_changes (changes_in F d) changes-in (change_allowed (length (buckets_of P))) next_index 0 (allowed_each P D a).0
 
-    gone_right : gone_wrong F P d ≡ Nowhere
+    gone_right : gone_wrong F P d ≡ Ok tt
     unfolding gone_wrong
     gone_right = right_at gone_records D.gone G-back d (gone_at F d) (N ++ end_record) at-gone (gone_in F d) gone-in (gone_allowed P.base) next_word 0 (allowed_each P D a).1.0
 
-    news_right : news_wrong F P d ≡ Nowhere
+    news_right : news_wrong F P d ≡ Ok tt
     unfolding news_wrong
     news_right =
         rw patch_read
         (right_at new_records D.news N-back d (news_at F d) end_record at-news (news_in F d) news-in (new_allowed D.gone) filled (unfilled P.base D.gone) (allowed_each P D a).1.1)
 
-    end_is : end_wrong (end_in F d) (drop (end_in F d) d) ≡ Nowhere
+    end_is : end_wrong (end_in F d) (drop (end_in F d) d) ≡ Ok tt
     end_is = end_right (end_in F d) (drop (end_in F d) d) (rw (at-end, equal_refl end_bytes)) (ap length at-end)
 
-    pub patch_right : patch_wrong_at F P d ≡ Nowhere
+    pub patch_right : patch_wrong_at F P d ≡ Ok tt
     unfolding patch_wrong_at
     patch_right = rw (starts, changes_right, gone_right, news_right) end_is

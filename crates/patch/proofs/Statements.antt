@@ -10,11 +10,11 @@ use native.Mathlib.Omega.{arith}
 use lib.Dec.{eqb}
 use lib.ListN.{length}
 use borrow.Author.Tests.{eqb-true, eq-eqb}
+use Rattle.std.specs.Prelude.{Ok}
 use Rattle.hash.specs.Fnv.{fnv_of}
 use Rattle.hash.proofs.FnvLaws.{fnv_lt}
 use Rattle.model.specs.Model.{base_limit}
 use Rattle.table.specs.Layout.{most_buckets1, most_buckets2}
-use Rattle.plane.specs.declared.Wrong.TheVariants.{Nowhere}
 use Rattle.plane.specs.Record.{Format, format1}
 use Rattle.plane.specs.Plane.{Plane, plane_bytes, plane_from, wrong_at, buckets1, buckets2}
 use Rattle.plane.specs.Fits.{Fits}
@@ -39,7 +39,7 @@ pub format1_own : OwnKind format1
 format1_own = (λ e. omega (arith, e), (λ e. omega (arith, e), λ e. omega (arith, e)))
 
 -- wrong nowhere exactly if the bytes are those of a patch that fits the plane
-pub patch_exactly : (F : Format) → OwnKind F → (P : Plane) (d : List ℕ) → AllBytes d → (patch_wrong_at F P d ≡ Nowhere) ↔ OfPatch F P d
+pub patch_exactly : (F : Format) → OwnKind F → (P : Plane) (d : List ℕ) → AllBytes d → (patch_wrong_at F P d ≡ Ok tt) ↔ OfPatch F P d
 patch_exactly F own P d b = (
   λ e. record { patch = patch_from F d; fits = patch_fits F P d e b; bytes = patch_written F P d e b },
   λ o. rw o.bytes at (patch_right F own o.patch o.fits.sized P o.fits.allows),
@@ -55,7 +55,7 @@ longest = refl
 -- ---- made and applied
 
 -- two planes that are right
-module _ (F : Format) (own : OwnKind F) (p q : List ℕ) (bp : AllBytes p) (bq : AllBytes q) (ep : wrong_at F p ≡ Nowhere) (eq : wrong_at F q ≡ Nowhere) where
+module _ (F : Format) (own : OwnKind F) (p q : List ℕ) (bp : AllBytes p) (bq : AllBytes q) (ep : wrong_at F p ≡ Ok tt) (eq : wrong_at F q ≡ Ok tt) where
   abbrev P : Plane
   P = plane_from F p
 
@@ -75,7 +75,7 @@ module _ (F : Format) (own : OwnKind F) (p q : List ℕ) (bp : AllBytes p) (bq :
   made-fits = record { sized = made-sized; allows = between-allowed F P Q fp fq (fnv_of p) (fnv_of q) }
 
   -- the patch is wrong nowhere for the old plane
-  pub made-right : patch_wrong_at F P (patch_bytes F (patch_of F p q)) ≡ Nowhere
+  pub made-right : patch_wrong_at F P (patch_bytes F (patch_of F p q)) ≡ Ok tt
   made-right = patch_right F own (patch_of F p q) made-sized P made-fits.allows
 
   module _ (a : alike p q ≡ true) where
@@ -97,11 +97,11 @@ module _ (F : Format) (own : OwnKind F) (p q : List ℕ) (bp : AllBytes p) (bq :
     made-sums = rw (apply_make, patch_read F own (patch_of F p q) made-sized, eq-eqb (fnv_of p) (fnv_of p) refl, eq-eqb (fnv_of q) (fnv_of q) refl)
 
 -- a patch that is wrong nowhere, made by anyone, leaves a plane that is right, with the old one's bucket numbers
-module _ (F : Format) (p d : List ℕ) (bp : AllBytes p) (bd : AllBytes d) (ep : wrong_at F p ≡ Nowhere) (ed : patch_wrong_at F (plane_from F p) d ≡ Nowhere) where
+module _ (F : Format) (p d : List ℕ) (bp : AllBytes p) (bd : AllBytes d) (ep : wrong_at F p ≡ Ok tt) (ed : patch_wrong_at F (plane_from F p) d ≡ Ok tt) where
   new_fits : Fits F (patched (plane_from F p) (patch_from F d))
   new_fits = patched-fits (plane_from F p) (patch_from F d) F (read_fits F p ep bp) (patch_fits F (plane_from F p) d ed bd)
 
-  pub applied-right : wrong_at F (applied F p d) ≡ Nowhere
+  pub applied-right : wrong_at F (applied F p d) ≡ Ok tt
   applied-right = written_right F (patched (plane_from F p) (patch_from F d)) new_fits
 
   -- which says what the patch says
@@ -110,7 +110,7 @@ module _ (F : Format) (p d : List ℕ) (bp : AllBytes p) (bd : AllBytes d) (ep :
 
 -- ---- the calls
 
-module _ (p q : List ℕ) (bp : AllBytes p) (bq : AllBytes q) (ep : wrong_at format1 p ≡ Nowhere) (eq : wrong_at format1 q ≡ Nowhere) (a : alike p q ≡ true) where
+module _ (p q : List ℕ) (bp : AllBytes p) (bq : AllBytes q) (ep : wrong_at format1 p ≡ Ok tt) (eq : wrong_at format1 q ≡ Ok tt) (a : alike p q ≡ true) where
   -- making meets no cause but 9
   pub make_made : (out : List ℕ) → make_call p q out ≡ put_front (patch_bytes format1 (patch_of format1 p q)) out
   unfolding make_call

@@ -7,7 +7,7 @@ use native.Mathlib.Omega.{arith}
 use mathlib.Core.Path.{◌≡◌, refl, sym, ap, ap₂, ◌∙◌}
 use mathlib.Core.Bool.{cond}
 use mathlib.Core.List.{List, [], ◌∷◌, ◌++◌, append_assoc}
-use lib.ListN.{length, get_or, drop, set, length-append, get_or-eq_default}
+use lib.ListN.{length, get_or, drop, set, length-append}
 use lib.Seq.{drop-cons, drop-drop, drop_at, get_or-drop}
 use borrow.Author.Tests.{eq-eqb, ne_eqb}
 use Rattle.codec.specs.Bytes.{eq_list}
@@ -32,7 +32,7 @@ module _ (kind size : ℕ) where
   run_stop zero p n = refl
   run_stop (suc m) p n = rw (ne_eqb (get_or p 0 0) kind n)
 
-  -- at the offset `at` of d: a record after n of m ones, another kind, and the end
+  -- at the offset `at` of d: a record after n of m ones, and another kind
   byte_at : (at : ℕ) (d : List ℕ) → get_or (drop at d) 0 0 ≡ get_or d at 0
   byte_at at d = let z : at + 0 ≡ at = omega arith in get_or-drop at d 0 0 ∙ ap (λ (i : ℕ). get_or d i 0) z
 
@@ -46,9 +46,6 @@ module _ (kind size : ℕ) where
 
   pub run-other : (m at : ℕ) (d : List ℕ) → (get_or d at 0 ≡ kind → ⊥) → run kind size m (drop at d) ≡ 0
   run-other m at d n = run_stop m (drop at d) (λ e. n (sym (byte_at at d) ∙ e))
-
-  pub run_end : (m at : ℕ) (d : List ℕ) → 0 < kind → length d ≤ at → run kind size m (drop at d) ≡ 0
-  run_end m at d h l = run-other m at d (λ e. omega (arith, get_or-eq_default d 0 {n = at} l))
 
 -- ---- one more bucket
 

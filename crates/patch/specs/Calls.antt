@@ -1,11 +1,9 @@
 -- The two calls of document 02, order 1: what they answer and leave for any bytes as planes, patch and output.
 -- Assumes nothing.
-use Rattle.std.specs.Prelude.{ℕ, Bool, cond, ◌&&◌, List, eqb}
+use Rattle.std.specs.Prelude.{ℕ, Bool, cond, ◌&&◌, List, eqb, Result, Ok, Err}
 use Rattle.hash.specs.Fnv.{fnv_of}
-use Rattle.answer.specs.declared.Answer.{Answer}
-use Rattle.answer.specs.declared.Answer.TheVariants.{WrongPlane, UnlikePlanes, WrongPatch, WrongSum}
-use Rattle.plane.specs.declared.Wrong.{Wrong}
-use Rattle.plane.specs.declared.Wrong.TheVariants.{Nowhere, At}
+use Rattle.answer.specs.declared.Cause.{Cause}
+use Rattle.answer.specs.declared.Cause.TheVariants.{WrongPlane, UnlikePlanes, WrongPatch, WrongSum}
 use Rattle.plane.specs.Record.{Format, format1}
 use Rattle.plane.specs.Plane.{plane_bytes, plane_from, wrong_at, buckets1, buckets2}
 use Rattle.plane_write.specs.Write.{Written, turned_down, put_front}
@@ -13,9 +11,9 @@ use Rattle.patch.specs.Patch.{patch_bytes, patch_of, patched}
 use Rattle.patch.specs.Wrong.{patch_from, patch_wrong_at}
 
 -- what follows, or the cause with the offset of what is wrong
-abbrev pub unless_wrong : (ℕ → Answer) → List ℕ → Wrong → Written → Written
-unless_wrong cause out Nowhere w = w
-unless_wrong cause out (At at) w = turned_down (cause at) out
+abbrev pub unless_wrong : (ℕ → Cause) → List ℕ → Result (Unit {0}) ℕ → Written → Written
+unless_wrong cause out (Ok u) w = w
+unless_wrong cause out (Err at) w = turned_down (cause at) out
 
 -- equal bucket numbers
 abbrev pub alike : List ℕ → List ℕ → Bool

@@ -1,13 +1,12 @@
 -- Which patches are wrong, and what the bytes of one say; document 02, order 1, cause 12. F is the format of the planes.
 -- Assumes nothing.
-use Rattle.std.specs.Prelude.{ℕ, zero, suc, ◌+◌, ◌*◌, Bool, cond, not, ◌&&◌, List, eqb, ltb, leb, length, get_or, drop}
+use Rattle.std.specs.Prelude.{ℕ, zero, suc, ◌+◌, ◌*◌, Bool, cond, not, ◌&&◌, List, eqb, ltb, leb, length, get_or, drop, Result, Err}
+use Rattle.std.specs.Result.{result_and}
 use Rattle.lists.specs.Entries.{Entry, find}
 use Rattle.bucket.specs.Bucket.{largest_bound}
 use Rattle.model.specs.Model.{base_limit}
-use Rattle.plane.specs.declared.Wrong.{Wrong}
-use Rattle.plane.specs.declared.Wrong.TheVariants.{At}
 use Rattle.plane.specs.Record.{Format, read_all, word_bytes, word_from, entry_from}
-use Rattle.plane.specs.Plane.{Plane, whole, wrong_in, all_allowed, entry_allowed, end_wrong, or_next}
+use Rattle.plane.specs.Plane.{Plane, whole, wrong_in, all_allowed, entry_allowed, end_wrong}
 use Rattle.patch.specs.Base.{is_there, among, remove_all, enter}
 use Rattle.patch.specs.Record.{sums_kind, sums_body, Change, change_length, change_from, change_records, gone_kind, gone_length, gone_from, gone_records, new_kind, new_length, new_records}
 use Rattle.patch.specs.Patch.{Patch, buckets_of}
@@ -103,21 +102,21 @@ patch_from F d = record {
 -- ---- the first record of the patch d, for the plane P, that is wrong: "cut, misplaced, of a wrong kind or with a value not allowed", or bytes after kind 4
 
 -- kind 6
-unfoldable pub changes_wrong : Format → Plane → List ℕ → Wrong
+unfoldable pub changes_wrong : Format → Plane → List ℕ → Result (Unit {0}) ℕ
 changes_wrong F P d = wrong_in (change_records F) (change_allowed (length (buckets_of P))) next_index 0 (changes_in F d) changes_at (drop changes_at d)
 
 -- kind 7
-unfoldable pub gone_wrong : Format → Plane → List ℕ → Wrong
+unfoldable pub gone_wrong : Format → Plane → List ℕ → Result (Unit {0}) ℕ
 gone_wrong F P d = wrong_in gone_records (gone_allowed P.base) next_word 0 (gone_in F d) (gone_at F d) (drop (gone_at F d) d)
 
 -- kind 8
-unfoldable pub news_wrong : Format → Plane → List ℕ → Wrong
+unfoldable pub news_wrong : Format → Plane → List ℕ → Result (Unit {0}) ℕ
 news_wrong F P d =
     wrong_in new_records (new_allowed (patch_from F d).gone) filled (unfilled P.base (patch_from F d).gone) (news_in F d) (news_at F d) (drop (news_at F d) d)
 
 -- kind 5, then these, then kind 4
-unfoldable pub patch_wrong_at : Format → Plane → List ℕ → Wrong
+unfoldable pub patch_wrong_at : Format → Plane → List ℕ → Result (Unit {0}) ℕ
 patch_wrong_at F P d =
     cond (whole sums_kind sums_body d)
-    (or_next (changes_wrong F P d) (or_next (gone_wrong F P d) (or_next (news_wrong F P d) (end_wrong (end_in F d) (drop (end_in F d) d)))))
-    (At 0)
+    (result_and (changes_wrong F P d) (result_and (gone_wrong F P d) (result_and (news_wrong F P d) (end_wrong (end_in F d) (drop (end_in F d) d)))))
+    (Err 0)

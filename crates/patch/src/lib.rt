@@ -6,21 +6,21 @@
 // specs/Cursor.antt is for the inner steps alone. The statements stand in proofs/Statements.antt and proofs/Calls.antt.
 #![tactic(auto)]
 
-ghost use Rattle.std.specs.Prelude.{◌≡◌, ◌+◌, ◌*◌, ◌≤◌, ◌<◌, length, drop};
+ghost use Rattle.std.specs.Prelude.{◌≡◌, ◌+◌, ◌*◌, ◌≤◌, ◌<◌, length, take, drop, [], ◌∷◌, ◌++◌};
+ghost use Rattle.model.specs.Model.{base_limit};
 ghost use Rattle.codec.specs.Parts.{written};
-ghost use Rattle.table.specs.Layout.{base_numbers, pair_numbers, pairs_from};
-ghost use Rattle.plane.specs.declared.Wrong.TheVariants.{Nowhere};
-ghost use Rattle.plane.specs.Record.{format1};
-ghost use Rattle.plane.specs.Plane.{plane_from, wrong_at};
+ghost use Rattle.plane.specs.Record.{format1, entry_length, entry_bytes, entry_from};
+ghost use Rattle.plane.specs.Plane.{plane_from};
 ghost use Rattle.plane_write.specs.Write.{put_front, Writes};
-ghost use Rattle.patch.specs.Cursor.{below, is_first};
+ghost use Rattle.patch.specs.Cursor.{below, plan_first, after};
 ghost use Rattle.patch.specs.Wrong.{run};
 
-use answer::Answer;
-use plane::Record;
+use answer::{Answer, Cause};
+use plane::{Plane, Record};
+use std::marker::Model;
 use table_layout::Table;
 
-// The records of a patch: the kind byte of each, how many bytes follow it, how long it is with the kind byte.
+// The records of a patch: the kind byte of each (numbers, as those of a plane), how many bytes follow it, how long it is with the kind byte.
 #[derive(Clone, Copy)]
 pub struct Patch {}
 
@@ -72,67 +72,170 @@ impl Patch {
         + Record::END_LEN;
 }
 
-// How many records of this kind and size stand one after the other from the offset `first` on; the last may be cut.
+// A base entry: its word, and its plan.
+#[derive(Clone, Copy, PartialEq, Eq)]
+pub struct Entry {
+    pub word: u64,
+    pub plan: u8,
+}
+
+impl Model for Entry {
+    ghost use Rattle.lists.specs.Entries.{Entry};
+
+    ghost Value = { Entry };
+
+    ghost view = { λ e. record { word = e.word; plan = e.plan } };
+
+    ghost inverse = { λ e. record { word = e.word; plan = e.plan } };
+}
+
+impl Entry {
+    // The entry whose record is in front, of any kind.
+    pub fn read(p: &[u8]) -> Entry
+        requires { entry_length ≤ length p.now }
+        ensures { result ≡ entry_from p.now }
+    {
+        Entry {
+            word: plane::entry_word(p),
+            plan: p[Record::PLAN_AT],
+        }
+    }
+
+    // Writes its record, of this kind, at the offset at.
+    pub fn put(self, out: &mut [u8], at: usize, kind: u8)
+        requires { at + entry_length ≤ length out.old }
+        ensures { out.new ≡ written at (kind ∷ entry_bytes self) out.old }
+    {
+        out[at] = kind;
+        codec::put_u64(out, at + 1, self.word);
+        out[at + Record::PLAN_AT] = self.plan;
+    }
+}
+
+// A base list: at most 64 entries.
+#[derive(Drop)]
+pub struct BaseList {
+    entries: [Entry; BaseList::MOST],
+    count: usize,
+}
+
+impl Model for BaseList {
+    ghost use Rattle.std.specs.Prelude.{List, take, ◌≤◌};
+    ghost use Rattle.lists.specs.Entries.{Entry};
+    ghost use Rattle.model.specs.Model.{base_limit};
+
+    ghost Value = { List Entry };
+
+    ghost view = { λ b. take b.count b.entries };
+
+    ghost invariant = { λ b. b.count ≤ base_limit };
+}
+
+impl BaseList {
+    pub const MOST: usize = Table::BASE_ENTRIES as usize;
+
+    pub fn new() -> BaseList
+        ensures { result ≡ [] }
+    {
+        BaseList {
+            entries: [Entry { word: 0, plan: 0 }; BaseList::MOST],
+            count: 0,
+        }
+    }
+
+    pub fn entries(&self) -> &[Entry]
+        ensures { (result.now ≡ self.now) × (length self.now ≤ base_limit) }
+    {
+        &self.entries[..self.count]
+    }
+
+    // One entry more.
+    pub fn push(&mut self, e: Entry)
+        requires { length self.old < base_limit }
+        ensures { self.new ≡ self.old ++ (e ∷ []) }
+    {
+        self.entries[self.count] = e;
+        self.count += 1;
+    }
+
+    // More entries.
+    pub fn extend(&mut self, more: &[Entry])
+        requires { length self.old + length more.now ≤ base_limit }
+        ensures { self.new ≡ self.old ++ more.now }
+    {
+        // By a loop: `copy_from_slice` calls C's memmove, and the library asks of C only memcpy and memset.
+        for e in more {
+            self.push(*e);
+        }
+    }
+}
+
+// A word in an ascending list of entries.
+#[derive(Clone, Copy)]
+pub struct Place<'a> {
+    // The entries of smaller words.
+    pub below: &'a [Entry],
+    // The plan of the word, if it has an entry.
+    pub plan: Option<u8>,
+    // The entries of larger words.
+    pub above: &'a [Entry],
+}
+
+// How many records of this kind and size stand one after the other from the offset `first` on; the last may be cut. A `while`: how many there are is not
+// known before.
 pub fn run(d: &[u8], first: usize, kind: u8, size: usize) -> usize
     requires { (0 < kind) × (0 < size) × (size < 256) }
     ensures { result ≡ run kind size (length d.now) (drop first d.now) }
 {
     let mut n = 0;
     let mut at = first;
-    while at < d.len() {
-        if d[at] != kind {
-            return n;
-        }
+    while d.get(at) == Some(&kind) {
         at += size;
         n += 1;
     }
     n
 }
 
-// The base list of a right plane as pairs, to the front of the numbers. Returns how many entries it has.
-pub fn load_base(plane: &[u8], pairs: &mut [u64]) -> usize
-    requires { (wrong_at format1 plane.now ≡ Nowhere) × (base_numbers ≤ length pairs.old) }
-    ensures { (result ≡ length (plane_from format1 plane.now).base) × (pairs.new ≡ written 0 (pair_numbers (plane_from format1 plane.now).base) pairs.old) }
+// The base list of a plane.
+pub fn load_base(plane: &Plane) -> BaseList
+    ensures { result ≡ (plane_from format1 plane.now.bytes.now).base }
 {
-    let k = plane[Record::BASE_COUNT_AT] as usize;
-    let buckets = (plane[Record::BUCKETS_1_AT] as usize) + (plane[Record::BUCKETS_2_AT] as usize);
-    let mut at = Record::BUCKETS_AT + buckets * Record::BUCKET_LEN;
-    let mut i = 0;
-    while i < k {
-        let next = at + Record::ENTRY_LEN;
-        let e = &plane[at..next];
-        pairs[2 * i] = plane::entry_word(e);
-        pairs[2 * i + 1] = e[Record::PLAN_AT] as u64;
-        at = next;
-        i += 1;
+    let mut base = BaseList::new();
+    for e in plane.base().chunks_exact(Record::ENTRY_LEN) {
+        base.push(Entry::read(e));
     }
-    k
+    base
 }
 
-// The first of `count` entries, from the entry `from` on, whose word is not below w; `count` if there is none.
-pub fn seek(pairs: &[u64], count: usize, from: usize, w: u64) -> usize
-    requires { (from ≤ count) × (2 * count ≤ length pairs.now) }
-    ensures { result ≡ from + below w (drop from (pairs_from count pairs.now)) }
+// How many entries in front have a word below w.
+fn below(entries: &[Entry], w: u64) -> usize
+    ensures { result ≡ below w entries.now }
 {
-    let mut i = from;
-    while i < count {
-        if w <= pairs[2 * i] {
-            return i;
-        }
-        i += 1;
-    }
-    i
+    entries
+        .iter()
+        .position(|e| w <= e.word)
+        .unwrap_or(entries.len())
 }
 
-// The word w stands at entry i of `count`.
-pub fn is_at(pairs: &[u64], count: usize, i: usize, w: u64) -> bool
-    requires { 2 * count ≤ length pairs.now }
-    ensures { result ≡ is_first w (drop i (pairs_from count pairs.now)) }
+// Where the word w stands among these entries.
+pub fn seek(entries: &[Entry], w: u64) -> Place
+    ensures below { result.below.now ≡ take (below w entries.now) entries.now }
+    ensures plan { result.plan ≡ plan_first w (drop (below w entries.now) entries.now) }
+    ensures above { result.above.now ≡ after w (drop (below w entries.now) entries.now) }
 {
-    if i < count {
-        return pairs[2 * i] == w;
+    let (below, from) = entries.split_at(below(entries, w));
+    match from.split_first() {
+        Some((e, above)) if e.word == w => Place {
+            below,
+            plan: Some(e.plan),
+            above,
+        },
+        _ => Place {
+            below,
+            plan: None,
+            above: from,
+        },
     }
-    false
 }
 
 // The bytes to the front of the output, if they fit: cause 9.
@@ -141,8 +244,8 @@ pub fn put_front(bytes: &[u8], out: &mut [u8]) -> Answer
 {
     let needed = bytes.len();
     if out.len() < needed {
-        return Answer::ShortOutput(needed as u64);
+        return Err(Cause::ShortOutput(needed as u64));
     }
     codec::put_bytes(out, 0, bytes);
-    Answer::Accepted(needed as u64)
+    Ok(needed as u64)
 }

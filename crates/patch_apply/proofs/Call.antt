@@ -6,26 +6,18 @@ use mathlib.Core.Path.{◌≡◌, refl, sym, ap, ◌∙◌}
 use mathlib.Core.List.{List}
 use lib.ListN.{length, take}
 use borrow.Author.Tests.{eq-eqb, ne_eqb}
-use Rattle.lists.specs.Entries.{Entry}
+use Rattle.std.specs.Prelude.{Ok, Err}
+use Rattle.answer.specs.Numbers.{Answer}
 use Rattle.codec.specs.Bytes.{from_bytes}
 use Rattle.codec.specs.Parts.{part_at, written}
 use Rattle.codec.proofs.Part.{length-written, part_same}
 use Rattle.hash.specs.Fnv.{fnv_of}
-use Rattle.answer.specs.declared.Answer.{Answer}
-use Rattle.answer.specs.declared.Answer.TheVariants.{WrongPatch, WrongSum}
-use Rattle.table.specs.Layout.{pairs_from}
-use Rattle.plane.specs.declared.Wrong.{Wrong}
-use Rattle.plane.specs.declared.Wrong.TheVariants.{Nowhere}
+use Rattle.answer.specs.declared.Cause.TheVariants.{WrongSum}
 use Rattle.plane.specs.Record.{Format, format1, word_bytes}
 use Rattle.plane.specs.Plane.{plane_from, wrong_at}
-use Rattle.patch.specs.Patch.{patched}
 use Rattle.patch.specs.Wrong.{patch_from, patch_wrong_at}
 use Rattle.patch.specs.Calls.{applied, apply_call}
-use Rattle.patch_check.specs.declared.Edited.{Edited}
-use Rattle.patch_check.specs.declared.Edited.TheVariants as E
-use Rattle.patch_check.specs.Steps.{edited, Lies}
 use Rattle.patch_apply.specs.Steps.{summed, applied_right}
-use Rattle.patch_check.proofs.Answers.{at-edited, entries_edited, lies_entries}
 
 -- ---- the sums
 
@@ -37,7 +29,7 @@ front-part x t new n e f h =
 
 -- x is the old sum that the patch says, y that of the old plane
 module _ (F : Format) (p d out : List ℕ) (x y : ℕ) (e : x ≡ from_bytes (part_at word_bytes 1 d)) (f : y ≡ fnv_of p) where
-  pub old_wrong : (x ≡ y → ⊥) → (WrongSum ≡ (applied_right F p d out).answer) × (out ≡ (applied_right F p d out).output)
+  pub old_wrong : (x ≡ y → ⊥) → (Err WrongSum ≡ (applied_right F p d out).answer) × (out ≡ (applied_right F p d out).output)
   unfolding patch_from
   old_wrong n = rw (ne_eqb (from_bytes (part_at word_bytes 1 d)) (fnv_of p) (λ q. n (e ∙ q ∙ sym f))) (refl, refl)
 
@@ -46,27 +38,8 @@ module _ (F : Format) (p d out : List ℕ) (x y : ℕ) (e : x ≡ from_bytes (pa
   unfolding patch_from
   old_right q bytes o z a b s h = rw (eq-eqb (from_bytes (part_at word_bytes 1 d)) (fnv_of p) (sym e ∙ q ∙ f)) (rw (b, s) at h)
 
--- ---- the check
-
--- r is what the check of the patch d for the plane p returned
-module _ (p d : List ℕ) (r : Edited) where
-  abbrev wrong : Wrong
-  wrong = patch_wrong_at format1 (plane_from format1 p) d
-
-  abbrev base : List Entry
-  base = (patched (plane_from format1 p) (patch_from format1 d)).base
-
-  module _ (h : r ≡ edited wrong base) where
-    pub patch_wrong : wrong_at format1 p ≡ Nowhere → (out : List ℕ) (at : ℕ) → r ≡ E.At at → (WrongPatch at ≡ (apply_call p d out).answer) × (out ≡ (apply_call p d out).output)
-    unfolding apply_call
-    patch_wrong e out at f = rw (e, at-edited wrong base (sym f ∙ h)) (refl, refl)
-
-    -- the patch is right, and the new base list is in front of the numbers
-    pub patch_right : (xs : List ℕ) → Lies r base xs → (n : ℕ) → r ≡ E.Entries n → (wrong ≡ Nowhere) × (pairs_from n xs ≡ base)
-    patch_right xs l n f = ((entries_edited wrong base (sym f ∙ h)).0, lies_entries r base xs f l)
-
--- then the sums decide
-pub right_answer : (p d out o : List ℕ) (a : Answer) → wrong_at format1 p ≡ Nowhere → patch_wrong_at format1 (plane_from format1 p) d ≡ Nowhere
+-- ---- the sums decide
+pub right_answer : (p d out o : List ℕ) (a : Answer) → wrong_at format1 p ≡ Ok tt → patch_wrong_at format1 (plane_from format1 p) d ≡ Ok tt
     → (a ≡ (applied_right format1 p d out).answer) × (o ≡ (applied_right format1 p d out).output) → (a ≡ (apply_call p d out).answer) × (o ≡ (apply_call p d out).output)
 unfolding apply_call
 right_answer p d out o a e f h = rw (e, f) h

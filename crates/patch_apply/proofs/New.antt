@@ -1,6 +1,7 @@
 -- The new plane as applying builds it: the buckets that differ over the old ones, then header, entries and end.
 -- Assumes nothing.
 use Prim.Native.Nat.{ℕ, zero, suc, ◌+◌, ◌-◌, ◌*◌, ◌≤◌, ◌<◌}
+use native.Mathlib.Nat.{le_of_lt}
 use native.Mathlib.Numerals.{sub-one}
 use native.Mathlib.Omega.{arith}
 use mathlib.Core.Path.{◌≡◌, refl, sym, ap, ap₂, ◌∙◌}
@@ -8,28 +9,27 @@ use mathlib.Core.Bool.{true}
 use mathlib.Core.List.{List, [], ◌∷◌, ◌++◌}
 use lib.Dec.{leb, ltb}
 use lib.ListN.{length, get_or, take, drop, set, length-append, length-drop, length-set, take-append-drop}
-use lib.Seq.{take_at, drop-drop, get_or-take}
+use lib.Seq.{take_at, drop-drop, get_or-take, length-take-le}
+use Rattle.std.proofs.lemmas.List.{take_more}
 use borrow.Author.Tests.{ltb-true}
+use Rattle.std.specs.Prelude.{Ok}
 use Rattle.lists.specs.Entries.{Entry}
 use Rattle.lists.specs.Lists.{Every}
-use Rattle.lists.proofs.Entries.{assignable_byte}
-use Rattle.lists.proofs.Every.{every}
+use Rattle.lists.proofs.Every.{every, mem_every}
 use Rattle.lists.proofs.Parts.{drop-take, rest, stretch}
 use Rattle.codec.specs.Parts.{written}
-use Rattle.codec.proofs.Part.{length-written, written-fits, written_three}
+use Rattle.codec.proofs.Part.{written_none, written-fits, written_three}
+use Rattle.codec.proofs.Round.{length-to_bytes}
 use Rattle.model.specs.Model.{base_limit}
-use Rattle.table.specs.Layout.{most_buckets1, most_buckets2, pairs_from}
-use Rattle.table.proofs.Numbers.{length-pairs_from}
-use Rattle.plane.specs.declared.Wrong.TheVariants.{Nowhere}
-use Rattle.plane.specs.Record.{Format, bytes_of, read_all, header_record, PlaneBucket, bucket_body, bucket_length, bucket_bytes, bucket_record, bucket_records, bucket_from, entry_length, entry_record, end_record}
+use Rattle.table.specs.Layout.{most_buckets1, most_buckets2}
+use Rattle.plane.specs.Record.{Format, word_bytes, bytes_of, read_all, header_record, PlaneBucket, bucket_body, bucket_length, bucket_bytes, bucket_record, bucket_records, bucket_from, entry_length, entry_record, end_record}
 use Rattle.plane.specs.Plane.{Plane, plane_bytes, plane_from, wrong_at, buckets1, buckets2, bucket_count, buckets_at, entries_at, end_at, plane_length, all_allowed}
-use Rattle.plane.specs.Fits.{FitsBucket, FitsEntry, Fits}
+use Rattle.plane.specs.Fits.{FitsBucket, Fits}
 use Rattle.plane.proofs.Scan.{both, whole_length}
 use Rattle.plane.proofs.Scan as scan
+use Rattle.plane_write.proofs.Put.{put_next}
 use Rattle.plane.proofs.Round.{Sized, length-bytes, bucket_back, entry_back, plane-length}
 use Rattle.plane.proofs.Exact.{AllBytes, bytes_drop, bucket-body, length1, length2, read_written, read_fits}
-use Rattle.plane_write.specs.Steps.{pair_from}
-use Rattle.plane_write.proofs.Through.{pairs_read, each}
 use Rattle.patch.specs.Record.{sums_kind, sums_body, Change, change_length, change_from}
 use Rattle.patch.specs.Patch.{Patch, buckets_of, set_all, patched}
 use Rattle.patch.specs.Wrong.{change_allowed, next_index, changes_at, changes_in, patch_from, patch_wrong_at}
@@ -47,19 +47,10 @@ use Rattle.patch_check.proofs.Checked.{buckets_count, gone-start}
 abbrev pub changes_from : Format → ℕ → List ℕ → List Change
 changes_from F k p = read_all (change_length F) (change_from F) k p
 
-length-changed : (F : Format) (cs : List Change) (q : List ℕ) → length (changed F cs q) ≡ length q
-length-changed F [] q = refl
-length-changed F (c ∷ cs) q =
-    let a : ℕ = buckets_at + c.index * bucket_length F + 1 in
-    length-changed F cs (written a (bucket_bytes c.bucket) q) ∙ length-written a (bucket_bytes c.bucket) q
-
 -- none is left
-pub changes_done : (F : Format) (cs : List Change) (left : ℕ) (p new q : List ℕ) → left ≡ 0 → changed F (changes_from F left p) new ≡ changed F cs q
-    → (new ≡ changed F cs q) × (length new ≡ length q)
+pub changes_done : (F : Format) (cs : List Change) (left : ℕ) (p new q : List ℕ) → left ≡ 0 → changed F (changes_from F left p) new ≡ changed F cs q → new ≡ changed F cs q
 unfolding read_all
-changes_done F cs left p new q z e =
-    let same : new ≡ changed F cs q = rw z at e in
-    (same, ap length same ∙ length-changed F cs q)
+changes_done F cs left p new q z e = rw z at e
 
 module _ (F : Format) (at : ℕ) (d : List ℕ) (there : at + change_length F ≤ length d) (b : AllBytes d) where
   -- its record, as the code lends it, and what follows its kind byte
@@ -95,6 +86,23 @@ module _ (F : Format) (at : ℕ) (d : List ℕ) (there : at + change_length F �
   change-next zero q o h e = absurd (omega arith)
   change-next (suc n) q o h e = rw (e, part_body, part-index, sub-one, drop-drop (change_length F) at d)
 
+-- ---- one entry more
+
+entry_size : (e : Entry) → length (entry_record e) ≡ entry_length
+entry_size e = rw length-append (omega (arith, length-to_bytes word_bytes e.word))
+
+pub entries_none : (at : ℕ) (t : List ℕ) → t ≡ written at (bytes_of entry_record []) t
+unfolding bytes_of
+entries_none at t = sym (written_none at t)
+
+pub entries-next : (i at : ℕ) (es : List Entry) (e : Entry) (t : List ℕ) → i < length es → e ≡ get_or es i e
+    → written (at + i * entry_length) (entry_record e) (written at (bytes_of entry_record (take i es)) t) ≡ written at (bytes_of entry_record (take (i + 1) es)) t
+entries-next i at es e t h q =
+    let n : i ≡ length (take i es) = sym (length-take-le i es (le_of_lt h)) in
+    let more : take (i + 1) es ≡ take i es ++ e ∷ [] = take_more es i e h ∙ ap (λ (x : Entry). take i es ++ x ∷ []) (sym q) in
+    ap (λ (k : ℕ). written (at + k * entry_length) (entry_record e) (written at (bytes_of entry_record (take i es)) t)) n
+    ∙ put_next entry_record entry_length (take i es) e at t (mem_every _ (take i es) (λ x m. entry_size x)) ∙ ap (λ (l : List Entry). written at (bytes_of entry_record l) t) (sym more)
+
 -- ---- all of them
 
 sized : (F : Format) (bs : List PlaneBucket) → Every (FitsBucket F) bs → Every (Sized (bucket_record F) (bucket_length F)) bs
@@ -116,18 +124,17 @@ module _ (F : Format) (n : ℕ) where
 
 -- ---- the new plane
 
--- what is known where the new plane's base list has k entries, which stand in `pairs`
-pub record Known (F : Format) (p d pairs : List ℕ) (k : ℕ) : Type 0 where
+-- what is known where the new plane's base list has k entries
+pub record Known (F : Format) (p d : List ℕ) (k : ℕ) : Type 0 where
   pub there : buckets_at ≤ length p
   pub most1 : buckets1 p ≤ most_buckets1
   pub most2 : buckets2 p ≤ most_buckets2
   pub old : entries_at F (bucket_count p) ≤ length p
   pub changes : changes_at + changes_in F d * change_length F ≤ length d
   pub few : k ≤ base_limit
-  pub plans : (i : ℕ) → i < k → (pair_from (drop (i * 2) pairs)).plan < 256
   pub long : plane_length F (bucket_count p) k ≡ length (applied F p d)
 
-module _ (F : Format) (p d : List ℕ) (bp : AllBytes p) (bd : AllBytes d) (ep : wrong_at F p ≡ Nowhere) (ed : patch_wrong_at F (plane_from F p) d ≡ Nowhere) where
+module _ (F : Format) (p d : List ℕ) (bp : AllBytes p) (bd : AllBytes d) (ep : wrong_at F p ≡ Ok tt) (ed : patch_wrong_at F (plane_from F p) d ≡ Ok tt) where
   abbrev P : Plane
   P = plane_from F p
 
@@ -190,10 +197,9 @@ module _ (F : Format) (p d : List ℕ) (bp : AllBytes p) (bd : AllBytes d) (ep :
       let s = parts F P d ed bd in
       gone-start F p d (changes_in F d) refl (omega (arith, whole_length sums_kind sums_body d s.sums)) s.changes
 
-  pub known : (pairs : List ℕ) (k : ℕ) → pairs_from k pairs ≡ Q.base → Known F p d pairs k
-  known pairs k b =
+  pub known : (k : ℕ) → k ≡ length Q.base → Known F p d k
+  known k n =
       let o = scan.known F p ep in
-      let n : k ≡ length Q.base = sym (length-pairs_from k pairs) ∙ ap length b in
       record {
         there = omega (arith, o.header.there);
         most1 = o.header.most1;
@@ -201,7 +207,6 @@ module _ (F : Format) (p d : List ℕ) (bp : AllBytes p) (bd : AllBytes d) (ep :
         old = omega (arith, o.whole);
         changes = changes_there;
         few = rw n new_fits.few;
-        plans = λ i l. assignable_byte _ (each FitsEntry 2 pair_from k pairs (rw (← pairs_read k pairs, b) new_fits.entries) i l).plan;
         long = ap (plane_length F (bucket_count p)) n ∙ sym new-length;
       }
 
@@ -226,17 +231,16 @@ module _ (F : Format) (p d : List ℕ) (bp : AllBytes p) (bd : AllBytes d) (ep :
         ∙ changed-bytes F (length (buckets_of P)) 0 D.changes (buckets_of P) (head (length P.base)) q refl refl fp.buckets fd.sized.changes (allowed_each P D fd.allows).0 in
         e3 ∙ ap (written 0 (head k)) put ∙ sym (written-fits 0 (head k ++ C) new (omega (arith, at)) ∙ ap (λ (n : ℕ). (head k ++ C) ++ drop n new) at)
 
-    pub built : (pairs o4 o5 : List ℕ) → pairs_from k pairs ≡ Q.base → o4 ≡ written (entries_at F (bucket_count p)) (bytes_of entry_record (read_all 2 pair_from k pairs)) o3
+    pub built : (es : List Entry) (o4 o5 : List ℕ) → es ≡ Q.base → k ≡ length es → o4 ≡ written (entries_at F (bucket_count p)) (bytes_of entry_record es) o3
         → o5 ≡ written (end_at F (bucket_count p) k) end_record o4 → o5 ≡ written 0 (applied F p d) new
-    built pairs o4 o5 b e4 e5 =
+    built es o4 o5 b l e4 e5 =
         let E : List ℕ = bytes_of entry_record Q.base in
-        let n : k ≡ length Q.base = sym (length-pairs_from k pairs) ∙ ap length b in
+        let n : k ≡ length Q.base = l ∙ ap length b in
         let C-ends : length (head k ++ C) ≡ entries_at F (bucket_count p) = omega (arith, C-long) in
         let E-long : length E ≡ k * entry_length =
         length-bytes entry_record entry_length Q.base (every (λ e f. (entry_back e f).0) Q.base new_fits.entries) ∙ ap (λ (j : ℕ). j * entry_length) (sym n) in
         let from : entries_at F (bucket_count p) ≡ 0 + entries_at F (bucket_count p) = omega arith in
-        let put : o4 ≡ written (0 + entries_at F (bucket_count p)) E o3 =
-        e4 ∙ ap₂ (λ (j : ℕ) (es : List Entry). written j (bytes_of entry_record es) o3) from (sym (pairs_read k pairs) ∙ b) in
+        let put : o4 ≡ written (0 + entries_at F (bucket_count p)) E o3 = e4 ∙ ap₂ (λ (j : ℕ) (x : List Entry). written j (bytes_of entry_record x) o3) from b in
         let to : end_at F (bucket_count p) k ≡ 0 + entries_at F (bucket_count p) + k * entry_length = omega arith in
         e5 ∙ ap (λ (j : ℕ). written j end_record o4) to
         ∙ written_three 0 (entries_at F (bucket_count p)) (k * entry_length) (head k ++ C) E end_record new o3 o4 C-ends E-long new_there put

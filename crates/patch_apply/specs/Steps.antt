@@ -3,7 +3,7 @@
 use Rattle.std.specs.Prelude.{ℕ, ◌+◌, ◌*◌, cond, List, [], ◌∷◌, eqb}
 use Rattle.codec.specs.Parts.{written}
 use Rattle.hash.specs.Fnv.{fnv_of}
-use Rattle.answer.specs.declared.Answer.TheVariants.{WrongSum}
+use Rattle.answer.specs.declared.Cause.TheVariants.{WrongSum}
 use Rattle.plane.specs.Record.{Format, bucket_length, bucket_bytes}
 use Rattle.plane.specs.Plane.{buckets_at}
 use Rattle.plane_write.specs.Write.{Written, turned_down, put_front}

@@ -2,14 +2,15 @@
 -- Assumes nothing.
 use Prim.Native.Nat.{ℕ, ◌+◌, ◌*◌, ◌≤◌}
 use native.Mathlib.Omega.{arith}
-use mathlib.Core.Path.{◌≡◌, sym, ap, ap₂, ◌∙◌}
+use mathlib.Core.Path.{◌≡◌, refl, sym, ap, ap₂, ◌∙◌}
 use mathlib.Core.Bool.{Bool, true, false, not, ◌&&◌}
 use mathlib.Core.List.{List}
 use lib.Dec.{leb}
 use lib.ListN.{length, drop, length-append, length-drop}
+use Rattle.std.specs.Prelude.{Result, Ok, Err}
+use Rattle.std.specs.Result.{result_and}
 use Rattle.lists.specs.Entries.{Entry, find, Ascending}
 use Rattle.model.specs.Model.{base_limit}
-use Rattle.plane.specs.declared.Wrong.TheVariants.{Nowhere, At}
 use Rattle.plane.specs.Record.{Format, read_all, bucket_length, bucket_from, entry_from}
 use Rattle.plane.specs.Plane.{Plane, plane_from, buckets_at, entries_at, whole, wrong_in, entry_allowed, end_wrong, buckets1, buckets2, bucket_count}
 use Rattle.plane.proofs.Scan.{scan_room}
@@ -23,21 +24,26 @@ use Rattle.patch.proofs.Base.{among-gone}
 use Rattle.patch.proofs.Longest.{gone-there}
 use Rattle.patch_check.specs.Steps.{new_allowed_by, started, base_wrong}
 
+-- ---- what a part of the check returns: what is left, unless the scan x finds something wrong
+
+pub was-wrong : {at : ℕ} (x : Result (Unit {0}) ℕ) (es : List Entry) → Err at ≡ result_and x (Ok es) → x ≡ Err at
+was-wrong (Ok u) es e = cc
+was-wrong (Err k) es e = cc
+
+pub was-right : {new : List Entry} (x : Result (Unit {0}) ℕ) (es : List Entry) → Ok new ≡ result_and x (Ok es) → (x ≡ Ok tt) × (new ≡ es)
+was-right (Ok u) es e = (refl, cc)
+was-right (Err k) es e = cc
+
 -- ---- kind 7
 
-pub gone-wrong : (F : Format) (P : Plane) (d : List ℕ) {at : ℕ} → gone_wrong F P d ≡ At at → base_wrong F P d ≡ At at
-gone-wrong F P d e = rw e
-
 module _ (F : Format) (P : Plane) (d : List ℕ) where
-  -- what the code has found before it looks at kind 7: where it starts, how many words there are, and the base list
+  -- what the code has found before it looks at kind 7: where it starts, and how many words there are
   pub record Gone : Type 0 where
     pub first : ℕ
     pub count : ℕ
-    pub old : List Entry
     pub starts : first ≡ gone_at F d
     pub room : first ≤ length d
     pub counted : count ≡ run gone_kind gone_length (length d) (drop first d)
-    pub loaded : old ≡ P.base
     pub ascending : Ascending P.base
 
   module _ (h : Gone) where
@@ -45,22 +51,27 @@ module _ (F : Format) (P : Plane) (d : List ℕ) where
     unfolding gone_in
     gone_is = h.counted ∙ ap (λ (n : ℕ). run gone_kind gone_length (length d) (drop n d)) h.starts
 
-    gone_list : read_all gone_length gone_from h.count (drop h.first d) ≡ (patch_from F d).gone
+    abbrev gone_list : List ℕ
+    gone_list = read_all gone_length gone_from h.count (drop h.first d)
+
+    gone_list_is : gone_list ≡ (patch_from F d).gone
     unfolding patch_from
-    gone_list = ap₂ (λ (k n : ℕ). read_all gone_length gone_from k (drop n d)) gone_is h.starts
+    gone_list_is = ap₂ (λ (k n : ℕ). read_all gone_length gone_from k (drop n d)) gone_is h.starts
 
-    pub gone-scan : wrong_in gone_records (gone_allowed h.old) next_word 0 h.count h.first (drop h.first d) ≡ gone_wrong F P d
+    abbrev gone_scan : List Entry → Result (Unit {0}) ℕ
+    gone_scan old = wrong_in gone_records (gone_allowed old) next_word 0 h.count h.first (drop h.first d)
+
+    gone-scan : gone_scan P.base ≡ gone_wrong F P d
     unfolding gone_wrong
-    gone-scan =
-        ap (λ (es : List Entry). wrong_in gone_records (gone_allowed es) next_word 0 h.count h.first (drop h.first d)) h.loaded
-        ∙ ap₂ (λ (k n : ℕ). wrong_in gone_records (gone_allowed P.base) next_word 0 k n (drop n d)) gone_is h.starts
+    gone-scan = ap₂ (λ (k n : ℕ). wrong_in gone_records (gone_allowed P.base) next_word 0 k n (drop n d)) gone_is h.starts
 
-    pub kept_is : remove_all (read_all gone_length gone_from h.count (drop h.first d)) h.old ≡ remove_all (patch_from F d).gone P.base
-    kept_is = ap₂ remove_all gone_list h.loaded
+    -- what is found of kind 7, where the base list stands in `old`
+    pub kept_is : {r : Result (List Entry) ℕ} {old : List Entry} → old ≡ P.base → r ≡ result_and (gone_scan old) (Ok (remove_all gone_list old)) → r ≡ result_and (gone_wrong F P d) (Ok (remove_all (patch_from F d).gone P.base))
+    kept_is q e = e ∙ rw q (ap₂ (λ (x : Result (Unit {0}) ℕ) (ws : List ℕ). result_and x (Ok (remove_all ws P.base))) gone-scan gone_list_is)
 
-    module _ (right : gone_wrong F P d ≡ Nowhere) where
+    module _ (right : gone_wrong F P d ≡ Ok tt) where
       pub news-start : h.first + h.count * gone_length ≤ length d
-      news-start = let l = h.room in omega (arith, scan_room gone_records (gone_allowed h.old) next_word 0 h.count h.first (drop h.first d) (gone-scan ∙ right), length-drop h.first d)
+      news-start = let l = h.room in omega (arith, scan_room gone_records (gone_allowed P.base) next_word 0 h.count h.first (drop h.first d) (gone-scan ∙ right), length-drop h.first d)
 
       each_there : (w : ℕ) → among w (patch_from F d).gone ≡ true → is_there (find w P.base) ≡ true
       unfolding gone_wrong patch_from
@@ -75,21 +86,20 @@ module _ (F : Format) (P : Plane) (d : List ℕ) where
 
   -- ---- kind 8
 
-  pub news-wrong : {at : ℕ} → gone_wrong F P d ≡ Nowhere → news_wrong F P d ≡ At at → base_wrong F P d ≡ At at
-  news-wrong r e = rw (r, e)
-
-  -- before it looks at kind 8: kind 7 is right, where kind 8 starts, how many entries there are, and the base list without the words gone
+  -- before it looks at kind 8: kind 7 is right, and how many entries there are
   pub record News : Type 0 where
     pub gone : Gone
-    pub right : gone_wrong F P d ≡ Nowhere
+    pub right : gone_wrong F P d ≡ Ok tt
     pub count : ℕ
-    pub kept : List Entry
     pub counted : count ≡ run new_kind new_length (length d) (drop (gone.first + gone.count * gone_length) d)
-    pub removed : kept ≡ remove_all (patch_from F d).gone P.base
 
   module _ (h : News) where
     abbrev start : ℕ
     start = h.gone.first + h.gone.count * gone_length
+
+    -- the base list without the words gone
+    abbrev kept : List Entry
+    kept = remove_all (patch_from F d).gone P.base
 
     start_is : start ≡ news_at F d
     start_is = ap₂ (λ (x y : ℕ). x + y * gone_length) h.gone.starts (gone_is h.gone)
@@ -98,27 +108,34 @@ module _ (F : Format) (P : Plane) (d : List ℕ) where
     unfolding news_in
     news_is = h.counted ∙ ap (λ (x : ℕ). run new_kind new_length (length d) (drop x d)) start_is
 
-    pub news-scan : wrong_in new_records (new_allowed_by h.gone.old h.kept) filled (started h.kept) h.count start (drop start d) ≡ news_wrong F P d
+    abbrev news_scan : List Entry → List Entry → Result (Unit {0}) ℕ
+    news_scan old left = wrong_in new_records (new_allowed_by old left) filled (started left) h.count start (drop start d)
+
+    news-scan : news_scan P.base kept ≡ news_wrong F P d
     unfolding news_wrong
     news-scan =
-        ap₂ (λ (x y : List Entry). wrong_in new_records (new_allowed_by x y) filled (started y) h.count start (drop start d)) h.gone.loaded h.removed
-        ∙ ap (λ (t : Filled → Entry → Bool). wrong_in new_records t filled (unfilled P.base (patch_from F d).gone) h.count start (drop start d)) (sym (same_test h.gone h.right))
+        ap (λ (t : Filled → Entry → Bool). wrong_in new_records t filled (unfilled P.base (patch_from F d).gone) h.count start (drop start d)) (sym (same_test h.gone h.right))
         ∙ ap₂ (λ (x y : ℕ). wrong_in new_records (new_allowed (patch_from F d).gone) filled (unfilled P.base (patch_from F d).gone) x y (drop y d)) news_is start_is
 
-    news_list : read_all new_length entry_from h.count (drop start d) ≡ (patch_from F d).news
-    unfolding patch_from
-    news_list = ap₂ (λ (x y : ℕ). read_all new_length entry_from x (drop y d)) news_is start_is
+    abbrev news_list : List Entry
+    news_list = read_all new_length entry_from h.count (drop start d)
 
-    pub base_is : enter_all (read_all new_length entry_from h.count (drop start d)) h.kept ≡ (patched P (patch_from F d)).base
+    news_list_is : news_list ≡ (patch_from F d).news
+    unfolding patch_from
+    news_list_is = ap₂ (λ (x y : ℕ). read_all new_length entry_from x (drop y d)) news_is start_is
+
+    -- what is found of kind 8, where the base list stands in `old`, and without the words gone in `left`
+    pub base_is : {r : Result (List Entry) ℕ} {old left : List Entry} → old ≡ P.base → left ≡ kept → r ≡ result_and (news_scan old left) (Ok (enter_all news_list left))
+        → r ≡ result_and (news_wrong F P d) (Ok (patched P (patch_from F d)).base)
     unfolding patched
-    base_is = ap₂ enter_all news_list h.removed
+    base_is q l e = e ∙ rw (q, l) (ap₂ (λ (x : Result (Unit {0}) ℕ) (es : List Entry). result_and x (Ok (enter_all es kept))) news-scan news_list_is)
 
     -- ---- kind 4
 
-    module _ (right : news_wrong F P d ≡ Nowhere) where
+    module _ (right : news_wrong F P d ≡ Ok tt) where
       pub end-start : start + h.count * new_length ≤ length d
       end-start =
-          omega (arith, news-start h.gone h.right, scan_room new_records (new_allowed_by h.gone.old h.kept) filled (started h.kept) h.count start (drop start d) (news-scan ∙ right), length-drop start d)
+          omega (arith, news-start h.gone h.right, scan_room new_records (new_allowed_by P.base kept) filled (started kept) h.count start (drop start d) (news-scan ∙ right), length-drop start d)
 
       pub end-scan : end_wrong (start + h.count * new_length) (drop (start + h.count * new_length) d) ≡ base_wrong F P d
       end-scan = rw (h.right, right) (ap (λ (x : ℕ). end_wrong x (drop x d)) (ap₂ (λ (x y : ℕ). x + y * new_length) start_is news_is))
@@ -129,16 +146,16 @@ module _ (F : Format) (p d : List ℕ) where
   abbrev plane : Plane
   plane = plane_from F p
 
-  pub sums-wrong : whole sums_kind sums_body d ≡ false → patch_wrong_at F plane d ≡ At 0
+  pub sums-wrong : whole sums_kind sums_body d ≡ false → patch_wrong_at F plane d ≡ Err 0
   unfolding patch_wrong_at
   sums-wrong e = rw e
 
   module _ (right : whole sums_kind sums_body d ≡ true) where
-    pub changes-wrong : {at : ℕ} → changes_wrong F plane d ≡ At at → patch_wrong_at F plane d ≡ At at
+    pub changes-wrong : {at : ℕ} → changes_wrong F plane d ≡ Err at → patch_wrong_at F plane d ≡ Err at
     unfolding patch_wrong_at
     changes-wrong e = rw (right, e)
 
-    pub base-wrong : changes_wrong F plane d ≡ Nowhere → base_wrong F plane d ≡ patch_wrong_at F plane d
+    pub base-wrong : changes_wrong F plane d ≡ Ok tt → base_wrong F plane d ≡ patch_wrong_at F plane d
     unfolding patch_wrong_at
     base-wrong e = rw (right, e)
 
@@ -160,6 +177,6 @@ module _ (F : Format) (p d : List ℕ) where
     unfolding changes_wrong
     changes_scan = ap₂ (λ (n k : ℕ). wrong_in (change_records F) (change_allowed n) next_index 0 k changes_at (drop changes_at d)) (sym buckets_count) changes_is
 
-    pub gone-start : changes_at ≤ length d → changes_wrong F plane d ≡ Nowhere → changes_at + count * change_length F ≤ length d
+    pub gone-start : changes_at ≤ length d → changes_wrong F plane d ≡ Ok tt → changes_at + count * change_length F ≤ length d
     gone-start l e =
         omega (arith, scan_room (change_records F) (change_allowed (bucket_count p)) next_index 0 count changes_at (drop changes_at d) (changes_scan ∙ e), length-drop changes_at d)

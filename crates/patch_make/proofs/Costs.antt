@@ -10,6 +10,7 @@ use mathlib.Core.List.{List, ◌++◌, map}
 use lib.Bits.{xor_self}
 use lib.ListN.{length, get_or, set, length-map}
 use lib.Seq.{set-append_left, map-set_same}
+use Rattle.std.specs.Prelude.{Ok, Err}
 use Rattle.lists.specs.Entries.{Entry, find, update, Ascending}
 use Rattle.lists.proofs.Tests.{cases, by_test}
 use Rattle.lists.proofs.Keep.{map-set}
@@ -17,18 +18,16 @@ use Rattle.gf2.proofs.Solutions.{sol_step_none}
 use Rattle.hash.specs.Mix.{mix_of}
 use Rattle.hash.specs.Fnv.{fnv_of}
 use Rattle.hash.proofs.FnvLaws.{fnv_lt}
-use Rattle.answer.specs.Numbers.{number_of}
-use Rattle.answer.specs.declared.Answer.TheVariants.{Accepted}
+use Rattle.answer.specs.Numbers.{Answer, number_of}
 use Rattle.identifier.specs.Identifier.{Token}
 use Rattle.identifier.specs.Place.{thresholds}
-use Rattle.identifier.specs.declared.Read.{Read}
-use Rattle.identifier.specs.declared.Read.TheVariants.{Word, Refused}
 use Rattle.model.specs.Model.{change}
 use Rattle.model.specs.Request.{word_for}
 use Rattle.model.specs.Machine.{accepted}
 use Rattle.model.proofs.Requests.{Reads, reads}
 use Rattle.bucket.specs.declared.Bucket.{Bucket}
 use Rattle.bucket.specs.Bucket as B
+use Rattle.bucket.proofs.Laws.{has_row, no_row}
 use Rattle.bucket_settle.specs.Settle.{plan_of}
 use Rattle.table.specs.Table as C
 use Rattle.table.specs.Table.{Table}
@@ -59,13 +58,14 @@ use Rattle.patch_make.proofs.Small.{changes_none, changes_one, set-second, gone_
 -- ---- one bucket
 
 -- a change to the plan that the vector has shows nothing new
-seen_same : (n v p : ℕ) (b : Bucket) → plan_of n v b ≡ some p → seen_of (B.change n v p b).bucket ≡ seen_of b
+seen_same : (n v p : ℕ) (b : Bucket) → plan_of n v b ≡ some p → seen_of (B.changed n v p b) ≡ seen_of b
 unfolding B.change B.change_at
 seen_same n v p b e =
     cases (B.live n v b)
     (λ t. let q : B.lookup b v ≡ p = live-plan (B.live n v b) (B.lookup b v) p e in
-    rw (t, q, xor_self p) (ap (λ (l : List ℕ). record { bound = b.bound; sols = l }) (sol_step_none (get_or b.cols (B.row_of n v b) 0) b.sols)))
-    (λ f. rw f refl)
+    let w = has_row n v b t in
+    rw (w.1, q, xor_self p) (ap (λ (l : List ℕ). record { bound = b.bound; sols = l }) (sol_step_none (get_or b.cols w.0 0) b.sols)))
+    (λ f. rw (no_row n v b f) refl)
 
 -- ---- the plane of a table in which the live word w, of the plan q, gets the plan p
 
@@ -93,10 +93,10 @@ module _ (n r : ℕ) (S : ℕ → ℕ) (T : Table) (asc : Ascending T.base) (som
 
   -- its bucket at each level, after the change to p
   abbrev c1 : ℕ → Bucket
-  c1 p = (B.change n w p (C.bucket_of n r S T.level1 w)).bucket
+  c1 p = B.changed n w p (C.bucket_of n r S T.level1 w)
 
   abbrev c2 : ℕ → Bucket
-  c2 p = (B.change n v p (C.bucket_of n r S T.level2 v)).bucket
+  c2 p = B.changed n v p (C.bucket_of n r S T.level2 v)
 
   abbrev A : List PlaneBucket
   A = map seen_of T.level1
@@ -140,29 +140,29 @@ module _ (n r : ℕ) (S : ℕ → ℕ) (T : Table) (asc : Ascending T.base) (som
 -- an accepted change: its word, of the plan q, is live in a sound table
 record Was (t : List ℕ) (id : Token) (p q : ℕ) : Type 0 where
   pub word : ℕ
-  pub for : word_for (change id p) ≡ Word word
+  pub for : word_for (change id p) ≡ Ok word
   pub shape : shaped t ≡ true
   pub tested : sound t ≡ true
   pub live : plan_in t word ≡ some q
 
-was : (t : List ℕ) (id : Token) (p q : ℕ) → (call t (change id p)).answer ≡ Accepted q → Was t id p q
+was : (t : List ℕ) (id : Token) (p q : ℕ) → (call t (change id p)).answer ≡ Ok q → Was t id p q
 unfolding call served
 was t id p q e = go (word_for (change id p)) refl (reads (change id p)) e
   where
-    found : (T : ℕ → Table) (o : Option ℕ) → (replaced t T o).answer ≡ Accepted q → o ≡ some q
+    found : (T : ℕ → Table) (o : Option ℕ) → (replaced t T o).answer ≡ Ok q → o ≡ some q
     found T (some x) f = cc
     found T none f = cc
 
-    go : (x : Read) → word_for (change id p) ≡ x → Reads (change id p) x → (call_read t (change id p) x).answer ≡ Accepted q → Was t id p q
-    go (Refused a) i k = λ f. absurd (omega (arith, ap number_of f))
-    go (Word w) i k =
-        by_test (λ (o : Outcome). o.answer ≡ Accepted q → Was t id p q) (shaped t)
-        (λ k. by_test (λ (o : Outcome). o.answer ≡ Accepted q → Was t id p q) (sound t)
+    go : (x : Answer) → word_for (change id p) ≡ x → Reads (change id p) x → (call_read t (change id p) x).answer ≡ Ok q → Was t id p q
+    go (Err a) i k = λ f. absurd (omega (arith, ap number_of f))
+    go (Ok w) i k =
+        by_test (λ (o : Outcome). o.answer ≡ Ok q → Was t id p q) (shaped t)
+        (λ k. by_test (λ (o : Outcome). o.answer ≡ Ok q → Was t id p q) (sound t)
         (λ s f. record { word = w; for = i; shape = k; tested = s; live = found (C.changed_in rows solutions mix_of (table_of t) w p) (plan_in t w) f })
         (λ _ f. absurd (omega (arith, ap number_of f))))
         (λ _ f. absurd (omega (arith, ap number_of f)))
 
-module _ (t : List ℕ) (flat : FlatSound t) (id : Token) (p q : ℕ) (e : (call t (change id p)).answer ≡ Accepted q) where
+module _ (t : List ℕ) (flat : FlatSound t) (id : Token) (p q : ℕ) (e : (call t (change id p)).answer ≡ Ok q) where
   -- the table after the change
   abbrev u : List ℕ
   u = (call t (change id p)).table
@@ -229,7 +229,7 @@ module _ (t : List ℕ) (flat : FlatSound t) (id : Token) (p q : ℕ) (e : (call
       ∙ rw (changes_none 0 (buckets_of P), gone_same T.base flat.table.ascending, news-same T.base flat.table.ascending)
 
 -- any sound table
-module _ (t : List ℕ) (flat : FlatSound t) (id : Token) (p q : ℕ) (e : (call t (change id p)).answer ≡ Accepted q) where
+module _ (t : List ℕ) (flat : FlatSound t) (id : Token) (p q : ℕ) (e : (call t (change id p)).answer ≡ Ok q) where
   -- "changing one plan costs at most 89 bytes"
   pub change_costs : length (patch_between t (call t (change id p)).table) ≤ 89
   change_costs = at_most t flat id p q e
@@ -250,7 +250,7 @@ module _ (t : List ℕ) (flat : FlatSound t) (id : Token) (p q : ℕ) (e : (call
         table_make t (call t (change id p)).table k flat s.0 s.2 (sym (call_size t k flat (change id p))) out
 
     -- what it returns
-    pub change-length : (n : ℕ) → made.answer ≡ Accepted n → n ≡ length (patch_between t (call t (change id p)).table)
+    pub change-length : (n : ℕ) → made.answer ≡ Ok n → n ≡ length (patch_between t (call t (change id p)).table)
     change-length n f = (in-front n out (patch_between t (call t (change id p)).table) (ap (λ (w : Written). w.answer) (sym made_is) ∙ f)).size
 
     pub change_room : length (patch_between t (call t (change id p)).table) ≤ length out → accepted made.answer ≡ true

@@ -9,9 +9,8 @@ use mathlib.Core.List.{List, map}
 use lib.Dec.{lit<}
 use lib.ListN.{length, take, length-map}
 use borrow.Author.Tests.{eq-eqb}
-use Rattle.answer.specs.declared.Answer.TheVariants.{Accepted}
+use Rattle.std.specs.Prelude.{Ok}
 use Rattle.identifier.specs.Identifier.{Token, read_of}
-use Rattle.identifier.specs.declared.Read.TheVariants.{Word}
 use Rattle.model.specs.Model.{Size}
 use Rattle.model.specs.Request.{Request}
 use Rattle.model.specs.Machine.{after}
@@ -20,7 +19,6 @@ use Rattle.table.specs.Table.{Table}
 use Rattle.table.specs.Calls.{table_of, shaped, FlatSound}
 use Rattle.table.specs.History.{tables, Opened, accepted_calls, flat_state}
 use Rattle.table.proofs.Statements.{list_size, always_sound}
-use Rattle.plane.specs.declared.Wrong.TheVariants.{Nowhere}
 use Rattle.plane.specs.Record.{format1}
 use Rattle.plane.specs.Plane.{plane_bytes, wrong_at}
 use Rattle.plane.specs.Lookup.{lookup_call}
@@ -39,7 +37,7 @@ use Rattle.patch.proofs.Calls.{make_apply}
 -- ---- the plane of any sound table
 
 module _ (t : List ℕ) (k : shaped t ≡ true) (h : FlatSound t) where
-  pub plane_right : wrong_at format1 (plane_in t) ≡ Nowhere
+  pub plane_right : wrong_at format1 (plane_in t) ≡ Ok tt
   plane_right = written_right format1 (plane_of (table_of t)) (fits t k h)
 
   pub plane-bytes : AllBytes (plane_in t)
@@ -64,7 +62,7 @@ table_make t u k h j g e = make_made (plane_in t) (plane_in u) (plane-bytes t k 
 -- ---- the planes of one opening
 
 module _ (t : List ℕ) (o : Opened t) where
-  right : (ps : List Request) → wrong_at format1 (plane_after t ps) ≡ Nowhere
+  right : (ps : List Request) → wrong_at format1 (plane_after t ps) ≡ Ok tt
   right ps = let h = always_sound t o ps in plane_right (after tables t ps) h.0 h.2
 
   octets : (ps : List Request) → AllBytes (plane_after t ps)
@@ -86,18 +84,18 @@ module _ (t : List ℕ) (o : Opened t) where
     list_apply = made-accepted (plane_after t ps) (plane_after t qs) (octets ps) (octets qs) (right ps) (right qs) list_alike
 
     -- n bytes were made, and m were written by applying them: those are the new plane
-    module _ (out : List ℕ) (n : ℕ) (made : (make_call (plane_after t ps) (plane_after t qs) out).answer ≡ Accepted n) (into : List ℕ) where
+    module _ (out : List ℕ) (n : ℕ) (made : (make_call (plane_after t ps) (plane_after t qs) out).answer ≡ Ok n) (into : List ℕ) where
       abbrev patch_made : List ℕ
       patch_made = take n (make_call (plane_after t ps) (plane_after t qs) out).output
 
       pub list_follows : apply_call (plane_after t ps) patch_made into ≡ put_front (plane_after t qs) into
       list_follows = make_apply (plane_after t ps) (plane_after t qs) out n (octets ps) (octets qs) made into
 
-      pub list_new : (m : ℕ) → (apply_call (plane_after t ps) patch_made into).answer ≡ Accepted m → take m (apply_call (plane_after t ps) patch_made into).output ≡ plane_after t qs
+      pub list_new : (m : ℕ) → (apply_call (plane_after t ps) patch_made into).answer ≡ Ok m → take m (apply_call (plane_after t ps) patch_made into).output ≡ plane_after t qs
       list_new m e =
           ap (λ (w : Written). take m w.output) list_follows
           ∙ (in-front m into (plane_after t qs) (ap (λ (w : Written). w.answer) (sym list_follows) ∙ e)).front
 
   -- the plane gives every live identifier its word's last accepted plan
-  pub plane_tells : (ps : List Request) (id : Token) (v p : ℕ) → read_of id ≡ Word v → told v (accepted_calls t ps) ≡ some p → lookup_call id (plane_after t ps) ≡ Accepted p
+  pub plane_tells : (ps : List Request) (id : Token) (v p : ℕ) → read_of id ≡ Ok v → told v (accepted_calls t ps) ≡ some p → lookup_call id (plane_after t ps) ≡ Ok p
   plane_tells ps id v p i h = let k = always_sound t o ps in shows (after tables t ps) k.0 k.2 id ∙ told_shown t o ps id v p i h

@@ -2,43 +2,43 @@
 -- that another base list has otherwise, found by a cursor.
 -- Assumes nothing.
 use Prim.Native.Nat.{ℕ, suc, ◌+◌, ◌-◌, ◌*◌, ◌≤◌, ◌<◌}
-use native.Mathlib.Nat.{le_refl, le_of_lt, add-mul, suc-mul, mul-le-mul_right}
+use native.Mathlib.Nat.{add-mul, suc-mul, mul-le-mul_right}
 use native.Mathlib.Numerals.{add-one}
 use native.Mathlib.Omega.{arith}
 use mathlib.Core.Path.{◌≡◌, refl, sym, ap, ap₂, ◌∙◌, subst}
-use mathlib.Core.Bool.{Bool, true, false, cond, not, true≢false}
-use mathlib.Core.List.{List, [], ◌∷◌, ◌++◌}
-use lib.Dec.{eqb, ltb}
+use mathlib.Core.Bool.{Bool, true, false, cond, not}
+use mathlib.Core.Option as Math
+use mathlib.Core.List.{List, [], ◌∷◌, ◌++◌, map}
+use lib.Dec.{eqb}
 use lib.ListN.{length, get_or, take, drop, length-append, length-drop, drop_of_length-le}
-use lib.Seq.{drop-drop}
-use borrow.Author.Tests.{eq-eqb, ne_eqb, eqb-true, eqb-false, ltb-true, ltb-false}
+use lib.Seq.{drop-drop, drop-cons}
+use borrow.Author.Tests.{eq-eqb, ne_eqb, eqb-true, eqb-false}
+use Rattle.std.specs.Prelude.{Ok, Option, Some, None}
+use Rattle.std.specs.Option.{is_some, option_eq}
 use Rattle.codec.specs.Bytes.{eq_list}
 use Rattle.codec.specs.Parts.{written}
 use Rattle.codec.proofs.Part.{length-written, written_none, written-append}
 use Rattle.codec.proofs.Round.{length-to_bytes}
 use Rattle.lists.specs.Lists.{keep, Every}
-use Rattle.lists.specs.Entries.{Entry, plan_limit, find, words, Above, Ascending}
+use Rattle.lists.specs.Entries.{Entry, find, Ascending}
 use Rattle.lists.proofs.Tests.{cases}
 use Rattle.lists.proofs.Parts.{stretch, length_stretch}
-use Rattle.lists.proofs.Every.{mem_every, every-at}
-use Rattle.lists.proofs.Entries.{assignable_byte, above_mem}
-use Rattle.table.specs.Layout.{most_buckets1, most_buckets2, pairs_from}
-use Rattle.table.proofs.Numbers.{length-pairs_from, read_pair}
-use Rattle.plane.specs.declared.Wrong.TheVariants.{Nowhere}
+use Rattle.lists.proofs.Every.{mem_every}
+use Rattle.lists.proofs.Entries.{above_mem}
+use Rattle.table.specs.Layout.{most_buckets1, most_buckets2}
 use Rattle.plane.specs.Record.{Format, word_bytes, bytes_of, PlaneBucket, bucket_body, bucket_length, bucket_bytes, bucket_from}
 use Rattle.plane.specs.Plane.{plane_from, wrong_at, buckets1, buckets2, bucket_count, buckets_at, entries_at}
-use Rattle.plane.specs.Fits.{FitsEntry}
 use Rattle.plane.proofs.Scan.{both, known}
 use Rattle.plane.proofs.Read.{get_d_read_all}
 use Rattle.plane.proofs.Exact.{AllBytes, bytes_drop, bucket-taken, buckets_read, buckets_length}
-use Rattle.patch.specs.Base.{is_there, has, gone_of, news_of}
-use Rattle.patch.specs.Cursor.{below, is_first}
+use Rattle.patch.specs.Base.{is_there, has, gone_of}
+use Rattle.patch.specs.Cursor.{plan_first, after}
 use Rattle.patch.specs.Record.{Change, change_length, change_record, gone_length, gone_record, new_length, new_record}
 use Rattle.patch.specs.Patch.{changes_of, buckets_of}
 use Rattle.patch.specs.Calls.{alike}
 use Rattle.patch.proofs.Steps.{changes_step}
-use Rattle.patch.proofs.Cursor.{pair-next, none_left_lem, first-end, Low, low_up, none_above, larger, ascending_drop, below_length, below-drop, seek_low, seek_find, seek_there}
-use Rattle.patch_make.specs.Steps.{unless, change_part, same_first}
+use Rattle.patch.proofs.Cursor as cursor
+use Rattle.patch_make.specs.Steps.{unless, change_part}
 
 -- ---- bytes written one after the other
 
@@ -81,15 +81,11 @@ gone_size w = omega (arith, length-to_bytes word_bytes w)
 pub new_size : (e : Entry) → length (new_record e) ≡ new_length
 new_size e = rw length-append (omega (arith, length-to_bytes word_bytes e.word))
 
--- one element kept, or not, where it is p in front of the bytes
+-- one element more, or not, where it is p in front of the bytes
 module _ {E : Type 0} (bytes : List E → List ℕ) (p : List ℕ) (x : E) (xs : List E) (e : bytes (x ∷ xs) ≡ p ++ bytes xs) where
   unless-bytes : (b : Bool) → bytes (cond b xs (x ∷ xs)) ≡ unless b p ++ bytes xs
   unless-bytes true = refl
   unless-bytes false = e
-
-  kept-bytes : (b : Bool) → bytes (cond (not b) (x ∷ xs) xs) ≡ unless b p ++ bytes xs
-  kept-bytes true = refl
-  kept-bytes false = e
 
 -- ---- one more bucket
 
@@ -106,127 +102,99 @@ module _ (F : Format) (bs cs : List PlaneBucket) where
       rw (changes_step i bs cs z hb hc, ← add-one i)
       (unless-bytes (bytes_of (change_record F)) (change_record F c) c (changes_of (i + 1) (drop (i + 1) bs) (drop (i + 1) cs)) refl (eq_list (bucket_bytes (get_or bs i z)) (bucket_bytes (get_or cs i z))))
 
--- ---- the cursor j in a base list R
+-- ---- the entries of a base list L that another one, R, has otherwise, by a cursor in R
 
--- the entries before the cursor have smaller words than those of L
-abbrev pub Passed : List Entry → ℕ → List Entry → Type 0
-Passed R j L = Every (λ x. Low x.word (take j R)) L
+bytes-map : {A B : Type 0} (f : B → List ℕ) (g : A → B) (xs : List A) → bytes_of f (map g xs) ≡ bytes_of (λ x. f (g x)) xs
+unfolding bytes_of
+bytes-map f g [] = refl
+bytes-map f g (x ∷ xs) = ap (λ (l : List ℕ). f (g x) ++ l) (bytes-map f g xs)
 
-pub passed_none : (R L : List Entry) → Passed R 0 L
-passed_none R L = mem_every _ L (λ x m. tt)
+-- those of which t is true have records of this size
+module _ (f : Entry → List ℕ) (size : ℕ) (sized : (e : Entry) → length (f e) ≡ size) (t : Entry → Bool) (L R : List Entry) (first : ℕ) (out₀ : List ℕ) where
+  -- the records of those from the entry i on
+  abbrev rest : ℕ → List ℕ
+  rest i = bytes_of f (keep t (drop i L))
 
--- the plan of the word w, by the entry in front, where none has a smaller word
-has-front : (w p : ℕ) (r : List Entry) → Ascending r → below w r ≡ 0 → has p (find w r) ≡ same_first w p r
-has-front w p [] a z = refl
-has-front w p (x ∷ r) a z =
-    cases (eqb x.word w)
-    (λ t. rw (eq-eqb w x.word (sym (eqb-true x.word w t)), t) (turned p x.plan))
-    (λ f. rw (none_above w (x ∷ r) (larger w x r a z f), f))
-  where
-    turned : (a b : ℕ) → eqb a b ≡ eqb b a
-    turned a b = cases (eqb a b) (λ t. t ∙ sym (eq-eqb b a (sym (eqb-true a b t)))) (λ f. f ∙ sym (ne_eqb b a (λ q. eqb-false a b f (sym q))))
+  -- the first i entries are looked at, and `left` is what is left of R
+  pub record Sending (i : ℕ) (left : List Entry) (at : ℕ) (out : List ℕ) : Type 0 where
+    pub bytes : Left (rest 0) first out₀ (rest i) at out
+    pub room : at ≤ first + i * size
+    pub least : ℕ
+    pub cursor : cursor.Left least R left
+    pub above : Every (λ e. least ≤ e.word) (drop i L)
 
-module _ (w j : ℕ) (R : List Entry) where
-  -- the first entry from j on whose word is not below w
-  abbrev pub sought : ℕ
-  sought = j + below w (drop j R)
+  pub sending_starts : Ascending R → Sending 0 R first out₀
+  sending_starts a = record { bytes = left-all; room = omega arith; least = 0; cursor = cursor.left_all R a; above = mem_every _ L (λ x m. omega arith) }
 
-  pub sought-length : j ≤ length R → sought ≤ length R
-  sought-length h = omega (arith, below_length w (drop j R), length-drop j R)
-
-  passed-next : (L : List Entry) → Low w (take sought R) → Above w L → Passed R sought L
-  passed-next L h b = mem_every _ L (λ x m. low_up w x.word (le_of_lt (above_mem w L b x m)) (take sought R) h)
-
-  has-at : Ascending R → Low w (take j R) → (p : ℕ) → has p (find w R) ≡ same_first w p (drop sought R)
-  has-at a l p =
-      ap (has p) (seek_find w j R l)
-      ∙ has-front w p (drop sought R) (ascending_drop sought R a) (ap (below w) (sym (drop-drop (below w (drop j R)) j R)) ∙ below-drop w (drop j R))
-
--- ---- the n entries that the numbers xs hold, one by one
-
-module _ (n : ℕ) (xs : List ℕ) where
-  -- the plan of entry i is a byte
-  pub plan-low : Every FitsEntry (pairs_from n xs) → (i : ℕ) → i < n → get_or xs (2 * i + 1) 0 < plan_limit
-  plan-low f i h =
-      let z : Entry = record { word = 0; plan = 0 } in
-      assignable_byte (get_or xs (2 * i + 1) 0) (rw (read_pair n xs i z h) at (every-at FitsEntry z (pairs_from n xs) f i (rw (length-pairs_from n xs) h)).plan)
-
-  module _ (i w plan : ℕ) where
-    -- where the word stands at entry i, there is one, and its plan decides
-    pub first-there : is_first w (drop i (pairs_from n xs)) ≡ true → i < n
-    first-there t = cases (ltb i n) (λ h. ltb-true i n h) (λ h. absurd (true≢false (sym t ∙ first-end xs n i w (ltb-false i n h))))
-
-    pub same-there : is_first w (drop i (pairs_from n xs)) ≡ true → eqb (get_or xs (2 * i + 1) 0) plan ≡ same_first w plan (drop i (pairs_from n xs))
-    same-there t = rw (pair-next xs n i (first-there t)) (rw (rw (pair-next xs n i (first-there t)) at t))
-
-    pub same_not : is_first w (drop i (pairs_from n xs)) ≡ false → false ≡ same_first w plan (drop i (pairs_from n xs))
-    same_not = not_first (drop i (pairs_from n xs))
-      where
-        not_first : (l : List Entry) → is_first w l ≡ false → false ≡ same_first w plan l
-        not_first [] f = refl
-        not_first (e ∷ l) f = rw f
-
--- one more of them, by the cursor j in R
-
-module _ (n : ℕ) (xs : List ℕ) (R : List Entry) where
-  abbrev L : List Entry
-  L = pairs_from n xs
-
-  -- the records of the words gone, and of the entries new or changed, from the entry i on
-  abbrev pub gone_left : ℕ → List ℕ
-  gone_left i = bytes_of gone_record (gone_of (drop i L) R)
-
-  abbrev pub news_left : ℕ → List ℕ
-  news_left i = bytes_of new_record (news_of R (drop i L))
-
-  pub gone_none : gone_left n ≡ []
-  unfolding bytes_of
-  gone_none = ap (λ (l : List Entry). bytes_of gone_record (gone_of l R)) (none_left_lem xs n n (le_refl n))
-
-  pub news_none : news_left n ≡ []
-  unfolding bytes_of
-  news_none = ap (λ (l : List Entry). bytes_of new_record (news_of R l)) (none_left_lem xs n n (le_refl n))
-
-  -- k is where the cursor comes to stand for entry i
-  module _ (al : Ascending L) (ar : Ascending R) (i j k : ℕ) (h : i + 1 ≤ n) (past : Passed R j (drop i L)) (s : k ≡ sought (get_or xs (2 * i) 0) j R) where
-    abbrev w : ℕ
-    w = get_or xs (2 * i) 0
-
-    abbrev plan : ℕ
-    plan = get_or xs (2 * i + 1) 0
-
-    abbrev e : Entry
-    e = record { word = w; plan = plan }
-
-    here : drop i L ≡ e ∷ drop (i + 1) L
-    here = pair-next xs n i (omega arith) ∙ ap (λ (x : ℕ). e ∷ drop x (pairs_from n xs)) (sym (add-one i))
-
-    above : Above w (drop (i + 1) L)
-    above = (subst Ascending here (ascending_drop i L al)).0
-
-    low : Low w (take j R)
-    low = (subst (Passed R j) here past).0
-
-    pub past_next : Passed R k (drop (i + 1) L)
-    past_next = rw s (passed-next w j R (drop (i + 1) L) (seek_low w j R low) above)
-
-    pub gone-next : (kept : Bool) → kept ≡ is_first w (drop k R) → gone_left i ≡ unless kept (gone_record w) ++ gone_left (i + 1)
+  module _ {i : ℕ} {left : List Entry} {at : ℕ} {out : List ℕ} (h : Sending i left at out) where
+    pub sending_ends : length L ≤ i → (at ≡ first + length (bytes_of f (keep t L))) × (out ≡ written first (bytes_of f (keep t L)) out₀)
     unfolding bytes_of
-    gone-next kept q =
-        ap (λ (l : List Entry). bytes_of gone_record (gone_of l R)) here
-        ∙ kept-bytes (λ (l : List Entry). bytes_of gone_record (words l)) (gone_record w) e (keep (λ x. not (is_there (find x.word R))) (drop (i + 1) L)) refl (is_there (find w R))
-        ∙ ap (λ (c : Bool). unless c (gone_record w) ++ gone_left (i + 1)) (seek_there w j R low ar ∙ ap (λ (x : ℕ). is_first w (drop x R)) (sym s) ∙ sym q)
+    sending_ends l = left_none h.bytes (ap (λ (es : List Entry). bytes_of f (keep t es)) (drop_of_length-le L {i = i} l))
 
-    pub news-next : (same : Bool) → same ≡ same_first w plan (drop k R) → news_left i ≡ unless same (new_record e) ++ news_left (i + 1)
-    unfolding bytes_of
-    news-next same q =
-        ap (λ (l : List Entry). bytes_of new_record (news_of R l)) here
-        ∙ kept-bytes (bytes_of new_record) (new_record e) e (keep (λ x. not (has x.plan (find x.word R))) (drop (i + 1) L)) refl (has plan (find w R))
-        ∙ ap (λ (c : Bool). unless c (new_record e) ++ news_left (i + 1)) (has-at w j R ar low plan ∙ ap (λ (x : ℕ). same_first w plan (drop x R)) (sym s) ∙ sym q)
+    module _ (a : Ascending L) (l : i < length L) {e : Entry} (d : Entry) (q : e ≡ get_or L i d) where
+      here : drop i L ≡ e ∷ drop (i + 1) L
+      here = drop-cons L i d l ∙ ap₂ (λ (x : Entry) (n : ℕ). x ∷ drop n L) (sym q) (sym (add-one i))
+
+      least_le : h.least ≤ e.word
+      least_le = (subst (Every (λ x. h.least ≤ x.word)) here h.above).0
+
+      -- what the cursor says of the word
+      pub sought : {o : Option ℕ} → o ≡ plan_first e.word (cursor.from e.word left) → find e.word R ≡ cursor.found o
+      sought s = cursor.left_find h.cursor e.word least_le ∙ ap cursor.found (sym s)
+
+      next : {at₁ : ℕ} {out₁ : List ℕ} → Left (rest 0) first out₀ (rest (i + 1)) at₁ out₁ → at₁ ≤ at + size → (left₁ : List Entry) → left₁ ≡ after e.word (cursor.from e.word left) → Sending (i + 1) left₁ at₁ out₁
+      next b r left₁ z =
+          let g : first + (i + 1) * size ≡ first + i * size + size = omega arith in
+          let k = h.room in
+          record {
+            bytes = b;
+            room = omega arith;
+            least = suc e.word;
+            cursor = rw z (cursor.left_next h.cursor e.word least_le);
+            above = mem_every _ (drop (i + 1) L) (λ x m. above_mem e.word (drop (i + 1) L) (subst Ascending here (cursor.ascending_drop i L a)).0 x m);
+          }
+
+      pub sent : t e ≡ true → (at₁ : ℕ) (out₁ : List ℕ) (left₁ : List Entry) → at₁ ≡ at + size → out₁ ≡ written at (f e) out → left₁ ≡ after e.word (cursor.from e.word left) → Sending (i + 1) left₁ at₁ out₁
+      unfolding bytes_of
+      sent y at₁ out₁ left₁ n o z =
+          let more : rest i ≡ f e ++ rest (i + 1) = rw (here, y) in
+          next (left_less h.bytes (f e) more (n ∙ ap (λ (k : ℕ). at + k) (sym (sized e))) o) (omega arith) left₁ z
+
+      pub kept : t e ≡ false → (at₁ : ℕ) (out₁ : List ℕ) (left₁ : List Entry) → at₁ ≡ at → out₁ ≡ out → left₁ ≡ after e.word (cursor.from e.word left) → Sending (i + 1) left₁ at₁ out₁
+      kept y at₁ out₁ left₁ n o z =
+          let same : rest i ≡ rest (i + 1) = rw (here, y) in
+          rw (n, o) (next (record { bytes = rw same at h.bytes.bytes; end = rw same at h.bytes.end }) (omega arith) left₁ z)
+
+-- an entry's plan is that of its word, if the word has the plan o
+has-plan : (p : ℕ) (o : Option ℕ) → has p (cursor.found o) ≡ option_eq eqb o (Some p)
+has-plan p None = refl
+has-plan p (Some q) = cases (eqb p q) (λ t. t ∙ sym (eq-eqb q p (sym (eqb-true p q t)))) (λ f. f ∙ sym (ne_eqb q p (λ e. eqb-false p q f (sym e))))
+
+-- the words gone, and the entries new or changed
+module _ (L R : List Entry) where
+  abbrev pub gone : Entry → Bool
+  gone e = not (is_there (find e.word R))
+
+  abbrev pub changed : Entry → Bool
+  changed e = not (has e.plan (find e.word R))
+
+  -- by what the cursor says of the word
+  pub gone_is : (e : Entry) (o : Option ℕ) → find e.word R ≡ cursor.found o → {b : Bool} → is_some o ≡ not b → gone e ≡ b
+  gone_is e o q {b} n = ap (λ (x : Math.Option ℕ). not (is_there x)) q ∙ ap not (cursor.there_some o ∙ n) ∙ not_not b
+    where
+      not_not : (x : Bool) → not (not x) ≡ x
+      not_not true = refl
+      not_not false = refl
+
+  pub changed_is : (e : Entry) (o : Option ℕ) → find e.word R ≡ cursor.found o → {b : Bool} → b ≡ not (option_eq eqb o (Some e.plan)) → changed e ≡ b
+  changed_is e o q n = ap (λ (x : Math.Option ℕ). not (has e.plan x)) q ∙ ap not (has-plan e.plan o) ∙ sym n
+
+  pub gone-bytes : bytes_of (λ e. gone_record e.word) (keep gone L) ≡ bytes_of gone_record (gone_of L R)
+  gone-bytes = sym (bytes-map gone_record (λ (e : Entry). e.word) (keep gone L))
 
 -- ---- the buckets of a right plane
 
-module _ (F : Format) (p : List ℕ) (e : wrong_at F p ≡ Nowhere) (b : AllBytes p) where
+module _ (F : Format) (p : List ℕ) (e : wrong_at F p ≡ Ok tt) (b : AllBytes p) where
   abbrev s : ℕ
   s = bucket_length F
 
@@ -246,8 +214,8 @@ module _ (F : Format) (p : List ℕ) (e : wrong_at F p ≡ Nowhere) (b : AllByte
 -- ---- two right planes of equal bucket numbers
 
 pub record Alike (F : Format) (p q : List ℕ) : Type 0 where
-  pub old : wrong_at F p ≡ Nowhere
-  pub new : wrong_at F q ≡ Nowhere
+  pub old : wrong_at F p ≡ Ok tt
+  pub new : wrong_at F q ≡ Ok tt
   pub old_bytes : AllBytes p
   pub new_bytes : AllBytes q
   pub most : bucket_count p ≤ most_buckets1 + most_buckets2
@@ -256,7 +224,7 @@ pub record Alike (F : Format) (p q : List ℕ) : Type 0 where
   pub old_room : entries_at F (bucket_count p) ≤ length p
   pub new_room : entries_at F (bucket_count p) ≤ length q
 
-pub planes_alike : (F : Format) (p q : List ℕ) → wrong_at F p ≡ Nowhere → wrong_at F q ≡ Nowhere → alike p q ≡ true → AllBytes p → AllBytes q → Alike F p q
+pub planes_alike : (F : Format) (p q : List ℕ) → wrong_at F p ≡ Ok tt → wrong_at F q ≡ Ok tt → alike p q ≡ true → AllBytes p → AllBytes q → Alike F p q
 planes_alike F p q ep eq a bp bq =
     let h = known F p ep in
     let b = both (eqb (buckets1 p) (buckets1 q)) _ a in

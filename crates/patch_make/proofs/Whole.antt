@@ -6,25 +6,20 @@ use native.Mathlib.Omega.{arith}
 use mathlib.Core.Path.{◌≡◌, refl, sym, ap, ◌∙◌}
 use mathlib.Core.Bool.{Bool, not}
 use mathlib.Core.List.{List, [], ◌∷◌, ◌++◌, append_assoc}
-use lib.ListN.{length, set, take, drop, length-append, length-map}
+use lib.ListN.{length, set, take, length-append, length-map}
 use Rattle.codec.specs.Bytes.{to_bytes, eq_list}
 use Rattle.codec.specs.Parts.{written}
-use Rattle.codec.proofs.Part.{length-written, part_same, written-fits, written-append, written_cons}
+use Rattle.codec.proofs.Part.{part_same, written-append, written_cons}
 use Rattle.codec.proofs.Round.{length-to_bytes}
 use Rattle.lists.specs.Lists.{keep, Every}
-use Rattle.lists.specs.Entries.{Entry, find, Ascending}
+use Rattle.lists.specs.Entries.{Entry, find}
 use Rattle.lists.proofs.Tests.{by_test}
 use Rattle.lists.proofs.Every.{every, mem_every}
 use Rattle.hash.specs.Fnv.{fnv_of}
-use Rattle.model.specs.Model.{base_limit}
-use Rattle.table.specs.Layout.{base_numbers, pair_numbers, pairs_from}
-use Rattle.table.proofs.Numbers.{back_pairs, length_pairs, length-pairs_from}
-use Rattle.plane.specs.declared.Wrong.TheVariants.{Nowhere}
 use Rattle.plane.specs.Record.{Format, word_bytes, bytes_of, PlaneBucket, bucket_bytes, end_record, end_length}
-use Rattle.plane.specs.Plane.{Plane, plane_from, wrong_at, bucket_count}
-use Rattle.plane.specs.Fits.{FitsEntry}
+use Rattle.plane.specs.Plane.{Plane, plane_from, bucket_count}
 use Rattle.plane.proofs.Round.{length-bytes}
-use Rattle.plane.proofs.Exact.{AllBytes, buckets_length, read_fits}
+use Rattle.plane.proofs.Exact.{buckets_length}
 use Rattle.patch.specs.Base.{is_there, gone_of, news_of}
 use Rattle.patch.specs.Record.{sums_kind, sums_record, Change, change_length, change_record, gone_length, gone_record, new_record, OwnKind}
 use Rattle.patch.specs.Patch.{patch_bytes, changes_of, buckets_of, between, patch_of}
@@ -41,12 +36,11 @@ keep_less : {A : Type 0} (t : A → Bool) (xs : List A) → length (keep t xs) �
 keep_less t [] = omega arith
 keep_less {A} t (x ∷ xs) = let i = keep_less t xs in by_test (λ (l : List A). length l ≤ length (x ∷ xs)) (t x) (λ y. omega arith) (λ n. omega arith)
 
-pub gone_most : (n : ℕ) (xs : List ℕ) (new : List Entry) → length (bytes_of gone_record (gone_of (pairs_from n xs) new)) ≤ n * gone_length
-gone_most n xs new =
+pub gone_most : (old new : List Entry) → length (bytes_of gone_record (gone_of old new)) ≤ length old * gone_length
+gone_most old new =
     let t : Entry → Bool = λ e. not (is_there (find e.word new)) in
-    let old : List Entry = pairs_from n xs in
     rw (length-bytes gone_record gone_length (gone_of old new) (mem_every _ (gone_of old new) (λ w m. gone_size w)))
-    (omega (arith, length-map (keep t old) (λ (e : Entry). e.word), keep_less t old, length-pairs_from n xs))
+    (omega (arith, length-map (keep t old) (λ (e : Entry). e.word), keep_less t old))
 
 changes_less : (i : ℕ) (bs cs : List PlaneBucket) → length (changes_of i bs cs) ≤ length bs
 changes_less i [] cs = omega arith
@@ -65,32 +59,6 @@ module _ {F : Format} {p q : List ℕ} (own : OwnKind F) (h : Alike F p q) where
       let cs : List Change = changes_of 0 (buckets_of (plane_from F p)) (buckets_of (plane_from F q)) in
       let n : length cs ≤ bucket_count p = rw (buckets_length F p h.old h.old_bytes) at (changes_less 0 (buckets_of (plane_from F p)) (buckets_of (plane_from F q))) in
       rw (length-bytes (change_record F) (change_length F) cs (every (λ c f. (change_back F c f).0) cs sized)) (mul-le-mul_right (change_length F) n)
-
--- ---- the base lists
-
--- the n entries that the numbers xs hold are those of the base list of the plane p
-pub record Loaded (F : Format) (p : List ℕ) (n : ℕ) (xs : List ℕ) : Type 0 where
-  pub is : pairs_from n xs ≡ (plane_from F p).base
-  pub few : n ≤ base_limit
-  pub room : 2 * n ≤ length xs
-  pub ascending : Ascending (pairs_from n xs)
-  pub entries : Every FitsEntry (pairs_from n xs)
-
-pub loaded : (F : Format) (p : List ℕ) (n : ℕ) (xs t : List ℕ) → wrong_at F p ≡ Nowhere → AllBytes p
-    → (n ≡ length (plane_from F p).base) × (xs ≡ written 0 (pair_numbers (plane_from F p).base) t) → base_numbers ≤ length t → Loaded F p n xs
-loaded F p n xs t w b e h =
-    let es : List Entry = (plane_from F p).base in
-    let fits = read_fits F p w b in
-    let l : length es ≤ base_limit = fits.few in
-    let k : pairs_from n xs ≡ es =
-    rw (e.0, e.1, written-fits 0 (pair_numbers es) t (omega (arith, length_pairs es))) (back_pairs es (drop (0 + length (pair_numbers es)) t)) in
-    record {
-      is = k;
-      few = omega arith;
-      room = rw e.1 (rw (length-written 0 (pair_numbers es) t) (omega arith));
-      ascending = rw k fits.ascending;
-      entries = rw k fits.entries;
-    }
 
 -- ---- the parts together
 

@@ -1,9 +1,9 @@
 -- What the inner functions of making answer and leave; only their contracts cite these. F is the format of the planes.
 -- Assumes nothing.
-use Rattle.std.specs.Prelude.{ℕ, Bool, false, cond, ◌&&◌, List, [], ◌∷◌, ◌++◌, eqb}
+use Rattle.std.specs.Prelude.{ℕ, Bool, cond, List, [], ◌∷◌, ◌++◌}
 use Rattle.codec.specs.Bytes.{eq_list}
 use Rattle.lists.specs.Entries.{Entry}
-use Rattle.answer.specs.declared.Answer.TheVariants.{WrongPlane, UnlikePlanes}
+use Rattle.answer.specs.declared.Cause.TheVariants.{WrongPlane, UnlikePlanes}
 use Rattle.plane.specs.Record.{Format, bytes_of}
 use Rattle.plane.specs.Plane.{wrong_at}
 use Rattle.plane_write.specs.Write.{Written, turned_down, put_front}
@@ -19,11 +19,6 @@ unless same p = cond same [] p
 -- for bucket i, whose bytes are a in the old plane and b in the new one
 abbrev pub change_part : Format → ℕ → List ℕ → List ℕ → List ℕ
 change_part F i a b = unless (eq_list a b) (F.change_kind ∷ i ∷ b)
-
--- whether the entry in front has the word w and this plan
-abbrev pub same_first : ℕ → ℕ → List Entry → Bool
-same_first w plan [] = false
-same_first w plan (e ∷ es) = eqb e.word w && eqb e.plan plan
 
 -- kinds 7 and 8, from one base list to another
 abbrev pub base_records : List Entry → List Entry → List ℕ

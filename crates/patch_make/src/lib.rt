@@ -4,28 +4,23 @@
 // the planes of one opening.
 #![tactic(auto)]
 
-ghost use Rattle.std.specs.Prelude.{◌≡◌, true, ◌+◌, ◌*◌, ◌≤◌, ◌<◌, length, drop};
+ghost use Rattle.std.specs.Prelude.{◌≡◌, true, ◌+◌, ◌*◌, ◌≤◌, length};
 ghost use Rattle.codec.specs.Parts.{written};
-ghost use Rattle.lists.specs.Lists.{Every};
-ghost use Rattle.lists.specs.Entries.{plan_limit, Ascending};
+ghost use Rattle.lists.specs.Entries.{Ascending};
 ghost use Rattle.model.specs.Model.{base_limit};
-ghost use Rattle.table.specs.Layout.{pairs_from};
-ghost use Rattle.plane.specs.declared.Wrong.TheVariants.{Nowhere};
 ghost use Rattle.plane.specs.Record.{format1, bytes_of, bucket_body};
-ghost use Rattle.plane.specs.Plane.{plane_from, wrong_at, bucket_count};
-ghost use Rattle.plane.specs.Fits.{FitsEntry};
+ghost use Rattle.plane.specs.Plane.{plane_from, bucket_count};
 ghost use Rattle.plane_write.specs.Write.{Writes};
 ghost use Rattle.patch.specs.Base.{gone_of, news_of};
 ghost use Rattle.patch.specs.Record.{sums_record, change_length, change_record, gone_length, gone_record, new_length, new_record};
 ghost use Rattle.patch.specs.Patch.{patch_bytes, patch_of, changes_of, buckets_of};
 ghost use Rattle.patch.specs.Wrong.{changes_at};
 ghost use Rattle.patch.specs.Calls.{alike, make_call};
-ghost use Rattle.patch_make.specs.Steps.{unless, change_part, same_first, base_records, made_right, made_from};
+ghost use Rattle.patch_make.specs.Steps.{change_part, base_records, made_right, made_from};
 
-use answer::Answer;
-use patch::Patch;
-use plane::{Record, Wrong};
-use table_layout::Table;
+use answer::{Answer, Cause};
+use patch::{Entry, Patch};
+use plane::{Plane, Record};
 
 // Writes the record of bucket i, whose bytes are b, at the offset at, unless those in the old plane, a, are the same. Returns where it ends.
 pub(crate) fn put_change(out: &mut [u8], at: usize, i: u8, a: &[u8], b: &[u8]) -> usize
@@ -41,108 +36,54 @@ pub(crate) fn put_change(out: &mut [u8], at: usize, i: u8, a: &[u8], b: &[u8]) -
     at + Patch::CHANGE_LEN
 }
 
-// Writes a record for each bucket that differs between two right planes of equal bucket numbers, from the offset first on. Returns where they end.
-pub(crate) fn put_changes(out: &mut [u8], first: usize, old: &[u8], new: &[u8]) -> usize
-    requires { (wrong_at format1 old.now ≡ Nowhere) × (wrong_at format1 new.now ≡ Nowhere) × (alike old.now new.now ≡ true) × (first + bucket_count old.now * change_length format1 ≤ length out.old) }
-    ensures { (result ≡ first + length (bytes_of (change_record format1) (changes_of 0 (buckets_of (plane_from format1 old.now)) (buckets_of (plane_from format1 new.now))))) × (out.new ≡ written first (bytes_of (change_record format1) (changes_of 0 (buckets_of (plane_from format1 old.now)) (buckets_of (plane_from format1 new.now)))) out.old) }
+// Writes a record for each bucket that differs between two planes of equal bucket numbers, from the offset first on. Returns where they end.
+pub(crate) fn put_changes(out: &mut [u8], first: usize, old: &Plane, new: &Plane) -> usize
+    requires { (alike old.now.bytes.now new.now.bytes.now ≡ true) × (first + bucket_count old.now.bytes.now * change_length format1 ≤ length out.old) }
+    ensures { (result ≡ first + length (bytes_of (change_record format1) (changes_of 0 (buckets_of (plane_from format1 old.now.bytes.now)) (buckets_of (plane_from format1 new.now.bytes.now))))) × (out.new ≡ written first (bytes_of (change_record format1) (changes_of 0 (buckets_of (plane_from format1 old.now.bytes.now)) (buckets_of (plane_from format1 new.now.bytes.now)))) out.old) }
 {
-    let buckets = (old[Record::BUCKETS_1_AT] as usize) + (old[Record::BUCKETS_2_AT] as usize);
     let mut at = first;
-    let mut i = 0;
-    while i < buckets {
+    for i in 0..old.buckets() {
         let from = Record::BUCKETS_AT + i * Record::BUCKET_LEN + 1;
         let to = from + Record::BUCKET_BODY;
-        at = put_change(out, at, i as u8, &old[from..to], &new[from..to]);
-        i += 1;
+        at = put_change(out, at, i as u8, &old.bytes[from..to], &new.bytes[from..to]);
     }
     at
 }
 
-// Writes the record of the word w, at the offset at, unless it is kept. Returns where it ends.
-pub(crate) fn put_word(out: &mut [u8], at: usize, w: u64, kept: bool) -> usize
-    requires { at + gone_length ≤ length out.old }
-    ensures { (result ≡ at + length (unless kept (gone_record w))) × (out.new ≡ written at (unless kept (gone_record w)) out.old) }
-{
-    if kept {
-        return at;
-    }
-    out[at] = Patch::GONE;
-    codec::put_u64(out, at + 1, w);
-    at + Patch::GONE_LEN
-}
-
-// Writes a record for each word of the n entries of `old` that the m entries of `new` lack, from the offset first on. Returns where they end.
-pub(crate) fn put_gone(
-    out: &mut [u8],
-    first: usize,
-    old: &[u64],
-    n: usize,
-    new: &[u64],
-    m: usize,
-) -> usize
-    requires { (2 * n ≤ length old.now) × (2 * m ≤ length new.now) × Ascending (pairs_from n old.now) × Ascending (pairs_from m new.now) × (first + n * gone_length ≤ length out.old) }
-    ensures { (result ≡ first + length (bytes_of gone_record (gone_of (pairs_from n old.now) (pairs_from m new.now)))) × (out.new ≡ written first (bytes_of gone_record (gone_of (pairs_from n old.now) (pairs_from m new.now))) out.old) }
+// Writes a record for each word of the base list `old` that `new` lacks, from the offset first on. Returns where they end.
+// Beside `put_news`: which entries are sent, and what of each, differ, so that one function for both would take two closures.
+pub(crate) fn put_gone(out: &mut [u8], first: usize, old: &[Entry], new: &[Entry]) -> usize
+    requires { Ascending old.now × Ascending new.now × (first + length old.now * gone_length ≤ length out.old) }
+    ensures { (result ≡ first + length (bytes_of gone_record (gone_of old.now new.now))) × (out.new ≡ written first (bytes_of gone_record (gone_of old.now new.now)) out.old) }
 {
     let mut at = first;
-    let mut i = 0;
-    let mut j = 0;
-    while i < n {
-        let w = old[2 * i];
-        j = patch::seek(new, m, j, w);
-        at = put_word(out, at, w, patch::is_at(new, m, j, w));
-        i += 1;
+    let mut left = new;
+    for e in old {
+        let place = patch::seek(left, e.word);
+        if place.plan.is_none() {
+            out[at] = Patch::GONE;
+            codec::put_u64(out, at + 1, e.word);
+            at += Patch::GONE_LEN;
+        }
+        left = place.above;
     }
     at
 }
 
-// The entry of the word w and this plan stands at entry i of `count`.
-pub(crate) fn is_same(pairs: &[u64], count: usize, i: usize, w: u64, plan: u64) -> bool
-    requires { 2 * count ≤ length pairs.now }
-    ensures { result ≡ same_first w plan (drop i (pairs_from count pairs.now)) }
-{
-    if patch::is_at(pairs, count, i, w) {
-        let there = pairs[2 * i + 1];
-        return there == plan;
-    }
-    false
-}
-
-// Writes the record of the entry of the word w and this plan, at the offset at, unless it is the same as before. Returns where it ends.
-pub(crate) fn put_new(out: &mut [u8], at: usize, w: u64, plan: u64, same: bool) -> usize
-    requires { (plan < plan_limit) × (at + new_length ≤ length out.old) }
-    ensures { (result ≡ at + length (unless same (new_record (record { word = w; plan = plan })))) × (out.new ≡ written at (unless same (new_record (record { word = w; plan = plan }))) out.old) }
-{
-    if same {
-        return at;
-    }
-    out[at] = Patch::NEW;
-    codec::put_u64(out, at + 1, w);
-    out[at + Record::PLAN_AT] = plan as u8;
-    at + Patch::NEW_LEN
-}
-
-// Writes a record for each of the m entries of `new` that the n entries of `old` lack, from the offset first on. Returns where they end.
-pub(crate) fn put_news(
-    out: &mut [u8],
-    first: usize,
-    old: &[u64],
-    n: usize,
-    new: &[u64],
-    m: usize,
-) -> usize
-    requires n_in_bounds { (2 * n ≤ length old.now) × (2 * m ≤ length new.now) × Ascending (pairs_from n old.now) × Ascending (pairs_from m new.now) × (first + m * new_length ≤ length out.old) }
-    requires plans { Every FitsEntry (pairs_from m new.now) }
-    ensures { (result ≡ first + length (bytes_of new_record (news_of (pairs_from n old.now) (pairs_from m new.now)))) × (out.new ≡ written first (bytes_of new_record (news_of (pairs_from n old.now) (pairs_from m new.now))) out.old) }
+// Writes a record for each entry of the base list `new` that `old` lacks, from the offset first on. Returns where they end.
+pub(crate) fn put_news(out: &mut [u8], first: usize, old: &[Entry], new: &[Entry]) -> usize
+    requires { Ascending old.now × Ascending new.now × (first + length new.now * new_length ≤ length out.old) }
+    ensures { (result ≡ first + length (bytes_of new_record (news_of old.now new.now))) × (out.new ≡ written first (bytes_of new_record (news_of old.now new.now)) out.old) }
 {
     let mut at = first;
-    let mut i = 0;
-    let mut j = 0;
-    while i < m {
-        let w = new[2 * i];
-        let plan = new[2 * i + 1];
-        j = patch::seek(old, n, j, w);
-        at = put_new(out, at, w, plan, is_same(old, n, j, w, plan));
-        i += 1;
+    let mut left = old;
+    for e in new {
+        let place = patch::seek(left, e.word);
+        if place.plan != Some(e.plan) {
+            e.put(out, at, Patch::NEW);
+            at += Patch::NEW_LEN;
+        }
+        left = place.above;
     }
     at
 }
@@ -157,42 +98,39 @@ pub(crate) fn put_sums(out: &mut [u8], old: u64, new: u64)
     codec::put_u64(out, Patch::NEW_SUM_AT, new);
 }
 
-// Writes the records of the base lists of two right planes, from the offset first on. Returns where they end.
-pub(crate) fn put_base(out: &mut [u8], first: usize, old: &[u8], new: &[u8]) -> usize
-    requires { (wrong_at format1 old.now ≡ Nowhere) × (wrong_at format1 new.now ≡ Nowhere) × (first + base_limit * (gone_length + new_length) ≤ length out.old) }
-    ensures { (result ≡ first + length (base_records (plane_from format1 old.now).base (plane_from format1 new.now).base)) × (out.new ≡ written first (base_records (plane_from format1 old.now).base (plane_from format1 new.now).base) out.old) }
+// Writes the records of the base lists of two planes, from the offset first on. Returns where they end.
+pub(crate) fn put_base(out: &mut [u8], first: usize, old: &Plane, new: &Plane) -> usize
+    requires { first + base_limit * (gone_length + new_length) ≤ length out.old }
+    ensures { (result ≡ first + length (base_records (plane_from format1 old.now.bytes.now).base (plane_from format1 new.now.bytes.now).base)) × (out.new ≡ written first (base_records (plane_from format1 old.now.bytes.now).base (plane_from format1 new.now.bytes.now).base) out.old) }
 {
-    let mut before = [0u64; Table::BASE_NUMBERS];
-    let mut after = [0u64; Table::BASE_NUMBERS];
-    let n = patch::load_base(old, &mut before);
-    let m = patch::load_base(new, &mut after);
-    let news_at = put_gone(out, first, &before, n, &after, m);
-    put_news(out, news_at, &before, n, &after, m)
+    let before = patch::load_base(old);
+    let after = patch::load_base(new);
+    let news_at = put_gone(out, first, before.entries(), after.entries());
+    put_news(out, news_at, before.entries(), after.entries())
 }
 
-// The patch from one right plane to another of equal bucket numbers, to the front of the output, which has room for the longest. Returns its length.
-pub(crate) fn build(old: &[u8], new: &[u8], out: &mut [u8]) -> usize
-    requires value { (wrong_at format1 old.now ≡ Nowhere) × (wrong_at format1 new.now ≡ Nowhere) × (alike old.now new.now ≡ true) }
+// The patch from one plane to another of equal bucket numbers, to the front of the output, which has room for the longest. Returns its length.
+pub(crate) fn build(old: &Plane, new: &Plane, out: &mut [u8]) -> usize
+    requires value { alike old.now.bytes.now new.now.bytes.now ≡ true }
     requires room { Patch.LONGEST ≤ length out.old }
-    ensures { (result ≡ length (patch_bytes format1 (patch_of format1 old.now new.now))) × (out.new ≡ written 0 (patch_bytes format1 (patch_of format1 old.now new.now)) out.old) }
+    ensures { (result ≡ length (patch_bytes format1 (patch_of format1 old.now.bytes.now new.now.bytes.now))) × (out.new ≡ written 0 (patch_bytes format1 (patch_of format1 old.now.bytes.now new.now.bytes.now)) out.old) }
 {
-    put_sums(out, hash::fnv(old), hash::fnv(new));
+    put_sums(out, hash::fnv(old.bytes), hash::fnv(new.bytes));
     let base_at = put_changes(out, Patch::CHANGES_AT, old, new);
     let end_at = put_base(out, base_at, old, new);
     plane_write::put_end(out, end_at);
     end_at + Record::END_LEN
 }
 
-// From two right planes on: causes 11 and 9.
-pub(crate) fn make_right(old: &[u8], new: &[u8], out: &mut [u8]) -> Answer
-    requires { (wrong_at format1 old.now ≡ Nowhere) × (wrong_at format1 new.now ≡ Nowhere) }
-    ensures { Writes (made_right format1 old.now new.now out.old) result out.new }
+// From two planes on: causes 11 and 9.
+pub(crate) fn make_right(old: &Plane, new: &Plane, out: &mut [u8]) -> Answer
+    ensures { Writes (made_right format1 old.now.bytes.now new.now.bytes.now out.old) result out.new }
 {
-    if old[Record::BUCKETS_1_AT] != new[Record::BUCKETS_1_AT] {
-        return Answer::UnlikePlanes;
+    if old.bytes[Record::BUCKETS_1_AT] != new.bytes[Record::BUCKETS_1_AT] {
+        return Err(Cause::UnlikePlanes);
     }
-    if old[Record::BUCKETS_2_AT] != new[Record::BUCKETS_2_AT] {
-        return Answer::UnlikePlanes;
+    if old.bytes[Record::BUCKETS_2_AT] != new.bytes[Record::BUCKETS_2_AT] {
+        return Err(Cause::UnlikePlanes);
     }
     let mut made = [0u8; Patch::LONGEST];
     let len = build(old, new, &mut made);
@@ -200,14 +138,12 @@ pub(crate) fn make_right(old: &[u8], new: &[u8], out: &mut [u8]) -> Answer
 }
 
 // The new plane is looked at after the old one: causes 10, 11, 9.
-pub(crate) fn make_from(old: &[u8], new: &[u8], out: &mut [u8]) -> Answer
-    requires { wrong_at format1 old.now ≡ Nowhere }
-    ensures { Writes (made_from format1 old.now new.now out.old) result out.new }
+pub(crate) fn make_from(old: &Plane, new: &[u8], out: &mut [u8]) -> Answer
+    ensures { Writes (made_from format1 old.now.bytes.now new.now out.old) result out.new }
 {
-    let wrong = plane::wrong_at(new);
-    match wrong {
-        Wrong::At(at) => Answer::WrongPlane(at as u64),
-        Wrong::Nowhere => make_right(old, new, out),
+    match Plane::read(new) {
+        Err(at) => Err(Cause::WrongPlane(at as u64)),
+        Ok(new) => make_right(old, &new, out),
     }
 }
 
@@ -215,9 +151,8 @@ pub(crate) fn make_from(old: &[u8], new: &[u8], out: &mut [u8]) -> Answer
 pub fn make(old: &[u8], new: &[u8], out: &mut [u8]) -> Answer
     ensures { Writes (make_call old.now new.now out.old) result out.new }
 {
-    let wrong = plane::wrong_at(old);
-    match wrong {
-        Wrong::At(at) => Answer::WrongPlane(at as u64),
-        Wrong::Nowhere => make_from(old, new, out),
+    match Plane::read(old) {
+        Err(at) => Err(Cause::WrongPlane(at as u64)),
+        Ok(old) => make_from(&old, new, out),
     }
 }

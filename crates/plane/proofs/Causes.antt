@@ -6,15 +6,13 @@ use mathlib.Core.Logic.{inl, inr, ◌↔◌}
 use mathlib.Core.List.{List, [], ◌∷◌}
 use lib.Dec.{eqb, lit<}
 use borrow.Author.Tests.{eqb-false}
-use Rattle.answer.specs.declared.Answer.{Answer}
-use Rattle.answer.specs.Numbers.{number_of, value_of}
+use Rattle.std.specs.Prelude.{Result, Ok, Err}
+use Rattle.answer.specs.Numbers.{Answer, number_of, value_of}
 use Rattle.answer.specs.Causes.{InOrder, Apart, Exactly}
 use Rattle.answer.proofs.Causes.{One, one_value, Given, exactly, test_apart}
 use Rattle.identifier.specs.Identifier.{Token, word_of, read_of}
-use Rattle.identifier.specs.Causes.{wrong_length, wrong_byte, word_answer}
+use Rattle.identifier.specs.Causes.{wrong_length, wrong_byte}
 use Rattle.identifier.proofs.Causes.{OfIdentifier, of_identifier, by_reading, one_identifier, identifier_given}
-use Rattle.plane.specs.declared.Wrong.{Wrong}
-use Rattle.plane.specs.declared.Wrong.TheVariants.{Nowhere, At}
 use Rattle.plane.specs.Record.{Format, format1}
 use Rattle.plane.specs.Plane.{plane_from, wrong_at}
 use Rattle.plane.specs.Lookup.{plan_from, looked, lookup_read, lookup_call}
@@ -37,22 +35,22 @@ lookup_apart id p = test_apart (lookup_causes id p) refl
 module _ (id : Token) (p : List ℕ) where
   -- the lookup gives a cause of the identifier exactly if reading that gives it
   pub as_read : (n v : ℕ) → OfIdentifier n
-      → ((number_of (lookup_call id p) ≡ n) × (value_of (lookup_call id p) ≡ v)) ↔ ((number_of (word_answer (read_of id)) ≡ n) × (value_of (word_answer (read_of id)) ≡ v))
+      → ((number_of (lookup_call id p) ≡ n) × (value_of (lookup_call id p) ≡ v)) ↔ ((number_of (read_of id) ≡ n) × (value_of (read_of id) ≡ v))
   unfolding lookup_call
   as_read n v o =
-      by_reading id (λ r. ((number_of (lookup_read p r) ≡ n) × (value_of (lookup_read p r) ≡ v)) ↔ ((number_of (word_answer r) ≡ n) × (value_of (word_answer r) ≡ v))) (λ a k. (λ e. e, λ e. e))
+      by_reading id (λ r. ((number_of (lookup_read p r) ≡ n) × (value_of (lookup_read p r) ≡ v)) ↔ ((number_of r ≡ n) × (value_of r ≡ v))) (λ a k. (λ e. e, λ e. e))
       (λ e. absurd (other (wrong_at format1 p) e.0), λ e. absurd (zero e.0))
     where
       zero : 0 ≡ n → ⊥
       zero = eqb-false 0 n (of_identifier (eqb 0) n refl refl refl o)
 
-      other : (x : Wrong) → number_of (looked p (word_of id) x) ≡ n → ⊥
-      other Nowhere = zero
-      other (At at) = eqb-false 10 n (of_identifier (eqb 10) n refl refl refl o)
+      other : (x : Result (Unit {0}) ℕ) → number_of (looked p (word_of id) x) ≡ n → ⊥
+      other (Ok u) = zero
+      other (Err at) = eqb-false 10 n (of_identifier (eqb 10) n refl refl refl o)
 
-  looked_given : (x : Wrong) → wrong_at format1 p ≡ x → Given (wrong_plane format1 p ∷ []) (lookup_returns id p) (looked p (word_of id) x)
-  looked_given Nowhere e = inr (λ at w. at_nowhere (sym ((offset_exactly format1 p at).1 w) ∙ e), (refl, refl))
-  looked_given (At at) e = inl (refl, (offset_exactly format1 p at).0 e)
+  looked_given : (x : Result (Unit {0}) ℕ) → wrong_at format1 p ≡ x → Given (wrong_plane format1 p ∷ []) (lookup_returns id p) (looked p (word_of id) x)
+  looked_given (Ok u) e = inr (λ at w. at_nowhere (sym ((offset_exactly format1 p at).1 w) ∙ e), (refl, refl))
+  looked_given (Err at) e = inl (refl, (offset_exactly format1 p at).0 e)
 
   pub lookup_exactly : Exactly (lookup_causes id p) (lookup_returns id p) (lookup_call id p)
   unfolding lookup_call

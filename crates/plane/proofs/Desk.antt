@@ -6,15 +6,13 @@ use mathlib.Core.Bool.{true, false}
 use mathlib.Core.List.{List, [], ◌∷◌}
 use mathlib.Core.Option.{Option, none, some}
 use lib.Dec.{eqb}
+use Rattle.std.specs.Prelude.{Ok}
 use Rattle.lists.specs.Lists.{Every}
 use Rattle.lists.specs.Entries.{Entry, desk_plan, assignable, find}
 use Rattle.lists.proofs.Tests.{by_test}
 use Rattle.lists.proofs.Entries.{none≢some}
-use Rattle.answer.specs.declared.Answer.TheVariants.{Accepted}
 use Rattle.identifier.specs.Identifier.{Token, read_of}
 use Rattle.identifier.specs.Place.{second_of}
-use Rattle.identifier.specs.declared.Read.TheVariants.{Word}
-use Rattle.plane.specs.declared.Wrong.TheVariants.{Nowhere}
 use Rattle.plane.specs.Record.{Format, format1}
 use Rattle.plane.specs.Plane.{Plane, wrong_at, plane_from}
 use Rattle.plane.specs.Lookup.{holds, level_plan, second_plan, plan_from, lookup_call}
@@ -27,11 +25,11 @@ unfolding plan_from second_plan level_plan
 stranger_desk P w a b c = rw (a, b, c)
 
 -- the same of the call, for bytes that are wrong nowhere
-pub stranger_answer : (id : Token) (p : List ℕ) (w : ℕ) → wrong_at format1 p ≡ Nowhere → read_of id ≡ Word w
+pub stranger_answer : (id : Token) (p : List ℕ) (w : ℕ) → wrong_at format1 p ≡ Ok tt → read_of id ≡ Ok w
     → holds (plane_from format1 p).level1 w ≡ false → holds (plane_from format1 p).level2 (second_of w) ≡ false → find (second_of w) (plane_from format1 p).base ≡ none
-    → lookup_call id p ≡ Accepted desk_plan
+    → lookup_call id p ≡ Ok desk_plan
 unfolding lookup_call
-stranger_answer id p w n r a b c = rw (r, n) (ap Accepted (stranger_desk (plane_from format1 p) w a b c))
+stranger_answer id p w n r a b c = rw (r, n) (ap Ok (stranger_desk (plane_from format1 p) w a b c))
 
 -- what is found in entries that fit
 found-assignable : (v q : ℕ) (es : List Entry) → Every FitsEntry es → find v es ≡ some q → assignable q ≡ true

@@ -10,6 +10,7 @@ use borrow.Author.Tests.{leb-true, eqb-true}
 use lib.Dec.{leb, eqb}
 use lib.ListN.{length, get_or, take, drop, length-append, length-drop, take-append-drop}
 use lib.Seq.{drop-cons, drop-drop, get_or-take, get_or-drop, length-take-le, take_all, take_at}
+use Rattle.std.specs.Prelude.{Ok}
 use Rattle.lists.specs.Entries.{Entry, Above, Ascending}
 use Rattle.lists.proofs.Parts.{drop_more}
 use Rattle.lists.specs.Lists.{Every}
@@ -19,7 +20,6 @@ use Rattle.codec.proofs.Round.{Bytes, to_from, from_bytes_lt}
 use Rattle.bucket.specs.Bucket.{largest_bound}
 use Rattle.model.specs.Model.{base_limit}
 use Rattle.table.specs.Layout.{in_range}
-use Rattle.plane.specs.declared.Wrong.TheVariants.{Nowhere}
 use Rattle.plane.specs.Record.{Format, bucket_bytes, entry_bytes, end_length, Kind, size_of, record_of, bucket_records, entry_records, bytes_of, read_all, word_bytes, word_from, header_kind, header_body, header_record, bucket_body, bucket_record, bucket_from, entry_body, entry_record, entry_from, end_kind, end_body, end_bytes, end_record, bucket_length, entry_length}
 use Rattle.plane.specs.Plane.{end_fits, fits, wrong_in, all_allowed, bound_allowed, entry_allowed, exceeding, buckets1, buckets2, bucket_count, base_count, plane_bytes, plane_from, buckets_at, whole, buckets_wrong, entries_wrong, wrong_at}
 use Rattle.plane.specs.Fits.{Below, FitsBucket, FitsEntry, Fits}
@@ -129,7 +129,7 @@ module _ {A S : Type 0} (k : Kind A) (allowed : S → A → Bool) (s : S) (p : L
 
 module _ {A S : Type 0} (k : Kind A) (allowed : S → A → Bool) (next : S → A → S) where
   -- their values are allowed
-  pub scan-allowed : (s : S) (m at : ℕ) (p : List ℕ) → wrong_in k allowed next s m at p ≡ Nowhere → all_allowed allowed next s (read_all (size_of k) k.read m p) ≡ true
+  pub scan-allowed : (s : S) (m at : ℕ) (p : List ℕ) → wrong_in k allowed next s m at p ≡ Ok tt → all_allowed allowed next s (read_all (size_of k) k.read m p) ≡ true
   unfolding read_all
   scan-allowed s zero at p e = refl
   scan-allowed s (suc m) at p e =
@@ -138,7 +138,7 @@ module _ {A S : Type 0} (k : Kind A) (allowed : S → A → Bool) (next : S → 
 
   -- the bytes are those of the values
   pub scan-bytes : ((s : S) (p : List ℕ) → fits k allowed s p ≡ true → AllBytes p → record_of k (k.read p) ++ drop (size_of k) p ≡ p)
-      → (s : S) (m at : ℕ) (p : List ℕ) → wrong_in k allowed next s m at p ≡ Nowhere → AllBytes p
+      → (s : S) (m at : ℕ) (p : List ℕ) → wrong_in k allowed next s m at p ≡ Ok tt → AllBytes p
       → bytes_of (record_of k) (read_all (size_of k) k.read m p) ++ drop (m * size_of k) p ≡ p
   scan-bytes one s zero at p e b = bytes_none (record_of k) (size_of k) k.read p
   scan-bytes one s (suc m) at p e b =
@@ -148,31 +148,31 @@ module _ {A S : Type 0} (k : Kind A) (allowed : S → A → Bool) (next : S → 
 
   -- which fit
   pub scan_fit : (F : A → Type 0) → ((s : S) (p : List ℕ) → fits k allowed s p ≡ true → AllBytes p → F (k.read p))
-      → (s : S) (m at : ℕ) (p : List ℕ) → wrong_in k allowed next s m at p ≡ Nowhere → AllBytes p → Every F (read_all (size_of k) k.read m p)
+      → (s : S) (m at : ℕ) (p : List ℕ) → wrong_in k allowed next s m at p ≡ Ok tt → AllBytes p → Every F (read_all (size_of k) k.read m p)
   unfolding read_all
   scan_fit F one s zero at p e b = tt
   scan_fit F one s (suc m) at p e b =
       let f = right (fits k allowed s p) _ at e in
       (one s p f.0 b, scan_fit F one (next s (k.read p)) m (at + size_of k) (drop (size_of k) p) f.1 (bytes_drop (size_of k) p b))
 
-buckets_bytes : (F : Format) (m at : ℕ) (p : List ℕ) → buckets_wrong F m at p ≡ Nowhere → AllBytes p
+buckets_bytes : (F : Format) (m at : ℕ) (p : List ℕ) → buckets_wrong F m at p ≡ Ok tt → AllBytes p
     → bytes_of (bucket_record F) (read_all (bucket_length F) (bucket_from F) m p) ++ drop (m * bucket_length F) p ≡ p
 unfolding buckets_wrong
 buckets_bytes F = scan-bytes (bucket_records F) bound_allowed (λ s b. s)
     (λ s p e b. fits-bytes (bucket_records F) bound_allowed s p e (bucket-body F p (fits-there (bucket_records F) bound_allowed s p e) b)) tt
 
-buckets_fit : (F : Format) (m at : ℕ) (p : List ℕ) → buckets_wrong F m at p ≡ Nowhere → AllBytes p → Every (FitsBucket F) (read_all (bucket_length F) (bucket_from F) m p)
+buckets_fit : (F : Format) (m at : ℕ) (p : List ℕ) → buckets_wrong F m at p ≡ Ok tt → AllBytes p → Every (FitsBucket F) (read_all (bucket_length F) (bucket_from F) m p)
 unfolding buckets_wrong
 buckets_fit F = scan_fit (bucket_records F) bound_allowed (λ s b. s) (FitsBucket F)
     (λ s p e b. bucket_fit F p (fits-there (bucket_records F) bound_allowed s p e) b (fits-allowed (bucket_records F) bound_allowed s p e)) tt
 
-entries_bytes : (least k at : ℕ) (p : List ℕ) → entries_wrong least k at p ≡ Nowhere → AllBytes p
+entries_bytes : (least k at : ℕ) (p : List ℕ) → entries_wrong least k at p ≡ Ok tt → AllBytes p
     → bytes_of entry_record (read_all entry_length entry_from k p) ++ drop (k * entry_length) p ≡ p
 unfolding entries_wrong
 entries_bytes =
     scan-bytes entry_records entry_allowed exceeding (λ s p e b. fits-bytes entry_records entry_allowed s p e (entry-body p (fits-there entry_records entry_allowed s p e) b))
 
-entries_fit : (least k at : ℕ) (p : List ℕ) → entries_wrong least k at p ≡ Nowhere → AllBytes p → Every FitsEntry (read_all entry_length entry_from k p)
+entries_fit : (least k at : ℕ) (p : List ℕ) → entries_wrong least k at p ≡ Ok tt → AllBytes p → Every FitsEntry (read_all entry_length entry_from k p)
 unfolding entries_wrong
 entries_fit = scan_fit entry_records entry_allowed exceeding FitsEntry
     (λ s p e b. entry_fit p (fits-there entry_records entry_allowed s p e) b s (fits-allowed entry_records entry_allowed s p e))
@@ -200,7 +200,7 @@ end-bytes q e n =
 
 -- ---- the plane
 
-module _ (F : Format) (p : List ℕ) (e : wrong_at F p ≡ Nowhere) (b : AllBytes p) where
+module _ (F : Format) (p : List ℕ) (e : wrong_at F p ≡ Ok tt) (b : AllBytes p) where
   abbrev s : ℕ
   s = bucket_length F
 

@@ -12,14 +12,14 @@ use borrow.Author.Tests.{leb-true, leb-false, lt-leb, eqb-false, ne_eqb, eq-eqb}
 use lib.Dec.{leb, eqb, leb-zero}
 use lib.ListN.{length, get_or, drop, length-drop}
 use lib.Seq.{get_or-drop, drop-drop}
+use Rattle.std.specs.Prelude.{Result, Ok, Err}
+use Rattle.std.specs.Result.{result_and}
 use Rattle.lists.specs.Lists.{count_from}
 use Rattle.lists.specs.Entries.{assignable}
 use Rattle.lists.proofs.Tests.{by_test, cases}
 use Rattle.table.proofs.Causes.{and_fails}
-use Rattle.plane.specs.declared.Wrong.{Wrong}
-use Rattle.plane.specs.declared.Wrong.TheVariants.{Nowhere, At}
 use Rattle.plane.specs.Record.{Format, Kind, size_of, bucket_records, entry_kind, entry_body, entry_from, entry_records, end_kind, end_body, end_length}
-use Rattle.plane.specs.Plane.{whole, fits, wrong_in, or_next, bucket_count, base_count, buckets_at, entries_at, end_at, plane_length, bound_allowed, entry_allowed, exceeding, header_fits, buckets_wrong, entries_wrong, end_fits, end_wrong, wrong_at}
+use Rattle.plane.specs.Plane.{whole, fits, wrong_in, bucket_count, base_count, buckets_at, entries_at, end_at, plane_length, bound_allowed, entry_allowed, exceeding, header_fits, buckets_wrong, entries_wrong, end_fits, end_wrong, wrong_at}
 use Rattle.plane.specs.Offset.{Expected, WrongRecord, FirstWrong, NoneWrong, expected_bucket, entry_at, entry_word, expected_entry, expected_end, expected, WrongOffset, RightPlane}
 use Rattle.plane.proofs.Scan.{both, at_nowhere, whole_length}
 
@@ -53,42 +53,42 @@ module _ (p : List ℕ) (d : Expected) where
 -- ---- the first of some records that is wrong
 
 -- as the tests find it; o is what is found after them
-abbrev pub found : List ℕ → List Expected → Wrong → Wrong
+abbrev pub found : List ℕ → List Expected → Result (Unit {0}) ℕ → Result (Unit {0}) ℕ
 found p [] o = o
-found p (d ∷ ds) o = cond (right_test p d) (found p ds o) (At d.at)
+found p (d ∷ ds) o = cond (right_test p d) (found p ds o) (Err d.at)
 
 -- bytes after the offset end
-abbrev pub more : List ℕ → ℕ → Wrong
-more p end = cond (leb (length p) end) Nowhere (At end)
+abbrev pub more : List ℕ → ℕ → Result (Unit {0}) ℕ
+more p end = cond (leb (length p) end) (Ok tt) (Err end)
 
-pub found-append : (p : List ℕ) (ds es : List Expected) (o : Wrong) → found p (ds ++ es) o ≡ found p ds (found p es o)
+pub found-append : (p : List ℕ) (ds es : List Expected) (o : Result (Unit {0}) ℕ) → found p (ds ++ es) o ≡ found p ds (found p es o)
 found-append p [] es o = refl
-found-append p (d ∷ ds) es o = ap (λ (x : Wrong). cond (right_test p d) x (At d.at)) (found-append p ds es o)
+found-append p (d ∷ ds) es o = ap (λ (x : Result (Unit {0}) ℕ). cond (right_test p d) x (Err d.at)) (found-append p ds es o)
 
-pub at_one : {i j : ℕ} → At i ≡ At j → i ≡ j
+pub at_one : {i j : ℕ} → ◌≡◌ {A = Result (Unit {0}) ℕ} (Err i) (Err j) → i ≡ j
 at_one e = cc
 
 -- it is the first that is wrong
 module _ (p : List ℕ) (end at : ℕ) where
-  pub found_exactly : (ds : List Expected) → (found p ds (more p end) ≡ At at) ↔ FirstWrong p ds end at
+  pub found_exactly : (ds : List Expected) → (found p ds (more p end) ≡ Err at) ↔ FirstWrong p ds end at
   found_exactly [] =
-      by_test (λ (x : Wrong). (x ≡ At at) ↔ FirstWrong p [] end at) (leb (length p) end)
+      by_test (λ (x : Result (Unit {0}) ℕ). (x ≡ Err at) ↔ FirstWrong p [] end at) (leb (length p) end)
       (λ e. (λ f. absurd (at_nowhere (sym f)), λ h. absurd (omega (arith, leb-true (length p) end e))))
-      (λ e. (λ f. (leb-false (length p) end e, sym (at_one f)), λ h. ap At (sym h.1)))
+      (λ e. (λ f. (leb-false (length p) end e, sym (at_one f)), λ h. ap Err (sym h.1)))
   found_exactly (d ∷ ds) =
       let i = found_exactly ds in
-      by_test (λ (x : Wrong). (x ≡ At at) ↔ FirstWrong p (d ∷ ds) end at) (right_test p d)
+      by_test (λ (x : Result (Unit {0}) ℕ). (x ≡ Err at) ↔ FirstWrong p (d ∷ ds) end at) (right_test p d)
       (λ e. (λ f. inr (right_record p d e, i.0 f), ⊎_elim (λ w. absurd (right_record p d e w.0)) (λ r. i.1 r.1)))
-      (λ e. (λ f. inl ((wrong_record p d).0 e, sym (at_one f)), ⊎_elim (λ w. ap At (sym w.1)) (λ r. absurd (r.0 ((wrong_record p d).0 e)))))
+      (λ e. (λ f. inl ((wrong_record p d).0 e, sym (at_one f)), ⊎_elim (λ w. ap Err (sym w.1)) (λ r. absurd (r.0 ((wrong_record p d).0 e)))))
 
 -- nothing is found exactly if none is wrong
-pub found_nowhere : (p : List ℕ) (end : ℕ) (ds : List Expected) → (found p ds (more p end) ≡ Nowhere) ↔ NoneWrong p ds end
+pub found_nowhere : (p : List ℕ) (end : ℕ) (ds : List Expected) → (found p ds (more p end) ≡ Ok tt) ↔ NoneWrong p ds end
 found_nowhere p end [] =
-    by_test (λ (x : Wrong). (x ≡ Nowhere) ↔ NoneWrong p [] end) (leb (length p) end)
+    by_test (λ (x : Result (Unit {0}) ℕ). (x ≡ Ok tt) ↔ NoneWrong p [] end) (leb (length p) end)
     (λ e. (λ f l. omega (arith, leb-true (length p) end e), λ h. refl))
     (λ e. (λ f. absurd (at_nowhere f), λ h. absurd (h (leb-false (length p) end e))))
 found_nowhere p end (d ∷ ds) =
-    by_test (λ (x : Wrong). (x ≡ Nowhere) ↔ NoneWrong p (d ∷ ds) end) (right_test p d)
+    by_test (λ (x : Result (Unit {0}) ℕ). (x ≡ Ok tt) ↔ NoneWrong p (d ∷ ds) end) (right_test p d)
     (λ e. (λ f. (right_record p d e, (found_nowhere p end ds).0 f), λ n. (found_nowhere p end ds).1 n.1))
     (λ e. (λ f. absurd (at_nowhere f), λ n. absurd (n.0 ((wrong_record p d).0 e))))
 
@@ -105,16 +105,16 @@ module _ {A S : Type 0} (k : Kind A) (allowed : S → A → Bool) (next : S → 
   abbrev pub expected_at : ℕ → Expected
   expected_at i = record { at = place_of i; kind = k.number; body = k.body; allowed = allowed (left_by i) (k.read (drop (place_of i) p)) }
 
-  module _ (f : ℕ → Expected) (same : (i : ℕ) → expected_at i ≡ f i) (o : Wrong) where
+  module _ (f : ℕ → Expected) (same : (i : ℕ) → expected_at i ≡ f i) (o : Result (Unit {0}) ℕ) where
     -- m records from record i on, then the others
-    from_found : (i m : ℕ) → or_next (wrong_in k allowed next (left_by i) m (place_of i) (drop (place_of i) p)) o ≡ found p (map f (count_from i m)) o
+    from_found : (i m : ℕ) → result_and (wrong_in k allowed next (left_by i) m (place_of i) (drop (place_of i) p)) o ≡ found p (map f (count_from i m)) o
     from_found i zero = refl
     from_found i (suc m) =
         let there : place_of i + size_of k ≡ place_of (suc i) = rw (suc-mul i (size_of k)) (omega arith) in
         rw (← same i)
         (cases (fits k allowed (left_by i) (drop (place_of i) p)) (λ t. rw (t, drop-drop (size_of k) (place_of i) p, there) (from_found (suc i) m)) (λ t. rw t))
 
-    pub scan-found : (m : ℕ) → or_next (wrong_in k allowed next s m first (drop first p)) o ≡ found p (map f (count_from 0 m)) o
+    pub scan-found : (m : ℕ) → result_and (wrong_in k allowed next s m first (drop first p)) o ≡ found p (map f (count_from 0 m)) o
     scan-found m =
         let start : place_of 0 ≡ first = rw (zero-mul (size_of k)) (omega arith) in
         rw start at (from_found 0 m)
@@ -153,14 +153,14 @@ module _ (F : Format) (p : List ℕ) where
       let bs : List Expected = map (expected_bucket F p) (count_from 0 m) in
       let es : List Expected = map (expected_entry F p) (count_from 0 k) in
       let end : List Expected = expected_end (end_at F m k) p ∷ [] in
-      let o : Wrong = more p (plane_length F m k) in
-      ap (λ (x : Wrong). cond (header_fits F p) x (At 0))
+      let o : Result (Unit {0}) ℕ = more p (plane_length F m k) in
+      ap (λ (x : Result (Unit {0}) ℕ). cond (header_fits F p) x (Err 0))
       (rw (end-found (end_at F m k) p, scan-found entry_records entry_allowed exceeding 0 (entries_at F m) p (expected_entry F p) entry-same (found p end o) k, found-append p bs (es ++ end) o, found-append p es end o)
       (scan-found (bucket_records F) bound_allowed (λ s b. s) tt buckets_at p (expected_bucket F p) (λ i. refl) (found p es (found p end o)) m))
 
   -- cause 10's offset, and none
-  pub offset_exactly : (at : ℕ) → (wrong_at F p ≡ At at) ↔ WrongOffset F p at
+  pub offset_exactly : (at : ℕ) → (wrong_at F p ≡ Err at) ↔ WrongOffset F p at
   offset_exactly at = rw wrong-found (found_exactly p (plane_length F m k) at (expected F p))
 
-  pub nowhere_exactly : (wrong_at F p ≡ Nowhere) ↔ RightPlane F p
+  pub nowhere_exactly : (wrong_at F p ≡ Ok tt) ↔ RightPlane F p
   nowhere_exactly = rw wrong-found (found_nowhere p (plane_length F m k) (expected F p))

@@ -9,6 +9,7 @@ use native.Mathlib.Omega.{arith}
 use borrow.Author.Tests.{le-leb, eq-eqb}
 use lib.ListN.{length, drop, length-append}
 use lib.Seq.{take_at, drop_at, get_or_at, drop-append-add, drop-drop}
+use Rattle.std.specs.Prelude.{Ok}
 use Rattle.lists.specs.Entries.{Entry, Above, Ascending}
 use Rattle.lists.specs.Lists.{Every}
 use Rattle.lists.proofs.Every.{every, every_split}
@@ -17,7 +18,6 @@ use Rattle.codec.proofs.Equal.{equal_refl}
 use Rattle.codec.proofs.Round.{length-to_bytes, from_to}
 use Rattle.bucket.specs.Bucket.{largest_bound}
 use Rattle.model.specs.Model.{base_limit}
-use Rattle.plane.specs.declared.Wrong.TheVariants.{Nowhere}
 use Rattle.plane.specs.Record.{Format, Kind, size_of, record_of, bucket_records, entry_records, bytes_of, read_all, word_bytes, word_from, header_body, header_record, PlaneBucket, bucket_record, bucket_from, entry_record, entry_from, end_bytes, end_record, bucket_length, entry_length}
 use Rattle.plane.specs.Plane.{wrong_in, all_allowed, bound_allowed, entry_allowed, exceeding, Plane, plane_bytes, plane_from, buckets_at, entries_at, end_at, plane_length, buckets_wrong, entries_wrong, wrong_at}
 use Rattle.plane.proofs.Scan.{both, scan-next, Right, nowhere}
@@ -81,7 +81,7 @@ entry_back e h =
 -- records of one kind that are read again, with allowed values, are wrong nowhere
 module _ {A S : Type 0} (k : Kind A) (allowed : S → A → Bool) (next : S → A → S) where
   pub scan_right : (s : S) (xs : List A) (q : List ℕ) (at : ℕ) → Every (Back (record_of k) (size_of k) k.read) xs → all_allowed allowed next s xs ≡ true
-      → wrong_in k allowed next s (length xs) at (bytes_of (record_of k) xs ++ q) ≡ Nowhere
+      → wrong_in k allowed next s (length xs) at (bytes_of (record_of k) xs ++ q) ≡ Ok tt
   unfolding bytes_of
   scan_right s [] q at h a = refl
   scan_right s (x ∷ xs) q at h a =
@@ -165,7 +165,7 @@ module _ (F : Format) (P : Plane) (h : Fits F P) where
     nothing = ap length at-end;
   }
 
-  pub written_right : wrong_at F (plane_bytes F P) ≡ Nowhere
+  pub written_right : wrong_at F (plane_bytes F P) ≡ Ok tt
   written_right = nowhere F (plane_bytes F P) right
 
   two : Every (FitsBucket F) P.level1 × Every (FitsBucket F) P.level2

@@ -5,31 +5,31 @@ use mathlib.Core.Bool.{Bool, true, false, cond, ◌&&◌, and_assoc, and_comm}
 use mathlib.Core.List.{List}
 use Prim.Native.Nat.{ℕ, zero, suc, ◌+◌, ◌-◌, ◌*◌, ◌≤◌, ◌<◌}
 use native.Mathlib.Nat.{suc-mul, zero-mul}
-use native.Mathlib.Numerals.{sub-one}
+use native.Mathlib.Numerals.{add-one, sub-one}
 use native.Mathlib.Omega.{arith}
 use borrow.Author.Tests.{leb-true, eqb-true, le-leb, lt-leb, eq-eqb, ne_eqb}
 use lib.Dec.{leb, eqb}
 use lib.ListN.{length, get_or, drop, length-drop}
 use lib.Seq.{drop-drop}
+use Rattle.std.specs.Prelude.{Result, Ok, Err}
+use Rattle.std.specs.Result.{result_and}
 use Rattle.lists.specs.Entries.{assignable}
 use Rattle.lists.proofs.Tests.{true→T, cases}
 use Rattle.model.specs.Model.{base_limit}
 use Rattle.table.specs.Layout.{in_range, most_buckets1, most_buckets2}
-use Rattle.plane.specs.declared.Wrong.{Wrong}
-use Rattle.plane.specs.declared.Wrong.TheVariants.{Nowhere, At}
 use Rattle.plane.specs.Record.{Format, Kind, size_of, bucket_records, entry_records, header_kind, header_body, entry_kind, entry_body, entry_from, bucket_length, entry_length, end_length}
-use Rattle.plane.specs.Plane.{fits, wrong_in, bound_allowed, entry_allowed, exceeding, buckets1, buckets2, bucket_count, base_count, whole, header_fits, bucket_fits, buckets_wrong, entry_fits, entries_wrong, end_fits, end_wrong, or_next, records_wrong, wrong_at, buckets_at, entries_at, end_at, plane_length}
+use Rattle.plane.specs.Plane.{fits, wrong_in, bound_allowed, entry_allowed, exceeding, buckets1, buckets2, bucket_count, base_count, whole, header_fits, bucket_fits, buckets_wrong, entry_fits, entries_wrong, end_fits, end_wrong, records_wrong, wrong_at, buckets_at, entries_at, end_at, plane_length}
 
 -- two tests that hold
 pub both : (a b : Bool) → (a && b) ≡ true → (a ≡ true) × (b ≡ true)
 both true b e = (refl, e)
 both false b e = absurd (true→T e)
 
-pub at_nowhere : {at : ℕ} → At at ≡ Nowhere → ⊥
-at_nowhere e = let z : ◌≡◌ {A = ℕ} 0 1 = cc in omega arith
+pub at_nowhere : {at : ℕ} → ◌≡◌ {A = Result (Unit {0}) ℕ} (Err at) (Ok tt) → ⊥
+at_nowhere e = cc
 
 -- a record that is right, and nothing wrong after it
-pub right : (b : Bool) (x : Wrong) (at : ℕ) → cond b x (At at) ≡ Nowhere → (b ≡ true) × (x ≡ Nowhere)
+pub right : (b : Bool) (x : Result (Unit {0}) ℕ) (at : ℕ) → cond b x (Err at) ≡ Ok tt → (b ≡ true) × (x ≡ Ok tt)
 right true x at e = (refl, e)
 right false x at e = absurd (at_nowhere e)
 
@@ -59,7 +59,7 @@ whole-next kind body at p e =
 -- ---- m records of one kind
 
 module _ {A S : Type 0} (k : Kind A) (allowed : S → A → Bool) (next : S → A → S) where
-  abbrev wrong : S → ℕ → ℕ → List ℕ → Wrong
+  abbrev wrong : S → ℕ → ℕ → List ℕ → Result (Unit {0}) ℕ
   wrong = wrong_in k allowed next
 
   -- one that fits
@@ -68,18 +68,27 @@ module _ {A S : Type 0} (k : Kind A) (allowed : S → A → Bool) (next : S → 
   scan_step s zero at p h e = absurd (omega arith)
   scan_step s (suc m) at p h e = rw (e, drop-drop, sub-one)
 
+  -- the same of record i of m, the first at the offset `first`
+  pub scan_turn : (s : S) (m i first : ℕ) (p : List ℕ) → i < m → fits k allowed s (drop (first + i * size_of k) p) ≡ true
+      → wrong s (m - i) (first + i * size_of k) (drop (first + i * size_of k) p)
+      ≡ wrong (next s (k.read (drop (first + i * size_of k) p))) (m - (i + 1)) (first + (i + 1) * size_of k) (drop (first + (i + 1) * size_of k) p)
+  scan_turn s m i first p h e =
+      let n : m - i - 1 ≡ m - (i + 1) = omega arith in
+      let o : first + i * size_of k + size_of k ≡ first + (i + 1) * size_of k = rw (add-one, suc-mul) (omega arith) in
+      rw (← n, ← o) (scan_step s (m - i) (first + i * size_of k) p (omega arith) e)
+
   -- one that does not
-  pub scan-here : (s : S) (left at : ℕ) (p : List ℕ) → 0 < left → fits k allowed s p ≡ false → wrong s left at p ≡ At at
+  pub scan-here : (s : S) (left at : ℕ) (p : List ℕ) → 0 < left → fits k allowed s p ≡ false → wrong s left at p ≡ Err at
   scan-here s zero at p h e = absurd (omega arith)
   scan-here s (suc m) at p h e = rw e
 
   -- one that fits, and nothing wrong after it
-  pub scan-next : (s : S) (m at : ℕ) (p : List ℕ) → fits k allowed s p ≡ true → wrong (next s (k.read p)) m (at + size_of k) (drop (size_of k) p) ≡ Nowhere
-      → wrong s (suc m) at p ≡ Nowhere
+  pub scan-next : (s : S) (m at : ℕ) (p : List ℕ) → fits k allowed s p ≡ true → wrong (next s (k.read p)) m (at + size_of k) (drop (size_of k) p) ≡ Ok tt
+      → wrong s (suc m) at p ≡ Ok tt
   scan-next s m at p e f = rw (e, f)
 
   -- m that fit are there
-  pub scan_room : (s : S) (m at : ℕ) (p : List ℕ) → wrong s m at p ≡ Nowhere → m * size_of k ≤ length p
+  pub scan_room : (s : S) (m at : ℕ) (p : List ℕ) → wrong s m at p ≡ Ok tt → m * size_of k ≤ length p
   scan_room s zero at p e = rw (zero-mul (size_of k)) (omega arith)
   scan_room s (suc m) at p e =
       let f = right (fits k allowed s p) (wrong (next s (k.read p)) m (at + size_of k) (drop (size_of k) p)) at e in
@@ -88,16 +97,17 @@ module _ {A S : Type 0} (k : Kind A) (allowed : S → A → Bool) (next : S → 
       rw (suc-mul m (size_of k)) (omega arith)
 
 module _ (F : Format) where
-  pub buckets_step : (left at : ℕ) (p : List ℕ) → 0 < left → bucket_fits F (drop at p) ≡ true
-      → buckets_wrong F left at (drop at p) ≡ buckets_wrong F (left - 1) (at + bucket_length F) (drop (at + bucket_length F) p)
+  pub buckets_turn : (m i first : ℕ) (p : List ℕ) → i < m → bucket_fits F (drop (first + i * bucket_length F) p) ≡ true
+      → buckets_wrong F (m - i) (first + i * bucket_length F) (drop (first + i * bucket_length F) p)
+      ≡ buckets_wrong F (m - (i + 1)) (first + (i + 1) * bucket_length F) (drop (first + (i + 1) * bucket_length F) p)
   unfolding buckets_wrong
-  buckets_step = scan_step (bucket_records F) bound_allowed (λ s b. s) tt
+  buckets_turn = scan_turn (bucket_records F) bound_allowed (λ s b. s) tt
 
-  pub buckets_here : (left at : ℕ) (p : List ℕ) → 0 < left → bucket_fits F p ≡ false → buckets_wrong F left at p ≡ At at
+  pub buckets_here : (left at : ℕ) (p : List ℕ) → 0 < left → bucket_fits F p ≡ false → buckets_wrong F left at p ≡ Err at
   unfolding buckets_wrong
   buckets_here = scan-here (bucket_records F) bound_allowed (λ s b. s) tt
 
-  pub buckets_room : (m at : ℕ) (p : List ℕ) → buckets_wrong F m at p ≡ Nowhere → m * bucket_length F ≤ length p
+  pub buckets_room : (m at : ℕ) (p : List ℕ) → buckets_wrong F m at p ≡ Ok tt → m * bucket_length F ≤ length p
   unfolding buckets_wrong
   buckets_room = scan_room (bucket_records F) bound_allowed (λ s b. s) tt
 
@@ -110,31 +120,33 @@ pub entry_tests : (kind least : ℕ) (p : List ℕ) → (whole kind entry_body p
 entry_tests kind least p = rw (and_comm (leb least (entry_from p).word), ← and_assoc (whole kind entry_body p))
 
 -- a base entry that is cut, of a wrong kind or with a plan not allowed, one whose word w is too small, and one that fits
-pub entries_here : (least left at : ℕ) (p : List ℕ) → 0 < left → assignable_entry entry_kind p ≡ false → entries_wrong least left at p ≡ At at
+pub entries_here : (least left at : ℕ) (p : List ℕ) → 0 < left → assignable_entry entry_kind p ≡ false → entries_wrong least left at p ≡ Err at
 unfolding entries_wrong
 entries_here least left at p h e = scan-here entry_records entry_allowed exceeding least left at p h (rw (entry_tests, e))
 
 pub entries_low : (least left at w : ℕ) (p : List ℕ) → 0 < left → assignable_entry entry_kind p ≡ true → w ≡ (entry_from p).word → w < least
-    → entries_wrong least left at p ≡ At at
+    → entries_wrong least left at p ≡ Err at
 unfolding entries_wrong
 entries_low least left at w p h e i l = scan-here entry_records entry_allowed exceeding least left at p h (rw (entry_tests, e, ← i, lt-leb least w l))
 
-pub entries_step : (least left at w : ℕ) (p : List ℕ) → 0 < left → assignable_entry entry_kind (drop at p) ≡ true → w ≡ (entry_from (drop at p)).word → least ≤ w
-    → entries_wrong least left at (drop at p) ≡ entries_wrong (suc w) (left - 1) (at + entry_length) (drop (at + entry_length) p)
+pub entries_turn : (least m i first w : ℕ) (p : List ℕ) → i < m → assignable_entry entry_kind (drop (first + i * entry_length) p) ≡ true
+    → w ≡ (entry_from (drop (first + i * entry_length) p)).word → least ≤ w
+    → entries_wrong least (m - i) (first + i * entry_length) (drop (first + i * entry_length) p)
+    ≡ entries_wrong (suc w) (m - (i + 1)) (first + (i + 1) * entry_length) (drop (first + (i + 1) * entry_length) p)
 unfolding entries_wrong
-entries_step least left at w p h e i l = rw i (scan_step entry_records entry_allowed exceeding least left at p h (rw (entry_tests, e, ← i, le-leb least w l)))
+entries_turn least m i first w p h e j l = rw j (scan_turn entry_records entry_allowed exceeding least m i first p h (rw (entry_tests, e, ← j, le-leb least w l)))
 
-pub entries_room : (least k at : ℕ) (p : List ℕ) → entries_wrong least k at p ≡ Nowhere → k * entry_length ≤ length p
+pub entries_room : (least k at : ℕ) (p : List ℕ) → entries_wrong least k at p ≡ Ok tt → k * entry_length ≤ length p
 unfolding entries_wrong
 entries_room = scan_room entry_records entry_allowed exceeding
 
 -- the j entries that are there, then one that is cut
 pub entries_short : (least k j at : ℕ) (p : List ℕ) → j < k → length p < suc j * entry_length
-    → entries_wrong least k at p ≡ or_next (entries_wrong least j at p) (At (at + j * entry_length))
+    → entries_wrong least k at p ≡ result_and (entries_wrong least j at p) (Err (at + j * entry_length))
 unfolding entries_wrong
 entries_short least zero j at p h l = absurd (omega arith)
 entries_short least (suc k) zero at p h l =
-    entries_here least (suc k) at p (omega arith) (rw (whole_cut entry_kind entry_body p (omega arith))) ∙ ap At {x = at} {y = at + 0 * entry_length} (omega arith)
+    entries_here least (suc k) at p (omega arith) (rw (whole_cut entry_kind entry_body p (omega arith))) ∙ ap Err {x = at} {y = at + 0 * entry_length} (omega arith)
 entries_short least (suc k) (suc j) at p h l =
     let more : at + entry_length + j * entry_length ≡ at + suc j * entry_length = omega arith in
     cases (entry_fits least p)
@@ -143,19 +155,19 @@ entries_short least (suc k) (suc j) at p h l =
 
 -- the end: not there, with bytes after it, and right
 module _ (at : ℕ) (p : List ℕ) where
-  pub end_cut : end_fits p ≡ false → end_wrong at p ≡ At at
+  pub end_cut : end_fits p ≡ false → end_wrong at p ≡ Err at
   end_cut e = rw e
 
-  pub end_more : end_fits p ≡ true → (length p ≡ end_length → ⊥) → end_wrong at p ≡ At (at + end_length)
+  pub end_more : end_fits p ≡ true → (length p ≡ end_length → ⊥) → end_wrong at p ≡ Err (at + end_length)
   end_more e h = rw (e, ne_eqb (length p) end_length h)
 
-  pub end_right : end_fits p ≡ true → length p ≡ end_length → end_wrong at p ≡ Nowhere
+  pub end_right : end_fits p ≡ true → length p ≡ end_length → end_wrong at p ≡ Ok tt
   end_right e h = rw (e, eq-eqb (length p) end_length h)
 
-  pub end_parts : end_wrong at p ≡ Nowhere → (end_fits p ≡ true) × (length p ≡ end_length)
+  pub end_parts : end_wrong at p ≡ Ok tt → (end_fits p ≡ true) × (length p ≡ end_length)
   end_parts e =
-      let f = right (end_fits p) (cond (eqb (length p) end_length) Nowhere (At (at + end_length))) at e in
-      (f.0, eqb-true (length p) end_length (right (eqb (length p) end_length) Nowhere _ f.1).0)
+      let f = right (end_fits p) (cond (eqb (length p) end_length) (Ok tt) (Err (at + end_length))) at e in
+      (f.0, eqb-true (length p) end_length (right (eqb (length p) end_length) (Ok tt) _ f.1).0)
 
 -- what a header that fits says
 pub record Header (p : List ℕ) : Type 0 where
@@ -184,9 +196,9 @@ header F p e =
     }
 
 -- the first of two that is wrong is nowhere
-pub next : (a o : Wrong) → or_next a o ≡ Nowhere → (a ≡ Nowhere) × (o ≡ Nowhere)
-next Nowhere o e = (refl, e)
-next (At at) o e = absurd (at_nowhere e)
+pub next : (a o : Result (Unit {0}) ℕ) → result_and a o ≡ Ok tt → (a ≡ Ok tt) × (o ≡ Ok tt)
+next (Ok u) o e = (refl, e)
+next (Err at) o e = absurd (at_nowhere e)
 
 -- where the entries and the end start by the header
 abbrev pub entries_in : Format → List ℕ → ℕ
@@ -199,16 +211,16 @@ end_in F p = end_at F (bucket_count p) (base_count p)
 module _ (F : Format) (p : List ℕ) where
   pub record Right : Type 0 where
     pub header : header_fits F p ≡ true
-    pub buckets : buckets_wrong F (bucket_count p) buckets_at (drop buckets_at p) ≡ Nowhere
-    pub entries : entries_wrong 0 (base_count p) (entries_in F p) (drop (entries_in F p) p) ≡ Nowhere
+    pub buckets : buckets_wrong F (bucket_count p) buckets_at (drop buckets_at p) ≡ Ok tt
+    pub entries : entries_wrong 0 (base_count p) (entries_in F p) (drop (entries_in F p) p) ≡ Ok tt
     pub end : end_fits (drop (end_in F p) p) ≡ true
     pub nothing : length (drop (end_in F p) p) ≡ end_length
 
-  pub nowhere : Right → wrong_at F p ≡ Nowhere
+  pub nowhere : Right → wrong_at F p ≡ Ok tt
   unfolding wrong_at
   nowhere h = rw (h.header, h.buckets, h.entries, h.end, h.nothing)
 
-  pub parts : wrong_at F p ≡ Nowhere → Right
+  pub parts : wrong_at F p ≡ Ok tt → Right
   unfolding wrong_at
   parts e =
       let h = right (header_fits F p) (records_wrong F (bucket_count p) (base_count p) p) 0 e in
@@ -233,5 +245,5 @@ module _ (F : Format) (p : List ℕ) where
     pub header : Header p
     pub whole : length p ≡ plane_length F (bucket_count p) (base_count p)
 
-  pub known : wrong_at F p ≡ Nowhere → Known
+  pub known : wrong_at F p ≡ Ok tt → Known
   known e = record { header = header F p (parts e).header; whole = right_length (parts e) }

@@ -5,3 +5,5 @@ pub mod Lookup
 pub mod Fits
 pub mod Offset
 pub mod Causes
+pub mod Right
+pub mod Steps

@@ -1,14 +1,13 @@
 -- The plane as bytes, which planes are wrong, and what the bytes say; document 01, "The plane". F is the format, the only
 -- one there is format 1.
 -- Assumes nothing.
-use Rattle.std.specs.Prelude.{ℕ, zero, suc, ◌+◌, ◌*◌, Bool, true, cond, ◌&&◌, List, [], ◌∷◌, ◌++◌, eqb, leb, length, get_or, take, drop}
+use Rattle.std.specs.Prelude.{ℕ, zero, suc, ◌+◌, ◌*◌, Bool, true, cond, ◌&&◌, List, [], ◌∷◌, ◌++◌, eqb, leb, length, get_or, take, drop, Result, Ok, Err}
+use Rattle.std.specs.Result.{result_and}
 use Rattle.codec.specs.Bytes.{eq_list}
 use Rattle.lists.specs.Entries.{Entry, assignable}
 use Rattle.bucket.specs.Bucket.{largest_bound}
 use Rattle.model.specs.Model.{base_limit}
 use Rattle.table.specs.Layout.{in_range}
-use Rattle.plane.specs.declared.Wrong.{Wrong}
-use Rattle.plane.specs.declared.Wrong.TheVariants.{Nowhere, At}
 use Rattle.plane.specs.Record.{Format, Kind, size_of, PlaneBucket, bucket_records, entry_records, bytes_of, read_all, header_kind, header_body, header_record, bucket_record, bucket_from, entry_record, entry_from, end_kind, end_body, end_bytes, end_record, bucket_length, entry_length, end_length}
 
 -- what a plane says
@@ -39,7 +38,7 @@ end_at F buckets k = entries_at F buckets + k * entry_length
 abbrev pub plane_length : Format → ℕ → ℕ → ℕ
 plane_length F buckets k = end_at F buckets k + end_length
 
--- ---- the first record that is wrong: p are the bytes from the record's first on, at is its offset
+-- ---- the first record that is wrong, as `Err` of its offset; `Ok tt`: none. p are the bytes from the record's first on, at is its offset
 
 -- a record of this kind, not cut
 abbrev pub whole : ℕ → ℕ → List ℕ → Bool
@@ -50,10 +49,10 @@ abbrev pub fits : {A S : Type 0} → Kind A → (S → A → Bool) → S → Lis
 fits k allowed s p = whole k.number k.body p && allowed s (k.read p)
 
 -- m records of the kind k
-abbrev pub wrong_in : {A S : Type 0} → Kind A → (S → A → Bool) → (S → A → S) → S → ℕ → ℕ → List ℕ → Wrong
-wrong_in k allowed next s zero at p = Nowhere
+abbrev pub wrong_in : {A S : Type 0} → Kind A → (S → A → Bool) → (S → A → S) → S → ℕ → ℕ → List ℕ → Result (Unit {0}) ℕ
+wrong_in k allowed next s zero at p = Ok tt
 wrong_in k allowed next s (suc m) at p =
-    cond (fits k allowed s p) (wrong_in k allowed next (next s (k.read p)) m (at + size_of k) (drop (size_of k) p)) (At at)
+    cond (fits k allowed s p) (wrong_in k allowed next (next s (k.read p)) m (at + size_of k) (drop (size_of k) p)) (Err at)
 
 -- the values of records, one after the other, are allowed
 abbrev pub all_allowed : {A S : Type 0} → (S → A → Bool) → (S → A → S) → S → List A → Bool
@@ -89,7 +88,7 @@ abbrev pub bucket_fits : Format → List ℕ → Bool
 bucket_fits F p = fits (bucket_records F) bound_allowed tt p
 
 -- m of them
-unfoldable pub buckets_wrong : Format → ℕ → ℕ → List ℕ → Wrong
+unfoldable pub buckets_wrong : Format → ℕ → ℕ → List ℕ → Result (Unit {0}) ℕ
 buckets_wrong F m at p = wrong_in (bucket_records F) bound_allowed (λ s b. s) tt m at p
 
 -- kind 3: a word of at least `least`, and a plan that may be given (document 02, order 3)
@@ -105,7 +104,7 @@ abbrev pub exceeding : ℕ → Entry → ℕ
 exceeding least e = suc e.word
 
 -- k of them
-unfoldable pub entries_wrong : ℕ → ℕ → ℕ → List ℕ → Wrong
+unfoldable pub entries_wrong : ℕ → ℕ → ℕ → List ℕ → Result (Unit {0}) ℕ
 entries_wrong least k at p = wrong_in entry_records entry_allowed exceeding least k at p
 
 -- kind 4: the fixed byte string
@@ -113,25 +112,20 @@ abbrev pub end_fits : List ℕ → Bool
 end_fits p = whole end_kind end_body p && eq_list (take end_body (drop 1 p)) end_bytes
 
 -- and nothing after it
-abbrev pub end_wrong : ℕ → List ℕ → Wrong
-end_wrong at p = cond (end_fits p) (cond (eqb (length p) end_length) Nowhere (At (at + end_length))) (At at)
+abbrev pub end_wrong : ℕ → List ℕ → Result (Unit {0}) ℕ
+end_wrong at p = cond (end_fits p) (cond (eqb (length p) end_length) (Ok tt) (Err (at + end_length))) (Err at)
 
--- the first of two
-abbrev pub or_next : Wrong → Wrong → Wrong
-or_next Nowhere o = o
-or_next (At at) o = At at
-
--- the records after kind 1, for these numbers of buckets and base entries
-abbrev pub records_wrong : Format → ℕ → ℕ → List ℕ → Wrong
+-- the records after kind 1, for these numbers of buckets and base entries: the first that is wrong
+abbrev pub records_wrong : Format → ℕ → ℕ → List ℕ → Result (Unit {0}) ℕ
 records_wrong F buckets k p =
-    or_next (buckets_wrong F buckets buckets_at (drop buckets_at p))
-    (or_next (entries_wrong 0 k (entries_at F buckets) (drop (entries_at F buckets) p))
+    result_and (buckets_wrong F buckets buckets_at (drop buckets_at p))
+    (result_and (entries_wrong 0 k (entries_at F buckets) (drop (entries_at F buckets) p))
     (end_wrong (end_at F buckets k) (drop (end_at F buckets k) p)))
 
 -- document 01's "offset of the first byte of the first record that is cut, of a wrong kind, or with a value not allowed; or of the first
 -- byte after kind 4"
-unfoldable pub wrong_at : Format → List ℕ → Wrong
-wrong_at F p = cond (header_fits F p) (records_wrong F (bucket_count p) (base_count p) p) (At 0)
+unfoldable pub wrong_at : Format → List ℕ → Result (Unit {0}) ℕ
+wrong_at F p = cond (header_fits F p) (records_wrong F (bucket_count p) (base_count p) p) (Err 0)
 
 -- ---- what the bytes say, where nothing is wrong
 

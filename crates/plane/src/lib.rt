@@ -1,40 +1,28 @@
 // The plane: the small file that every post reads to find the plan of an identifier. Its records and its reader, for any bytes.
 // Definitions, in document 01's words: specs/Record.antt and specs/Plane.antt (the bytes in each format, which planes are wrong, what the
 // bytes say), specs/Lookup.antt (the lookup, crate plane_lookup), specs/Fits.antt (its limits), specs/Offset.antt (the offset of what is wrong, without the
-// scan), specs/Causes.antt. Laws: proofs/Scan.antt (a scan of records of any kind), proofs/Round.antt and proofs/Exact.antt (just the
-// planes within the limits have bytes that are wrong nowhere), proofs/Offset.antt, proofs/Causes.antt, proofs/Desk.antt (who gets plan 255);
-// the statements stand with the writer.
+// scan), specs/Causes.antt; specs/Right.antt (the parts of a right plane) and specs/Steps.antt are for the inner steps alone. Laws: proofs/Scan.antt (a scan of
+// records of any kind), proofs/Round.antt and proofs/Exact.antt (just the planes within the limits have bytes that are wrong nowhere), proofs/Offset.antt,
+// proofs/Causes.antt, proofs/Desk.antt (who gets plan 255); the statements stand with the writer.
 #![tactic(auto)]
 
-ghost use Rattle.std.specs.Prelude.{◌≡◌, ◌&&◌, suc, ◌+◌, ◌*◌, ◌≤◌, ◌<◌, length, drop};
+ghost use Rattle.std.specs.Prelude.{◌≡◌, leb, ◌&&◌, ◌+◌, ◌*◌, ◌≤◌, ◌<◌, length, drop};
 ghost use Rattle.lists.specs.Entries.{assignable};
 ghost use Rattle.model.specs.Model.{base_limit};
 ghost use Rattle.table.specs.Layout.{most_buckets1, most_buckets2};
-ghost use Rattle.plane.specs.declared.Wrong.TheVariants.{Nowhere};
 ghost use Rattle.plane.specs.Record.{format1, entry_body, entry_length, entry_from};
+ghost use Rattle.plane.specs.Steps.{least_after};
 ghost use Rattle.plane.specs.Plane.{buckets_at, whole, header_fits, bucket_fits, buckets_wrong, entries_wrong, end_fits, end_wrong, records_wrong, wrong_at};
 
 use bucket::Bucket;
 use table_layout::Table;
 
-// Where a plane is wrong first.
-#[derive(Clone, Copy)]
-pub enum Wrong {
-    Nowhere,
-    // The offset.
-    At(usize),
-}
+mod right;
 
-// What a level gives for a vector.
-#[derive(Clone, Copy)]
-pub enum Held {
-    // It holds the vector: the plan.
-    Plan(u64),
-    // The vector is due further on.
-    Passed,
-}
+pub use right::Plane;
 
-// The records of a plane: the kind byte of each, and how many bytes follow it.
+// The records of a plane: the kind byte of each, and how many bytes follow it. Kinds are numbers and no enum: each is only compared with a byte or written as
+// one, and those of a patch (crate patch) go on from these.
 #[derive(Clone, Copy)]
 pub struct Record {}
 
@@ -89,70 +77,46 @@ impl Record {
     pub const END_LEN: usize = 1 + Record::END_BODY;
 }
 
-// A byte as a length, and as a number.
-pub fn size(b: u8) -> usize
-    ensures { result ≡ b }
-{
-    b as usize
-}
-
-pub fn wide(b: u8) -> u64
-    ensures { result ≡ b }
-{
-    b as u64
-}
-
 // A record of this kind, not cut, stands in front.
 pub fn whole(p: &[u8], kind: u8, body: usize) -> bool
     ensures { result ≡ whole kind body p.now }
 {
-    if p.len() <= body {
-        return false;
-    }
-    p[0] == kind
+    body < p.len() && p[0] == kind
 }
 
 // The header: format 1, bucket numbers in range, at most 64 entries.
 pub(crate) fn header_fits(p: &[u8]) -> bool
     ensures { result ≡ header_fits format1 p.now }
 {
-    if !whole(p, Record::HEADER, Record::HEADER_BODY) {
-        return false;
-    }
-    if p[Record::FORMAT_AT] != Record::FORMAT {
-        return false;
-    }
-    if !table_layout::in_range(wide(p[Record::BUCKETS_1_AT]), wide(p[Record::BUCKETS_2_AT])) {
-        return false;
-    }
-    wide(p[Record::BASE_COUNT_AT]) <= Table::BASE_ENTRIES
+    whole(p, Record::HEADER, Record::HEADER_BODY)
+        && p[Record::FORMAT_AT] == Record::FORMAT
+        && table_layout::in_range(
+            u64::from(p[Record::BUCKETS_1_AT]),
+            u64::from(p[Record::BUCKETS_2_AT]),
+        )
+        && u64::from(p[Record::BASE_COUNT_AT]) <= Table::BASE_ENTRIES
 }
 
 // A bucket in front, with a bound of at most 8.
 pub(crate) fn bucket_fits(p: &[u8]) -> bool
     ensures { result ≡ bucket_fits format1 p.now }
 {
-    if !whole(p, Record::BUCKET, Record::BUCKET_BODY) {
-        return false;
-    }
-    wide(p[Record::BOUND_AT]) <= Bucket::LARGEST_BOUND
+    whole(p, Record::BUCKET, Record::BUCKET_BODY)
+        && u64::from(p[Record::BOUND_AT]) <= Bucket::LARGEST_BOUND
 }
 
 // m buckets from the offset first on.
-pub(crate) fn buckets_wrong(plane: &[u8], first: usize, m: usize) -> Wrong
+pub(crate) fn buckets_wrong(plane: &[u8], first: usize, m: usize) -> Result<(), usize>
     requires { first ≤ length plane.now }
     ensures { result ≡ buckets_wrong format1 m first (drop first plane.now) }
 {
-    let mut at = first;
-    let mut left = m;
-    while 0 < left {
+    for i in 0..m {
+        let at = first + i * Record::BUCKET_LEN;
         if !bucket_fits(&plane[at..]) {
-            return Wrong::At(at);
+            return Err(at);
         }
-        at += Record::BUCKET_LEN;
-        left -= 1;
     }
-    Wrong::Nowhere
+    Ok(())
 }
 
 // The word of the base entry in front.
@@ -166,123 +130,94 @@ pub fn entry_word(p: &[u8]) -> u64
 pub fn entry_assignable(p: &[u8], kind: u8) -> bool
     ensures { result ≡ (whole kind entry_body p.now && assignable (entry_from p.now).plan) }
 {
-    if !whole(p, kind, Record::ENTRY_BODY) {
-        return false;
-    }
-    table_layout::assignable(wide(p[Record::PLAN_AT]))
+    whole(p, kind, Record::ENTRY_BODY) && table_layout::assignable(u64::from(p[Record::PLAN_AT]))
 }
 
-// k base entries from the offset first on, none of them cut, after one of the word before.
-pub(crate) fn ascending(plane: &[u8], first: usize, k: usize, before: u64) -> Wrong
-    requires { first + k * entry_length ≤ length plane.now }
-    ensures { result ≡ entries_wrong (suc before) k first (drop first plane.now) }
+// Whether the word exceeds the last one, if there is one.
+pub(crate) fn exceeds(word: u64, last: Option<u64>) -> bool
+    ensures { result ≡ leb (least_after last) word }
 {
-    let mut at = first;
-    let mut left = k;
-    let mut last = before;
-    while 0 < left {
-        let next = at + Record::ENTRY_LEN;
-        let e = &plane[at..next];
+    last.is_none_or(|before| before < word)
+}
+
+// k base entries from the offset first on, none of them cut.
+pub(crate) fn ascending(plane: &[u8], first: usize, k: usize) -> Result<(), usize>
+    requires { first + k * entry_length ≤ length plane.now }
+    ensures { result ≡ entries_wrong 0 k first (drop first plane.now) }
+{
+    let mut last = None;
+    for i in 0..k {
+        let at = first + i * Record::ENTRY_LEN;
+        let e = &plane[at..at + Record::ENTRY_LEN];
         if !entry_assignable(e, Record::ENTRY) {
-            return Wrong::At(at);
+            return Err(at);
         }
         let word = entry_word(e);
-        if word <= last {
-            return Wrong::At(at); // not above the one before
+        if !exceeds(word, last) {
+            return Err(at); // not above the one before
         }
-        last = word;
-        at = next;
-        left -= 1;
+        last = Some(word);
     }
-    Wrong::Nowhere
+    Ok(())
 }
 
-// k base entries from the offset first on, after one of the word before: how many are not cut is found once.
-pub(crate) fn entries_after(plane: &[u8], first: usize, k: usize, before: u64) -> Wrong
-    requires { first ≤ length plane.now }
-    ensures { result ≡ entries_wrong (suc before) k first (drop first plane.now) }
-{
-    let there = (plane.len() - first) / Record::ENTRY_LEN;
-    if k <= there {
-        return ascending(plane, first, k, before);
-    }
-    let e = ascending(plane, first, there, before);
-    match e {
-        Wrong::At(at) => Wrong::At(at),
-        Wrong::Nowhere => Wrong::At(first + there * Record::ENTRY_LEN),
-    }
-}
-
-// k base entries from the offset first on.
-pub(crate) fn entries_wrong(plane: &[u8], first: usize, k: usize) -> Wrong
+// k base entries from the offset first on: how many are not cut is found once.
+pub(crate) fn entries_wrong(plane: &[u8], first: usize, k: usize) -> Result<(), usize>
     requires { first ≤ length plane.now }
     ensures { result ≡ entries_wrong 0 k first (drop first plane.now) }
 {
-    if k == 0 {
-        return Wrong::Nowhere;
+    let there = (plane.len() - first) / Record::ENTRY_LEN;
+    if k <= there {
+        return ascending(plane, first, k);
     }
-    let p = &plane[first..];
-    if !entry_assignable(p, Record::ENTRY) {
-        return Wrong::At(first);
-    }
-    entries_after(plane, first + Record::ENTRY_LEN, k - 1, entry_word(p))
+    ascending(plane, first, there)?;
+    Err(first + there * Record::ENTRY_LEN)
 }
 
 // The end in front, with its fixed byte string.
 pub(crate) fn end_fits(p: &[u8]) -> bool
     ensures { result ≡ end_fits p.now }
 {
-    if !whole(p, Record::END, Record::END_BODY) {
-        return false;
-    }
-    codec::same_at(p, 1, b"END\n")
+    whole(p, Record::END, Record::END_BODY) && codec::same_at(p, 1, b"END\n")
 }
 
 // The end at the offset at, and nothing after it.
-pub fn end_wrong(plane: &[u8], at: usize) -> Wrong
+pub fn end_wrong(plane: &[u8], at: usize) -> Result<(), usize>
     requires { at ≤ length plane.now }
     ensures { result ≡ end_wrong at (drop at plane.now) }
 {
     let p = &plane[at..];
     if !end_fits(p) {
-        return Wrong::At(at);
+        return Err(at);
     }
     if p.len() != Record::END_LEN {
-        return Wrong::At(at + Record::END_LEN);
+        return Err(at + Record::END_LEN);
     }
-    Wrong::Nowhere
+    Ok(())
 }
 
 // The records after the header.
-pub(crate) fn records_wrong(plane: &[u8], buckets: usize, entries: usize) -> Wrong
+pub(crate) fn records_wrong(plane: &[u8], buckets: usize, entries: usize) -> Result<(), usize>
     requires { (buckets_at ≤ length plane.now) × (buckets ≤ most_buckets1 + most_buckets2) × (entries ≤ base_limit) }
     ensures { result ≡ records_wrong format1 buckets entries plane.now }
 {
     let entries_at = Record::BUCKETS_AT + buckets * Record::BUCKET_LEN;
     let end_at = entries_at + entries * Record::ENTRY_LEN;
-    let b = buckets_wrong(plane, Record::BUCKETS_AT, buckets);
-    match b {
-        Wrong::At(at) => Wrong::At(at),
-        Wrong::Nowhere => {
-            let e = entries_wrong(plane, entries_at, entries);
-            match e {
-                Wrong::At(at) => Wrong::At(at),
-                Wrong::Nowhere => end_wrong(plane, end_at),
-            }
-        }
-    }
+    buckets_wrong(plane, Record::BUCKETS_AT, buckets)?;
+    entries_wrong(plane, entries_at, entries)?;
+    end_wrong(plane, end_at)
 }
 
-// The whole plane, in one pass.
-pub fn wrong_at(plane: &[u8]) -> Wrong
+// The whole plane, in one pass: `Err` is the offset where it is wrong first, as in the parts above.
+pub fn wrong_at(plane: &[u8]) -> Result<(), usize>
     ensures { result ≡ wrong_at format1 plane.now }
 {
     if !header_fits(plane) {
-        return Wrong::At(0);
+        return Err(0);
     }
     records_wrong(
         plane,
-        size(plane[Record::BUCKETS_1_AT]) + size(plane[Record::BUCKETS_2_AT]),
-        size(plane[Record::BASE_COUNT_AT]),
+        usize::from(plane[Record::BUCKETS_1_AT]) + usize::from(plane[Record::BUCKETS_2_AT]),
+        usize::from(plane[Record::BASE_COUNT_AT]),
     )
 }

@@ -9,13 +9,14 @@ use borrow.Author.Tests.{leb-true, ltb-false, le-ltb}
 use lib.Dec.{leb, ltb, lit≤}
 use lib.ListN.{length, get_or, take, drop, length-map}
 use lib.Seq.{take_at, drop_at}
+use Rattle.std.specs.Prelude.{Ok, Err}
+use Rattle.answer.specs.Numbers.{Answer}
 use Rattle.lists.proofs.Tests.{by_test}
 use Rattle.hash.specs.Mix.{unmix_of}
-use Rattle.answer.specs.declared.Answer.{Answer}
-use Rattle.answer.specs.declared.Answer.TheVariants.{Accepted, WrongTable, NotSound}
+use Rattle.answer.specs.declared.Cause.{Cause}
+use Rattle.answer.specs.declared.Cause.TheVariants.{WrongTable, NotSound}
+use Rattle.answer.proofs.Determined.{refused≢accepted}
 use Rattle.identifier.specs.Identifier.{Token, read_of}
-use Rattle.identifier.specs.declared.Read.{Read}
-use Rattle.identifier.specs.declared.Read.TheVariants.{Word, Refused}
 use Rattle.model.specs.Model.{base_limit}
 use Rattle.table.specs.Layout.{buckets1_at, buckets2_at, base_count_at, most_buckets1, most_buckets2, length_of}
 use Rattle.table.specs.Calls.{rows, solutions, table_of, shaped, sound, FlatSound}
@@ -39,11 +40,11 @@ module _ (t : List ℕ) (k : shaped t ≡ true) (h : FlatSound t) where
   unfolding lookup_call
   shows id = go (read_of id)
     where
-      go : (i : Read) → lookup_read (plane_bytes format1 (plane_of (table_of t))) i ≡ shown_to (table_of t) i
-      go (Refused a) = refl
-      go (Word v) =
+      go : (i : Answer) → lookup_read (plane_bytes format1 (plane_of (table_of t))) i ≡ shown_to (table_of t) i
+      go (Err a) = refl
+      go (Ok v) =
           rw (written_right format1 (plane_of (table_of t)) fits, written_read format1 (plane_of (table_of t)) fits)
-          (ap Accepted (shown rows solutions (table_of t) v h.table.level1.some h.table.level2.some))
+          (ap Ok (shown rows solutions (table_of t) v h.table.level1.some h.table.level2.some))
 
 -- what the writer knows of a sound table t
 pub record Known (t : List ℕ) : Type 0 where
@@ -80,9 +81,9 @@ module _ (n : ℕ) (out : List ℕ) where
     pub front : take n after ≡ bytes
     pub rest : drop n after ≡ drop n out
 
-  pub in-front : (bytes : List ℕ) → (put_front bytes out).answer ≡ Accepted n → InFront bytes (put_front bytes out).output
+  pub in-front : (bytes : List ℕ) → (put_front bytes out).answer ≡ Ok n → InFront bytes (put_front bytes out).output
   in-front bytes =
-      by_test (λ (o : Written). o.answer ≡ Accepted n → InFront bytes o.output) (ltb (length out) (length bytes))
+      by_test (λ (o : Written). o.answer ≡ Ok n → InFront bytes o.output) (ltb (length out) (length bytes))
       (λ t e. let z : ◌≡◌ {A = ℕ} 0 1 = cc in absurd (omega arith))
       (λ f e. let l : length bytes ≡ n = cc in
       record {
@@ -93,20 +94,20 @@ module _ (n : ℕ) (out : List ℕ) where
       })
 
 -- where there is room it is accepted
-pub front_room : (bytes out : List ℕ) → length bytes ≤ length out → (put_front bytes out).answer ≡ Accepted (length bytes)
+pub front_room : (bytes out : List ℕ) → length bytes ≤ length out → (put_front bytes out).answer ≡ Ok (length bytes)
 front_room bytes out l = rw (le-ltb (length out) (length bytes) l) refl
 
-accepted-of : (b : Bool) (o : Written) (a : Answer) (out : List ℕ) (n : ℕ) → (a ≡ Accepted n → ⊥) → (cond b o (turned_down a out)).answer ≡ Accepted n → (b ≡ true) × (o.answer ≡ Accepted n)
-accepted-of true o a out n x e = (refl, e)
-accepted-of false o a out n x e = absurd (x e)
+accepted-of : (b : Bool) (o : Written) (a : Cause) (out : List ℕ) (n : ℕ) → (cond b o (turned_down a out)).answer ≡ Ok n → (b ≡ true) × (o.answer ≡ Ok n)
+accepted-of true o a out n e = (refl, e)
+accepted-of false o a out n e = absurd (refused≢accepted a n e)
 
-module _ (t out : List ℕ) (n : ℕ) (e : (write_call t out).answer ≡ Accepted n) where
-  pub was-shaped : (shaped t ≡ true) × ((cond (sound t) (put_front (plane_bytes format1 (plane_of (table_of t))) out) (turned_down NotSound out)).answer ≡ Accepted n)
+module _ (t out : List ℕ) (n : ℕ) (e : (write_call t out).answer ≡ Ok n) where
+  pub was-shaped : (shaped t ≡ true) × ((cond (sound t) (put_front (plane_bytes format1 (plane_of (table_of t))) out) (turned_down NotSound out)).answer ≡ Ok n)
   unfolding write_call
-  was-shaped = accepted-of (shaped t) _ (WrongTable (length t)) out n (λ x. let z : ◌≡◌ {A = ℕ} 0 1 = cc in omega arith) e
+  was-shaped = accepted-of (shaped t) _ (WrongTable (length t)) out n e
 
-  pub was-sound : (sound t ≡ true) × ((put_front (plane_bytes format1 (plane_of (table_of t))) out).answer ≡ Accepted n)
-  was-sound = accepted-of (sound t) _ NotSound out n (λ x. let z : ◌≡◌ {A = ℕ} 0 1 = cc in omega arith) was-shaped.1
+  pub was-sound : (sound t ≡ true) × ((put_front (plane_bytes format1 (plane_of (table_of t))) out).answer ≡ Ok n)
+  was-sound = accepted-of (sound t) _ NotSound out n was-shaped.1
 
   pub was-written : InFront n out (plane_bytes format1 (plane_of (table_of t))) (write_call t out).output
   unfolding write_call

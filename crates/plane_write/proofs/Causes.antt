@@ -7,9 +7,9 @@ use mathlib.Core.List.{List, [], ◌∷◌}
 use lib.Dec.{ltb, lit<}
 use lib.ListN.{length, get_or}
 use borrow.Author.Tests.{ltb-true, lt-ltb}
+use Rattle.answer.specs.Numbers.{Answer}
 use Rattle.lists.proofs.Tests.{by_test}
-use Rattle.answer.specs.declared.Answer.{Answer}
-use Rattle.answer.specs.declared.Answer.TheVariants.{WrongTable, NotSound}
+use Rattle.answer.specs.declared.Cause.TheVariants.{WrongTable, NotSound}
 use Rattle.answer.specs.Causes.{InOrder, Exactly}
 use Rattle.answer.proofs.Causes.{one_value, one_if, Given, exactly, if_met}
 use Rattle.model.specs.Machine.{accepted}

@@ -9,6 +9,8 @@ use Prim.Native.Nat.{ℕ, suc, suc-le-suc, ◌/◌, ◌^◌, ◌≤◌, ◌<◌}
 use native.Mathlib.Nat.{mod-lt, zero-lt-suc, lt_of_lt_of_le}
 use native.Mathlib.Omega.{arith}
 use lib.ListN.{length, get_or, length-map}
+use Rattle.std.specs.Prelude.{Some, None}
+use Rattle.std.specs.Option.{unwrap_or}
 use Rattle.lists.proofs.Keep.{get_d_map_in}
 use Rattle.lists.proofs.Entries.{none≢some}
 use Rattle.lists.specs.Lists.{Every}
@@ -25,15 +27,14 @@ use Rattle.table.specs.Layout.{buckets1_at, buckets2_at, in_range, table_from}
 use Rattle.table.specs.Sound.{SoundTable}
 use Rattle.table.proofs.Numbers.{header_read}
 use Rattle.table.proofs.Sound.{base_given}
-use Rattle.plane.specs.declared.Held.TheVariants.{Plan, Passed}
 use Rattle.plane.specs.Record.{Format, word_bytes}
-use Rattle.plane.specs.Lookup.{bucket_of, level_plan, or_else, or_desk, second_plan, plan_from}
+use Rattle.plane.specs.Lookup.{bucket_of, level_plan, or_desk, second_plan, plan_from}
 use Rattle.plane.specs.Fits.{Below, FitsBucket, FitsEntry, Fits}
 use Rattle.plane_write.specs.Write.{seen_of, plane_of, shown_plan}
 
 -- ---- the plan of a word
 
-or_held : (b : Bool) (p q : ℕ) → or_else (cond b (Plan p) Passed) q ≡ cond b p q
+or_held : (b : Bool) (p q : ℕ) → unwrap_or (cond b (Some p) None) q ≡ cond b p q
 or_held true p q = refl
 or_held false p q = refl
 
@@ -51,7 +52,7 @@ module _ (n r : ℕ) where
   seen-bucket : (bs : List Bucket) (v : ℕ) → 0 < length bs → bucket_of (map seen_of bs) v ≡ seen_of (C.bucket_of n r mix_of bs v)
   seen-bucket bs v h = rw (length-map bs seen_of) (get_d_map_in seen_of bs (bucket_at (length bs) (mix_of v)) _ _ (mod-lt (mix_of v / thresholds) h))
 
-  seen-plan : (bs : List Bucket) (v q : ℕ) → 0 < length bs → or_else (level_plan (map seen_of bs) v) q ≡ cond (C.holds n r mix_of bs v) (lookup (C.bucket_of n r mix_of bs v) v) q
+  seen-plan : (bs : List Bucket) (v q : ℕ) → 0 < length bs → unwrap_or (level_plan (map seen_of bs) v) q ≡ cond (C.holds n r mix_of bs v) (lookup (C.bucket_of n r mix_of bs v) v) q
   unfolding level_plan
   seen-plan bs v q h = rw (seen-bucket bs v h) (or_held (C.holds n r mix_of bs v) (lookup (C.bucket_of n r mix_of bs v) v) q)
 

@@ -9,16 +9,15 @@ use Prim.Native.Nat.{ℕ, ◌+◌, ◌*◌, ◌^◌, ◌<◌}
 use native.Mathlib.Omega.{arith}
 use lib.ListN.{length, get_or, take}
 use borrow.Author.Tests.{ltb-true}
+use Rattle.std.specs.Prelude.{Ok, Err}
 use Rattle.lists.specs.Entries.{desk_plan, find}
 use Rattle.hash.specs.Mix.{mix_of, unmix_of}
-use Rattle.answer.specs.declared.Answer.TheVariants.{Accepted}
 use Rattle.answer.specs.Numbers.{number_of, value_of}
 use Rattle.answer.specs.Causes.{NoneMet, InOrder, Exactly}
 use Rattle.answer.proofs.Causes.{test_apart, number_exactly}
 use Rattle.identifier.specs.Identifier.{Token, word_of, read_of}
 use Rattle.identifier.specs.Causes.{wrong_length, wrong_byte, id_causes}
 use Rattle.identifier.specs.Place.{second_of}
-use Rattle.identifier.specs.declared.Read.TheVariants.{Word}
 use Rattle.identifier.proofs.Causes.{read_word}
 use Rattle.identifier.proofs.Words.{word_lt, second_lt}
 use Rattle.bucket.specs.declared.Bucket.{Bucket}
@@ -36,7 +35,6 @@ use Rattle.table.specs.Calls.{rows, solutions, table_of, plan_in, shaped, FlatSo
 use Rattle.table.specs.Causes.{wrong_table, not_sound}
 use Rattle.table.specs.History.{tables, Opened, accepted_calls}
 use Rattle.table.proofs.Statements.{sound_exactly, call-sound, other-plan, always_sound, plan, plan_given, list_answers_first, list_answers_second}
-use Rattle.plane.specs.declared.Wrong.TheVariants.{Nowhere, At}
 use Rattle.plane.specs.Record.{Format, format1, PlaneBucket}
 use Rattle.plane.specs.Plane.{Plane, plane_bytes, plane_length, plane_from, wrong_at}
 use Rattle.plane.specs.Lookup.{lookup_call}
@@ -56,7 +54,7 @@ use Rattle.plane_write.proofs.Shown.{live_shown}
 -- ---- "The plane", in every format F
 
 -- wrong nowhere exactly if the bytes are those of a plane within the limits
-pub right_exactly : (F : Format) (p : List ℕ) → AllBytes p → (wrong_at F p ≡ Nowhere) ↔ OfPlane F p
+pub right_exactly : (F : Format) (p : List ℕ) → AllBytes p → (wrong_at F p ≡ Ok tt) ↔ OfPlane F p
 right_exactly F p b = (
   λ e. record { plane = plane_from F p; fits = read_fits F p e b; bytes = read_written F p e b },
   λ o. rw o.bytes at (written_right F o.plane o.fits),
@@ -64,11 +62,11 @@ right_exactly F p b = (
 
 -- it is found wrong at an offset exactly if that is "the first byte of the first record that is cut, of a wrong kind, or with a value not
 -- allowed; or the first byte after kind 4"
-pub offset_exactly : (F : Format) (p : List ℕ) (at : ℕ) → (wrong_at F p ≡ At at) ↔ WrongOffset F p at
+pub offset_exactly : (F : Format) (p : List ℕ) (at : ℕ) → (wrong_at F p ≡ Err at) ↔ WrongOffset F p at
 offset_exactly = Offset.offset_exactly
 
 -- and nowhere exactly if no record is wrong and nothing follows
-pub nowhere_exactly : (F : Format) (p : List ℕ) → (wrong_at F p ≡ Nowhere) ↔ RightPlane F p
+pub nowhere_exactly : (F : Format) (p : List ℕ) → (wrong_at F p ≡ Ok tt) ↔ RightPlane F p
 nowhere_exactly = Offset.nowhere_exactly
 
 -- the plane that was written is read
@@ -118,83 +116,83 @@ refused_keeps = Causes.refused_keeps
 
 -- ---- statement 2, the plane's half
 
-module _ (t out : List ℕ) (n : ℕ) (e : (write_call t out).answer ≡ Accepted n) (h : FlatSound t) where
+module _ (t out : List ℕ) (n : ℕ) (e : (write_call t out).answer ≡ Ok n) (h : FlatSound t) where
   -- written from a sound table and read again, the plane gives for each identifier, live or not, the answer of the table's own XOR words or
   -- base list
   pub statement_2 : (id : Token) → lookup_call id (take n (write_call t out).output) ≡ shown_to (table_of t) (read_of id)
   statement_2 id = ap (lookup_call id) (was-written t out n e).front ∙ shows t (was-shaped t out n e).0 h id
 
   -- so a live identifier gets its word's plan
-  pub live-plan : (id : Token) (v p : ℕ) → read_of id ≡ Word v → plan_in t v ≡ some p → lookup_call id (take n (write_call t out).output) ≡ Accepted p
-  live-plan id v p i l = statement_2 id ∙ ap (shown_to (table_of t)) i ∙ ap Accepted (live_shown rows solutions (table_of t) v p l)
+  pub live-plan : (id : Token) (v p : ℕ) → read_of id ≡ Ok v → plan_in t v ≡ some p → lookup_call id (take n (write_call t out).output) ≡ Ok p
+  live-plan id v p i l = statement_2 id ∙ ap (shown_to (table_of t)) i ∙ ap Ok (live_shown rows solutions (table_of t) v p l)
 
 -- and what is written was a sound table, if its numbers have 64 bits
-pub written-sound : (t out : List ℕ) (n : ℕ) → (write_call t out).answer ≡ Accepted n → ((i : ℕ) → get_or t i 0 < 2 ^ 64) → FlatSound t
+pub written-sound : (t out : List ℕ) (n : ℕ) → (write_call t out).answer ≡ Ok n → ((i : ℕ) → get_or t i 0 < 2 ^ 64) → FlatSound t
 written-sound t out n e w = (sound_exactly t (was-shaped t out n e).0 w).0 (was-sound t out n e).0
 
 -- the word that an identifier is read as has 64 bits
-read_small : (id : Token) (v : ℕ) → read_of id ≡ Word v → v < 2 ^ 64
+read_small : (id : Token) (v : ℕ) → read_of id ≡ Ok v → v < 2 ^ 64
 read_small id v i = rw ((read_word id v).0 i).3 (word_lt id)
 
 -- document 02, order 4: after a call for another word an identifier that is live gets its plan from the plane as before
-pub other-plane : (t : List ℕ) → shaped t ≡ true → FlatSound t → (c : Call Token) (id : Token) (v p : ℕ) → read_of id ≡ Word v → (v ≡ word_of (subject c) → ⊥) → plan_in t v ≡ some p
-    → (out : List ℕ) (n : ℕ) → (write_call (call t c).table out).answer ≡ Accepted n → lookup_call id (take n (write_call (call t c).table out).output) ≡ Accepted p
+pub other-plane : (t : List ℕ) → shaped t ≡ true → FlatSound t → (c : Call Token) (id : Token) (v p : ℕ) → read_of id ≡ Ok v → (v ≡ word_of (subject c) → ⊥) → plan_in t v ≡ some p
+    → (out : List ℕ) (n : ℕ) → (write_call (call t c).table out).answer ≡ Ok n → lookup_call id (take n (write_call (call t c).table out).output) ≡ Ok p
 other-plane t k h c id v p i ne l out n e = live-plan (call t c).table out n e (call-sound t k h c).2 id v p i (other-plan t k h c v (read_small id v i) ne ∙ l)
 
 -- after any list of calls
-pub told_shown : (t : List ℕ) → Opened t → (ps : List Request) (id : Token) (v p : ℕ) → read_of id ≡ Word v → told v (accepted_calls t ps) ≡ some p
-    → shown_to (table_of (after tables t ps)) (read_of id) ≡ Accepted p
+pub told_shown : (t : List ℕ) → Opened t → (ps : List Request) (id : Token) (v p : ℕ) → read_of id ≡ Ok v → told v (accepted_calls t ps) ≡ some p
+    → shown_to (table_of (after tables t ps)) (read_of id) ≡ Ok p
 told_shown t o ps id v p i h =
-    ap (shown_to (table_of (after tables t ps))) i ∙ ap Accepted (live_shown rows solutions (table_of (after tables t ps)) v p (plan t o ps v (read_small id v i) ∙ h))
+    ap (shown_to (table_of (after tables t ps))) i ∙ ap Ok (live_shown rows solutions (table_of (after tables t ps)) v p (plan t o ps v (read_small id v i) ∙ h))
 
-module _ (t : List ℕ) (o : Opened t) (ps : List Request) (out : List ℕ) (n : ℕ) (e : (write_call (after tables t ps) out).answer ≡ Accepted n) where
+module _ (t : List ℕ) (o : Opened t) (ps : List Request) (out : List ℕ) (n : ℕ) (e : (write_call (after tables t ps) out).answer ≡ Ok n) where
   pub list_gives : (id : Token) → lookup_call id (take n (write_call (after tables t ps) out).output) ≡ shown_to (table_of (after tables t ps)) (read_of id)
   list_gives = statement_2 (after tables t ps) out n e (always_sound t o ps).2
 
   -- every live identifier gets its word's last accepted plan from the plane
-  pub last-plan : (id : Token) (v p : ℕ) → read_of id ≡ Word v → told v (accepted_calls t ps) ≡ some p → lookup_call id (take n (write_call (after tables t ps) out).output) ≡ Accepted p
+  pub last-plan : (id : Token) (v p : ℕ) → read_of id ≡ Ok v → told v (accepted_calls t ps) ≡ some p → lookup_call id (take n (write_call (after tables t ps) out).output) ≡ Ok p
   last-plan id v p i h = list_gives id ∙ told_shown t o ps id v p i h
 
   -- document 02, order 3: so no live identifier gets the desk's plan
-  pub plane-live_given : (id : Token) (v p : ℕ) → read_of id ≡ Word v → told v (accepted_calls t ps) ≡ some p → lookup_call id (take n (write_call (after tables t ps) out).output) ≡ Accepted desk_plan → ⊥
+  pub plane-live_given : (id : Token) (v p : ℕ) → read_of id ≡ Ok v → told v (accepted_calls t ps) ≡ some p → lookup_call id (take n (write_call (after tables t ps) out).output) ≡ Ok desk_plan → ⊥
   plane-live_given id v p i h d =
       let l : p < desk_plan = ltb-true p desk_plan (plan_given t o ps v p (read_small id v i) h) in
-      let same : Accepted p ≡ Accepted desk_plan = sym (last-plan id v p i h) ∙ d in
+      let same : Ok p ≡ Ok desk_plan = sym (last-plan id v p i h) ∙ d in
       let q : p ≡ desk_plan = cc in
       omega arith
 
   -- document 02, order 3: an identifier whose word neither level holds and whose w' is not in the base list gets it
-  pub plane_stranger : (id : Token) (v : ℕ) → read_of id ≡ Word v → holds rows solutions mix_of (table_of (after tables t ps)).level1 v ≡ false
+  pub plane_stranger : (id : Token) (v : ℕ) → read_of id ≡ Ok v → holds rows solutions mix_of (table_of (after tables t ps)).level1 v ≡ false
       → holds rows solutions mix_of (table_of (after tables t ps)).level2 (second_of v) ≡ false → find (second_of v) (table_of (after tables t ps)).base ≡ none
-      → lookup_call id (take n (write_call (after tables t ps) out).output) ≡ Accepted desk_plan
+      → lookup_call id (take n (write_call (after tables t ps) out).output) ≡ Ok desk_plan
   plane_stranger id v i a b c = list_gives id ∙ ap (shown_to (table_of (after tables t ps))) i ∙ rw (a, b, c)
 
   -- document 02, order 6: an identifier, live or not, whose word v level 1 holds gets the XOR of the last accepted plans of the live words in
   -- v's combination; 0 where there is none among them, so one that was withdrawn has left nothing
-  module _ (id : Token) (v : ℕ) (i : read_of id ≡ Word v) where
+  module _ (id : Token) (v : ℕ) (i : read_of id ≡ Ok v) where
     abbrev first : Bucket
     first = bucket_of rows solutions mix_of (table_of (after tables t ps)).level1 v
 
     pub plane-first : holds rows solutions mix_of (table_of (after tables t ps)).level1 v ≡ true
-        → (lookup_call id (take n (write_call (after tables t ps) out).output) ≡ Accepted (lookup first v)) × Answered rows (λ u. told u (accepted_calls t ps)) first v (lookup first v)
+        → (lookup_call id (take n (write_call (after tables t ps) out).output) ≡ Ok (lookup first v)) × Answered rows (λ u. told u (accepted_calls t ps)) first v (lookup first v)
     plane-first a = (list_gives id ∙ ap (shown_to (table_of (after tables t ps))) i ∙ rw a, list_answers_first t o ps v (read_small id v i))
 
     pub plane-first_none : holds rows solutions mix_of (table_of (after tables t ps)).level1 v ≡ true → live_in first v ≡ 0
-        → lookup_call id (take n (write_call (after tables t ps) out).output) ≡ Accepted 0
-    plane-first_none a z = let p = plane-first a in p.0 ∙ ap Accepted (answers_none rows p.1.matrix first p.1.sound v (read_small id v i) z)
+        → lookup_call id (take n (write_call (after tables t ps) out).output) ≡ Ok 0
+    plane-first_none a z = let p = plane-first a in p.0 ∙ ap Ok (answers_none rows p.1.matrix first p.1.sound v (read_small id v i) z)
 
     -- at level 2 by w', the word's vector there
     abbrev other : Bucket
     other = bucket_of rows solutions mix_of (table_of (after tables t ps)).level2 (second_of v)
 
     pub plane-second : holds rows solutions mix_of (table_of (after tables t ps)).level1 v ≡ false → holds rows solutions mix_of (table_of (after tables t ps)).level2 (second_of v) ≡ true
-        → (lookup_call id (take n (write_call (after tables t ps) out).output) ≡ Accepted (lookup other (second_of v)))
+        → (lookup_call id (take n (write_call (after tables t ps) out).output) ≡ Ok (lookup other (second_of v)))
         × Answered rows (λ u. told (unmix_of (unmix_of u)) (accepted_calls t ps)) other (second_of v) (lookup other (second_of v))
     plane-second a b = (list_gives id ∙ ap (shown_to (table_of (after tables t ps))) i ∙ rw (a, b), list_answers_second t o ps (second_of v) (second_lt v))
 
     pub plane-second_none : holds rows solutions mix_of (table_of (after tables t ps)).level1 v ≡ false → holds rows solutions mix_of (table_of (after tables t ps)).level2 (second_of v) ≡ true
-        → live_in other (second_of v) ≡ 0 → lookup_call id (take n (write_call (after tables t ps) out).output) ≡ Accepted 0
-    plane-second_none a b z = let p = plane-second a b in p.0 ∙ ap Accepted (answers_none rows p.1.matrix other p.1.sound (second_of v) (second_lt v) z)
+        → live_in other (second_of v) ≡ 0 → lookup_call id (take n (write_call (after tables t ps) out).output) ≡ Ok 0
+    plane-second_none a b z = let p = plane-second a b in p.0 ∙ ap Ok (answers_none rows p.1.matrix other p.1.sound (second_of v) (second_lt v) z)
 
 -- columns, mark, bound and the plans of its live vectors settle what a plane has of a bucket
 pub same_record : (n : ℕ) (K L : List ℕ) (a b : Bucket) → Sound n K a → Sound n L b → a.cols ≡ b.cols → a.mark ≡ b.mark → a.bound ≡ b.bound → length a.sols ≡ length b.sols

@@ -8,10 +8,11 @@ use native.Mathlib.Omega.{arith}
 use borrow.Author.Tests.{lt-ltb, le-ltb}
 use lib.ListN.{length, get_or, drop, length-map}
 use lib.Seq.{drop-drop}
+use Rattle.std.specs.Prelude.{Ok, Err}
 use Rattle.lists.specs.Lists.{Every}
 use Rattle.lists.proofs.Entries.{assignable_byte}
 use Rattle.lists.proofs.Every.{every-at}
-use Rattle.answer.specs.declared.Answer.TheVariants.{Accepted, ShortOutput}
+use Rattle.answer.specs.declared.Cause.TheVariants.{ShortOutput}
 use Rattle.codec.specs.Parts.{written}
 use Rattle.codec.proofs.Part.{written-fits, written-append}
 use Rattle.bucket.specs.Bucket.{largest_bound}
@@ -92,8 +93,8 @@ front-put n F xs out o h e =
 
 -- an output without room for the bytes, and one with room
 module _ (bytes out : List ℕ) (n : ℕ) (e : n ≡ length bytes) where
-  pub put-short : length out < n → (ShortOutput n ≡ (put_front bytes out).answer) × (out ≡ (put_front bytes out).output)
+  pub put-short : length out < n → (Err (ShortOutput n) ≡ (put_front bytes out).answer) × (out ≡ (put_front bytes out).output)
   put-short h = rw (e, lt-ltb (length out) (length bytes) (rw e at h)) (refl, refl)
 
-  pub put-fits : (o : List ℕ) → n ≤ length out → o ≡ (in_front bytes out).output → (Accepted n ≡ (put_front bytes out).answer) × (o ≡ (put_front bytes out).output)
+  pub put-fits : (o : List ℕ) → n ≤ length out → o ≡ (in_front bytes out).output → (Ok n ≡ (put_front bytes out).answer) × (o ≡ (put_front bytes out).output)
   put-fits o h f = rw (e, le-ltb (length out) (length bytes) (rw e at h)) (refl, f)

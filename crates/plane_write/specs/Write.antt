@@ -1,13 +1,12 @@
 -- The writer: the plane of a table, and what the call answers and leaves for any numbers as table and any bytes as output.
 -- Assumes nothing.
-use Rattle.std.specs.Prelude.{ℕ, ◌≡◌, cond, List, ◌++◌, map, ltb, length, drop}
+use Rattle.std.specs.Prelude.{ℕ, ◌≡◌, cond, List, ◌++◌, map, ltb, length, drop, Ok, Err}
+use Rattle.answer.specs.Numbers.{Answer}
 use Rattle.lists.specs.Entries.{find}
 use Rattle.hash.specs.Mix.{mix_of}
-use Rattle.answer.specs.declared.Answer.{Answer}
-use Rattle.answer.specs.declared.Answer.TheVariants.{Accepted, WrongTable, NotSound, ShortOutput}
+use Rattle.answer.specs.declared.Cause.{Cause}
+use Rattle.answer.specs.declared.Cause.TheVariants.{WrongTable, NotSound, ShortOutput}
 use Rattle.identifier.specs.Place.{second_of}
-use Rattle.identifier.specs.declared.Read.{Read}
-use Rattle.identifier.specs.declared.Read.TheVariants.{Word, Refused}
 use Rattle.bucket.specs.declared.Bucket.{Bucket}
 use Rattle.bucket.specs.Bucket.{lookup}
 use Rattle.table.specs.Table.{Table, bucket_of, holds}
@@ -34,12 +33,12 @@ abbrev pub Writes : Written → Answer → List ℕ → Type 0
 Writes w a out = (a ≡ w.answer) × (out ≡ w.output)
 
 -- turned down: the output stays as it was
-abbrev pub turned_down : Answer → List ℕ → Written
-turned_down a out = record { answer = a; output = out }
+abbrev pub turned_down : Cause → List ℕ → Written
+turned_down c out = record { answer = Err c; output = out }
 
 -- accepted: the bytes in front; output past them is untouched
 abbrev pub in_front : List ℕ → List ℕ → Written
-in_front bytes out = record { answer = Accepted (length bytes); output = bytes ++ drop (length bytes) out }
+in_front bytes out = record { answer = Ok (length bytes); output = bytes ++ drop (length bytes) out }
 
 -- if they fit: cause 9
 abbrev pub put_front : List ℕ → List ℕ → Written
@@ -61,6 +60,6 @@ shown_plan n r T w =
     (or_desk (find (second_of w) T.base)))
 
 -- for bytes that are handed in as an identifier
-abbrev pub shown_to : Table → Read → Answer
-shown_to T (Word w) = Accepted (shown_plan rows solutions T w)
-shown_to T (Refused a) = a
+abbrev pub shown_to : Table → Answer → Answer
+shown_to T (Ok w) = Ok (shown_plan rows solutions T w)
+shown_to T (Err e) = Err e

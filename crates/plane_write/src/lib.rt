@@ -15,7 +15,7 @@ ghost use Rattle.table.specs.Calls.{rows, solutions, table_of, shaped, sound};
 ghost use Rattle.plane_write.specs.Write.{plane_of, in_front, put_front, write_call, Writes};
 ghost use Rattle.plane_write.specs.Steps.{seen_from, pair_from, records_of};
 
-use answer::Answer;
+use answer::{Answer, Cause};
 use bucket::Bucket;
 use plane::Record;
 use table_layout::Table;
@@ -25,10 +25,8 @@ pub(crate) fn put_words(out: &mut [u8], at: usize, words: &[u64])
     requires { at + length words.now * word_bytes ≤ length out.old }
     ensures { out.new ≡ written at (bytes_of (to_bytes word_bytes) words.now) out.old }
 {
-    let mut i = 0;
-    while i < words.len() {
-        codec::put_u64(out, at + i * Record::WORD_LEN, words[i]);
-        i += 1;
+    for (i, word) in words.iter().enumerate() {
+        codec::put_u64(out, at + i * Record::WORD_LEN, *word);
     }
 }
 
@@ -62,12 +60,13 @@ pub(crate) fn put_buckets(out: &mut [u8], at: usize, b: &[u64], m: usize)
     requires low { (i : ℕ) → i < m → (seen_from rows solutions (drop (i * bucket_words rows solutions) b.now)).bound < 256 }
     ensures { out.new ≡ written at (bytes_of (bucket_record format1) (read_all (bucket_words rows solutions) (seen_from rows solutions) m b.now)) out.old }
 {
-    let mut i = 0;
-    while i < m {
+    for i in 0..m {
         let from = i * Bucket::WORDS;
-        let to = from + Bucket::WORDS;
-        put_bucket(out, at + i * Record::BUCKET_LEN, &b[from..to]);
-        i += 1;
+        put_bucket(
+            out,
+            at + i * Record::BUCKET_LEN,
+            &b[from..from + Bucket::WORDS],
+        );
     }
 }
 
@@ -77,15 +76,13 @@ pub fn put_entries(out: &mut [u8], at: usize, pairs: &[u64], k: usize)
     requires plans { (i : ℕ) → i < k → (pair_from (drop (i * 2) pairs.now)).plan < 256 }
     ensures { out.new ≡ written at (bytes_of entry_record (read_all 2 pair_from k pairs.now)) out.old }
 {
-    let mut i = 0;
-    while i < k {
+    for i in 0..k {
         put_entry(
             out,
             at + i * Record::ENTRY_LEN,
             pairs[i * 2],
             pairs[i * 2 + 1],
         );
-        i += 1;
     }
 }
 
@@ -158,22 +155,21 @@ pub(crate) fn write_sound(t: &[u64], out: &mut [u8]) -> Answer
     let buckets = (t[Table::BUCKETS_1_AT] + t[Table::BUCKETS_2_AT]) as usize;
     let needed = plane_len(buckets, t[Table::BASE_COUNT_AT] as usize);
     if out.len() < needed {
-        return Answer::ShortOutput(needed as u64);
+        return Err(Cause::ShortOutput(needed as u64));
     }
     write_plane(t, out);
-    Answer::Accepted(needed as u64)
+    Ok(needed as u64)
 }
 
 // The plane of a table of any numbers, to the front of the output: causes 4, 5, 9. Nothing is written where it is turned down.
 pub fn write(t: &[u64], out: &mut [u8]) -> Answer
     ensures { Writes (write_call t.now out.old) result out.new }
 {
-    if table_layout::shaped(t) {
-        if table_sound::sound(t) {
-            return write_sound(t, out);
-        }
-        return Answer::NotSound;
+    if !table_layout::shaped(t) {
+        return Err(Cause::WrongTable(t.len() as u64));
     }
-    let size = t.len();
-    Answer::WrongTable(size as u64)
+    if !table_sound::sound(t) {
+        return Err(Cause::NotSound);
+    }
+    write_sound(t, out)
 }

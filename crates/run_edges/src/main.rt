@@ -3,124 +3,133 @@
 // The file stdout was made from documents 01 and 02 by another program, and what is printed is compared with it.
 #![tactic(auto)]
 
-use identifier::{Identifier, Kind, Read};
-use std::io;
-use std::io::Write;
+use identifier::{Identifier, Kind};
+use std::{fmt, io};
 
-fn text(rt: &HostRuntime, s: &[u8]) -> io::Result<()> {
-    rt.stdout().write_all(s)
+// A vector, and its place among so many buckets.
+#[derive(Clone, Copy)]
+struct Placed {
+    vector: u64,
+    buckets: u64,
 }
 
-fn decimal(rt: &HostRuntime, n: u64) -> io::Result<()> {
-    print!(rt; "{n}")
-}
-
-fn hex(rt: &HostRuntime, n: u64, width: usize) -> io::Result<()> {
-    print!(rt; "{n:0width$x}")
-}
-
-// A vector, and its place among n buckets.
-fn vector(rt: &HostRuntime, v: u64, n: u64) -> io::Result<()> {
-    hex(rt, v, 16)?;
-    text(rt, b" place ")?;
-    decimal(rt, identifier::threshold(v))?;
-    text(rt, b" ")?;
-    decimal(rt, identifier::bucket(v, n))
+impl fmt::Display for Placed {
+    fn fmt<W: fmt::Write>(&self, f: &mut fmt::Formatter<W>) -> fmt::Result {
+        write!(
+            f,
+            "{:016x} place {} {}",
+            self.vector,
+            identifier::threshold(self.vector),
+            identifier::bucket(self.vector, self.buckets)
+        )
+    }
 }
 
 // What the bytes are found to be as an identifier of this kind, and the line's end.
 fn found(rt: &HostRuntime, kind: u8, s: &[u8]) -> io::Result<()> {
     let read = Identifier::read(kind, s.len(), s);
     match read {
-        Read::Word(w) => {
-            text(rt, b"word ")?;
-            vector(rt, w, 48)?;
-            text(rt, b" second ")?;
-            vector(rt, identifier::second(w), 32)?;
+        Ok(w) => {
+            let first = Placed {
+                vector: w,
+                buckets: 48,
+            };
+            let second = Placed {
+                vector: identifier::second(w),
+                buckets: 32,
+            };
+            println!(rt; "word {first} second {second}")
         }
-        Read::Refused(a) => {
-            text(rt, b"no ")?;
-            decimal(rt, answer::number(a))?;
-            text(rt, b" ")?;
-            decimal(rt, answer::value(a))?;
-        }
+        Err(_) => println!(rt; "no {} {}", answer::number(read), answer::value(read)),
     }
-    text(rt, b"\n")
 }
 
-fn named(rt: &HostRuntime, kind: u8, s: &[u8]) -> io::Result<()> {
-    decimal(rt, kind as u64)?;
-    text(rt, b" \"")?;
-    text(rt, s)?;
-    text(rt, b"\" ")?;
-    found(rt, kind, s)
+fn named(rt: &HostRuntime, kind: u8, s: &str) -> io::Result<()> {
+    print!(rt; "{kind} \"{s}\" ")?;
+    found(rt, kind, s.as_bytes())
 }
 
-fn emaid(rt: &HostRuntime, s: &[u8]) -> io::Result<()> {
-    named(rt, Kind::EMAID, s)
-}
-
-fn one_byte(rt: &HostRuntime, b: u8) -> io::Result<()> {
-    hex(rt, b as u64, 2)?;
-    text(rt, b" ")?;
-    let s = [b];
-    found(rt, Kind::EMAID, &s)
+fn emaids(rt: &HostRuntime, cases: &[&str]) -> io::Result<()> {
+    for s in cases {
+        named(rt, Kind::Emaid as u8, s)?;
+    }
+    Ok(())
 }
 
 fn every_byte(rt: &HostRuntime) -> io::Result<()> {
-    let mut b: u64 = 0;
-    while b < 256 {
-        one_byte(rt, b as u8)?;
-        b += 1;
+    for b in 0..=255u8 {
+        print!(rt; "{b:02x} ")?;
+        found(rt, Kind::Emaid as u8, &[b])?;
     }
     Ok(())
 }
 
 fn lengths(rt: &HostRuntime) -> io::Result<()> {
-    emaid(rt, b"")?;
-    emaid(rt, b"a")?;
-    emaid(rt, b"A")?;
-    emaid(rt, b"123456789012345678901234567890123456")?;
-    emaid(rt, b"1234567890123456789012345678901234567")?;
-    emaid(rt, b"abcdefghijklmnopqrstuvwxyzabcdefghij")?;
-    emaid(rt, b"ABCDEFGHIJKLMNOPQRSTUVWXYZABCDEFGHIJ")
+    emaids(
+        rt,
+        &[
+            "",
+            "a",
+            "A",
+            "123456789012345678901234567890123456",
+            "1234567890123456789012345678901234567",
+            "abcdefghijklmnopqrstuvwxyzabcdefghij",
+            "ABCDEFGHIJKLMNOPQRSTUVWXYZABCDEFGHIJ",
+        ],
+    )
 }
 
 fn letters_and_marks(rt: &HostRuntime) -> io::Result<()> {
-    emaid(rt, b"Bus-17")?;
-    emaid(rt, b"BUS-17")?;
-    emaid(rt, b"bus-17")?;
-    emaid(rt, b"bUS-17")?;
-    emaid(rt, b"Tram_2")?;
-    emaid(rt, b"*")?;
-    emaid(rt, b"|")?;
-    emaid(rt, b"0")?;
-    emaid(rt, b"*-_=:+|@.")
+    emaids(
+        rt,
+        &[
+            "Bus-17",
+            "BUS-17",
+            "bus-17",
+            "bUS-17",
+            "Tram_2",
+            "*",
+            "|",
+            "0",
+            "*-_=:+|@.",
+        ],
+    )
 }
 
 fn refused(rt: &HostRuntime) -> io::Result<()> {
-    emaid(rt, b"a/b")?;
-    emaid(rt, b"/ab")?;
-    emaid(rt, b"ab/")?;
-    emaid(rt, b"a/b/c")?;
-    emaid(rt, b"a b")?;
-    emaid(rt, b"123456789012345678901234567890123456/")?;
-    emaid(rt, b"12345678901234567890123456789012345/")
+    emaids(
+        rt,
+        &[
+            "a/b",
+            "/ab",
+            "ab/",
+            "a/b/c",
+            "a b",
+            "123456789012345678901234567890123456/",
+            "12345678901234567890123456789012345/",
+        ],
+    )
 }
 
 fn kinds(rt: &HostRuntime) -> io::Result<()> {
-    named(rt, 0, b"Bus-17")?;
-    named(rt, Kind::CENTRAL, b"Bus-17")?;
-    named(rt, Kind::ISO14443, b"Bus-17")?;
-    named(rt, Kind::ISO15693, b"Bus-17")?;
-    named(rt, Kind::KEY_CODE, b"Bus-17")?;
-    named(rt, Kind::LOCAL, b"Bus-17")?;
-    named(rt, Kind::MAC_ADDRESS, b"Bus-17")?;
-    named(rt, 8, b"Bus-17")?;
-    named(rt, 255, b"Bus-17")?;
-    named(rt, 0, b"")?;
-    named(rt, 8, b"")?;
-    named(rt, 9, b"a/b")
+    let cases = [
+        (0, "Bus-17"),
+        (Kind::Central as u8, "Bus-17"),
+        (Kind::Iso14443 as u8, "Bus-17"),
+        (Kind::Iso15693 as u8, "Bus-17"),
+        (Kind::KeyCode as u8, "Bus-17"),
+        (Kind::Local as u8, "Bus-17"),
+        (Kind::MacAddress as u8, "Bus-17"),
+        (8, "Bus-17"),
+        (255, "Bus-17"),
+        (0, ""),
+        (8, ""),
+        (9, "a/b"),
+    ];
+    for (kind, s) in cases {
+        named(rt, kind, s)?;
+    }
+    Ok(())
 }
 
 fn main(rt: HostRuntime) -> io::Result<()> {

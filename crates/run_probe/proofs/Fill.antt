@@ -5,15 +5,16 @@ use native.Mathlib.Nat.{mod-lt}
 use native.Mathlib.Numerals.{add-one}
 use native.Mathlib.Omega.{arith}
 use mathlib.Core.Path.{◌≡◌, refl, sym, ap, ◌∙◌, subst, subst⁻¹}
-use mathlib.Core.Bool.{Bool, true, false, true≢false, cond}
+use mathlib.Core.Bool.{Bool, true, false, not, true≢false, cond}
 use mathlib.Core.List.{List, []}
 use lib.Dec.{eqb}
 use lib.ListN.{length, get_or, drop, drop_of_length-le}
 use lib.Seq.{drop-cons}
 use borrow.Author.Tests.{lt-ltb}
+use Rattle.std.specs.Prelude.{Ok, Err, is_ok, is_err}
+use Rattle.answer.specs.Numbers.{Answer}
+use Rattle.answer.proofs.Determined.{accepted-ok}
 use Rattle.lists.specs.Entries.{desk_plan, assignable}
-use Rattle.answer.specs.declared.Answer.{Answer}
-use Rattle.answer.specs.declared.Answer.TheVariants.{Accepted}
 use Rattle.lists.proofs.Tests.{by_test, cond_true, cond_false}
 use Rattle.model.specs.Model.{add}
 use Rattle.model.specs.Machine.{accepted}
@@ -29,8 +30,12 @@ pub low-plan : (w : ℕ) → assignable (w % 128) ≡ true
 low-plan w = let l : w % 128 < 128 = mod-lt w (omega arith) in lt-ltb (w % 128) desk_plan (omega arith)
 
 -- the code's test of the answer a, which the definition calls b
-pub tested : {a b : Answer} {x y : Bool} → a ≡ b → x ≡ accepted a → x ≡ y → accepted b ≡ y
-tested q e h = ap (λ (z : Answer). accepted z) (sym q) ∙ sym e ∙ h
+pub tested : {a b : Answer} {y : Bool} → a ≡ b → y ≡ is_err a → accepted b ≡ not y
+tested {a} q h = ap (λ (z : Answer). accepted z) (sym q) ∙ sym (accepted-ok a) ∙ either a ∙ ap not (sym h)
+  where
+    either : (a : Answer) → is_ok a ≡ not (is_err a)
+    either (Ok n) = refl
+    either (Err c) = refl
 
 -- a number and words are those of the definition
 abbrev pub Gives : Probed → ℕ → List ℕ → Type 0
@@ -67,12 +72,16 @@ module _ (t₀ ws t : List ℕ) (i : ℕ) (h : Filling t₀ ws t i) where
       let e : taken_from i t [] ≡ taken_from 0 t₀ ws = ap (taken_from i t) (sym (drop_of_length-le ws l)) ∙ h.same in
       subst (λ (p : Probed). Gives p i t) e (refl, refl)
 
+-- all were accepted
+pub filling_all : (t₀ ws t : List ℕ) (i : ℕ) → Filling t₀ ws t i → length ws ≤ i → i ≤ length ws → Gives (taken_from 0 t₀ ws) (length ws) t
+filling_all t₀ ws t i h l k = let e : i ≡ length ws = omega arith in subst (λ n. Gives (taken_from 0 t₀ ws) n t) e (filling_ends t₀ ws t i h l)
+
 module _ (b1 b2 : ℕ) (t ws u : List ℕ) (q : u ≡ (open_call b1 b2 t).table) where
-  opened : accepted (open_call b1 b2 t).answer ≡ true → open_call b1 b2 t ≡ record { answer = Accepted 0; table = (open_call b1 b2 t).table }
+  opened : accepted (open_call b1 b2 t).answer ≡ true → open_call b1 b2 t ≡ record { answer = Ok 0; table = (open_call b1 b2 t).table }
   unfolding open_call
   opened =
-      by_test (λ (o : Outcome). accepted o.answer ≡ true → o ≡ record { answer = Accepted 0; table = o.table }) (in_range b1 b2)
-      (λ r. by_test (λ (o : Outcome). accepted o.answer ≡ true → o ≡ record { answer = Accepted 0; table = o.table }) (eqb (length t) (length_of rows solutions b1 b2))
+      by_test (λ (o : Outcome). accepted o.answer ≡ true → o ≡ record { answer = Ok 0; table = o.table }) (in_range b1 b2)
+      (λ r. by_test (λ (o : Outcome). accepted o.answer ≡ true → o ≡ record { answer = Ok 0; table = o.table }) (eqb (length t) (length_of rows solutions b1 b2))
       (λ e y. refl) (λ e y. absurd (true≢false (sym y))))
       (λ r y. absurd (true≢false (sym y)))
 

@@ -9,7 +9,6 @@ ghost use Rattle.codec.specs.Parts.{part_at, written};
 ghost use Rattle.hash.specs.Mix.{mix_of, unmix_of};
 ghost use Rattle.hash.specs.Fnv.{fnv_of};
 ghost use Rattle.identifier.specs.Identifier.{token, read_of};
-ghost use Rattle.identifier.specs.Causes.{word_answer};
 ghost use Rattle.bucket.specs.Bucket.{add, withdraw};
 ghost use Rattle.lines_text.specs.Printed.{most_printed};
 ghost use Rattle.lines_run.specs.Run.{counted, output};
@@ -19,27 +18,18 @@ ghost use Rattle.model.specs.Machine.{accepted};
 ghost use Rattle.table_edit.specs.Ready.{Ready};
 ghost use Rattle.run_probe.specs.Fill.{taken_from, filled};
 
-use answer::Answer;
 use bucket::Bucket;
-use identifier::{Identifier, Read};
+use identifier::Identifier;
 
 // The number of the answer to the bytes of an identifier of this kind, 0 if they are accepted. What is returned with it goes into value:
 // the word, if they are accepted.
 #[unsafe(no_mangle)]
 pub extern "C" fn probe_word(kind: u8, id: &[u8], value: &mut u64) -> u64
-    ensures { (result ≡ number_of (word_answer (read_of (token kind id.now)))) × (value.new ≡ value_of (word_answer (read_of (token kind id.now)))) }
+    ensures { (result ≡ number_of (read_of (token kind id.now))) × (value.new ≡ value_of (read_of (token kind id.now))) }
 {
     let read = Identifier::read(kind, id.len(), id);
-    match read {
-        Read::Word(w) => {
-            *value = w;
-            0
-        }
-        Read::Refused(a) => {
-            *value = answer::value(a);
-            answer::number(a)
-        }
-    }
+    *value = answer::value(read);
+    answer::number(read)
 }
 
 // S(n).
@@ -90,7 +80,7 @@ pub extern "C" fn probe_add(part: &mut [u64], k: u64, plan: u64) -> u64
     if part.len() != Bucket::WORDS {
         return 2;
     }
-    let p = bucket::product(bucket_words::cols_in(&part[0..Bucket::ROWS]), k);
+    let p = bucket::product(bucket_words::array_of(&part[0..Bucket::ROWS]), k);
     if bucket_words::add_by(part, k, p, plan) {
         return 1;
     }
@@ -111,7 +101,7 @@ pub extern "C" fn probe_withdraw(part: &mut [u64], k: u64) -> u64
     0
 }
 
-// The row of a vector in the bucket of these words: 64 if it is not live, 65 if they are not as many as a bucket has.
+// The row of a vector in the bucket of these words: 64 if it is not live, 65 if they are not as many as a bucket has. Numbers, for C.
 #[unsafe(no_mangle)]
 pub extern "C" fn probe_row(part: &[u64], k: u64) -> u64
     ensures { result ≡ probed_row k part.now }
@@ -120,7 +110,7 @@ pub extern "C" fn probe_row(part: &[u64], k: u64) -> u64
         return 65;
     }
     let b = bucket_words::load(part);
-    b.row_of(k) as u64
+    b.row_of(k).unwrap_or(Bucket::ROWS) as u64
 }
 
 // Row i of the matrix K of the bucket of these words, or 0 where there is none.
@@ -132,22 +122,10 @@ pub extern "C" fn probe_matrix(part: &[u64], i: usize) -> u64
         return 0;
     }
     let b = bucket_words::load(part);
-    let cols = b.cols;
-    let found = bucket_rows::rows_of(cols, b.mark);
-    let rows = found.rows;
-    if found.ok {
-        if i < Bucket::ROWS {
-            return rows[i];
-        }
-    }
-    0
-}
-
-// An accepted answer.
-fn accepted(a: Answer) -> bool
-    ensures { result ≡ accepted a }
-{
-    answer::number(a) == 0
+    let Some(rows) = bucket_rows::rows_of(b.cols, b.mark) else {
+        return 0;
+    };
+    if i < Bucket::ROWS { rows[i] } else { 0 }
 }
 
 // Adds of the words to a sound table, each with its low seven bits as plan, until the first refusal: how many were accepted.
@@ -155,16 +133,12 @@ fn add_all(t: &mut [u64], words: &[u64]) -> u64
     requires { Ready t.old }
     ensures { (result ≡ (taken_from 0 t.old words.now).number) × (t.new ≡ (taken_from 0 t.old words.now).words) }
 {
-    let mut i: usize = 0;
-    while i < words.len() {
-        let w = words[i];
-        if accepted(table_add::add_word(t, w, w % 128)) {
-            i += 1;
-        } else {
+    for (i, w) in words.iter().enumerate() {
+        if table_add::add_word(t, *w, *w % 128).is_err() {
             return i as u64;
         }
     }
-    i as u64
+    words.len() as u64
 }
 
 // A table is opened, and filled with the words so. How many were accepted; 0 if the opening is refused.
@@ -172,10 +146,10 @@ fn add_all(t: &mut [u64], words: &[u64]) -> u64
 pub extern "C" fn probe_fill(t: &mut [u64], b1: u64, b2: u64, words: &[u64]) -> u64
     ensures { (result ≡ (filled b1 b2 t.old words.now).number) × (t.new ≡ (filled b1 b2 t.old words.now).words) }
 {
-    if accepted(table_open::open(t, b1, b2)) {
-        return add_all(t, words);
+    if table_open::open(t, b1, b2).is_err() {
+        return 0;
     }
-    0
+    add_all(t, words)
 }
 
 // The line program on an input: what it prints goes to out, as much as fits. The number of bytes printed.

@@ -3,109 +3,83 @@
 // at hand and agree with an independent computation.
 #![tactic(auto)]
 
-use std::io;
-use std::io::Write;
+use std::fmt::Display;
+use std::{fmt, io};
 
-fn text(rt: &HostRuntime, s: &[u8]) -> io::Result<()> {
-    rt.stdout().write_all(s)
+// A number that is printed in hexadecimal, with all of its digits.
+#[derive(Clone, Copy)]
+struct Hex(u64);
+
+impl From<u64> for Hex {
+    fn from(n: u64) -> Hex {
+        Hex(n)
+    }
 }
 
-fn decimal(rt: &HostRuntime, n: u64) -> io::Result<()> {
-    print!(rt; "{n}")
+impl Display for Hex {
+    fn fmt<W: fmt::Write>(&self, f: &mut fmt::Formatter<W>) -> fmt::Result {
+        write!(f, "{:016x}", self.0)
+    }
 }
 
-fn hex(rt: &HostRuntime, n: u64) -> io::Result<()> {
-    print!(rt; "{n:016x}")
-}
-
-fn fnv(rt: &HostRuntime, s: &[u8]) -> io::Result<()> {
-    hex(rt, hash::fnv(s))?;
-    text(rt, b" FNV-1a 64 of \"")?;
-    text(rt, s)?;
-    text(rt, b"\"\n")
-}
-
-// The state that SplitMix64 has after n.
-fn next(n: u64) -> u64 {
-    std::num::wrapping_add_u64(n, 0x9e37_79b9_7f4a_7c15)
-}
-
-// The output from the state n, the inverse of the published output, and the next state.
-fn in_decimal(rt: &HostRuntime, n: u64, published: u64) -> io::Result<u64> {
-    decimal(rt, hash::mix(n))?;
-    text(rt, b" S of ")?;
-    decimal(rt, n)?;
-    text(rt, b"\n")?;
-    decimal(rt, hash::unmix(published))?;
-    text(rt, b" inverse of ")?;
-    decimal(rt, published)?;
-    text(rt, b"\n")?;
-    Ok(next(n))
-}
-
-fn in_hex(rt: &HostRuntime, n: u64, published: u64) -> io::Result<u64> {
-    hex(rt, hash::mix(n))?;
-    text(rt, b" S of ")?;
-    hex(rt, n)?;
-    text(rt, b"\n")?;
-    hex(rt, hash::unmix(published))?;
-    text(rt, b" inverse of ")?;
-    hex(rt, published)?;
-    text(rt, b"\n")?;
-    Ok(next(n))
-}
-
-fn letters(rt: &HostRuntime) -> io::Result<()> {
-    fnv(rt, b"")?;
-    fnv(rt, b"a")?;
-    fnv(rt, b"b")?;
-    fnv(rt, b"c")?;
-    fnv(rt, b"d")?;
-    fnv(rt, b"e")?;
-    fnv(rt, b"f")
-}
-
-fn foobar(rt: &HostRuntime) -> io::Result<()> {
-    fnv(rt, b"fo")?;
-    fnv(rt, b"foo")?;
-    fnv(rt, b"foob")?;
-    fnv(rt, b"fooba")?;
-    fnv(rt, b"foobar")
-}
-
-fn chongo(rt: &HostRuntime) -> io::Result<()> {
-    fnv(rt, b"ch")?;
-    fnv(rt, b"cho")?;
-    fnv(rt, b"chon")?;
-    fnv(rt, b"chong")?;
-    fnv(rt, b"chongo")?;
-    fnv(rt, b"chongo ")?;
-    fnv(rt, b"chongo was here!")?;
-    fnv(rt, b"chongo was here!\n")
-}
-
-fn seed_1234567(rt: &HostRuntime) -> io::Result<()> {
-    let mut n = in_decimal(rt, 1234567, 6457827717110365317)?;
-    n = in_decimal(rt, n, 3203168211198807973)?;
-    n = in_decimal(rt, n, 9817491932198370423)?;
-    n = in_decimal(rt, n, 4593380528125082431)?;
-    in_decimal(rt, n, 16408922859458223821)?;
+fn fnv(rt: &HostRuntime, cases: &[&str]) -> io::Result<()> {
+    for s in cases {
+        println!(rt; "{} FNV-1a 64 of \"{s}\"", Hex(hash::fnv(s.as_bytes())))?;
+    }
     Ok(())
 }
 
-fn seed_0(rt: &HostRuntime) -> io::Result<()> {
-    let mut m = in_hex(rt, 0, 0xe220_a839_7b1d_cdaf)?;
-    m = in_hex(rt, m, 0x6e78_9e6a_a1b9_65f4)?;
-    m = in_hex(rt, m, 0x06c4_5d18_8009_454f)?;
-    m = in_hex(rt, m, 0xf88b_b8a8_724c_81ec)?;
-    in_hex(rt, m, 0x1b39_896a_51a8_749b)?;
+// The outputs of SplitMix64 from the seed on, and the inverse of each published one; T says how numbers are printed.
+fn outputs<T: Display + From<u64> + Drop>(
+    rt: &HostRuntime,
+    seed: u64,
+    published: &[u64],
+) -> io::Result<()> {
+    let mut n = seed;
+    for p in published {
+        println!(rt; "{} S of {}", T::from(hash::mix(n)), T::from(n))?;
+        println!(rt; "{} inverse of {}", T::from(hash::unmix(*p)), T::from(*p))?;
+        n = std::num::wrapping_add_u64(n, 0x9e37_79b9_7f4a_7c15);
+    }
     Ok(())
 }
 
 fn main(rt: HostRuntime) -> io::Result<()> {
-    letters(&rt)?;
-    foobar(&rt)?;
-    chongo(&rt)?;
-    seed_1234567(&rt)?;
-    seed_0(&rt)
+    fnv(&rt, &["", "a", "b", "c", "d", "e", "f"])?;
+    fnv(&rt, &["fo", "foo", "foob", "fooba", "foobar"])?;
+    fnv(
+        &rt,
+        &[
+            "ch",
+            "cho",
+            "chon",
+            "chong",
+            "chongo",
+            "chongo ",
+            "chongo was here!",
+            "chongo was here!\n",
+        ],
+    )?;
+    outputs::<u64>(
+        &rt,
+        1234567,
+        &[
+            6457827717110365317,
+            3203168211198807973,
+            9817491932198370423,
+            4593380528125082431,
+            16408922859458223821,
+        ],
+    )?;
+    outputs::<Hex>(
+        &rt,
+        0,
+        &[
+            0xe220_a839_7b1d_cdaf,
+            0x6e78_9e6a_a1b9_65f4,
+            0x06c4_5d18_8009_454f,
+            0xf88b_b8a8_724c_81ec,
+            0x1b39_896a_51a8_749b,
+        ],
+    )
 }

@@ -4,7 +4,7 @@
 use Prim.Native.Nat.{ℕ, ◌-◌, ◌/◌, ◌^◌, ◌<◌}
 use native.Mathlib.Nat.{mod-lt}
 use mathlib.Core.Path.{◌≡◌, refl, sym, ap, ap₂, ◌∙◌, subst⁻¹}
-use mathlib.Core.Bool.{Bool, true, false}
+use mathlib.Core.Bool.{true}
 use mathlib.Core.Option.{Option, none, some}
 use mathlib.Core.List.{List}
 use lib.Dec.{ltb}
@@ -19,7 +19,8 @@ use Rattle.lists.proofs.Totals.{less_more}
 use Rattle.gf2.specs.Vectors.{Clear}
 use Rattle.identifier.specs.Place.{thresholds}
 use Rattle.bucket.specs.declared.Bucket.{Bucket}
-use Rattle.bucket.specs.Bucket.{empty_bucket, lookup, live, row_of, tried, change_at, change, withdraw}
+use Rattle.bucket.specs.Bucket.{empty_bucket, lookup, live, row_of, change_at, change, changed as with_plan, without}
+use Rattle.std.specs.Prelude.{Option as Optional, Some, None, option_map, unwrap_or}
 use Rattle.bucket.proofs.Answers.{answers-combined, row-live, plan_forgotten}
 use Rattle.bucket_settle.specs.Settle.{plan_of}
 use Rattle.table.specs.Table.{Table, with_first, with_second, with_base, with_count, with_totals, thr, index, second, put, nth, bucket_of, holds, plan_in, changed_in, withdrawn_from}
@@ -91,34 +92,34 @@ module _ (n r : ℕ) (S : ℕ → ℕ) (bs : List Bucket) (h : SoundLevel n r S 
 
   -- the level with another plan for v
   abbrev changed : List Bucket
-  changed = put S bs v (change n v p here).bucket
+  changed = put S bs v (with_plan n v p here)
 
   same_index : index S (length changed) v ≡ index S (length bs) v
-  same_index = ap (λ (m : ℕ). index S m v) (length-set bs (index S (length bs) v) (change n v p here).bucket)
+  same_index = ap (λ (m : ℕ). index S m v) (length-set bs (index S (length bs) v) (with_plan n v p here))
 
-  changed-here : bucket_of n r S changed v ≡ (change n v p here).bucket
+  changed-here : bucket_of n r S changed v ≡ (with_plan n v p here)
   changed-here =
-      ap (nth n r changed) same_index ∙ get_or-set_same bs (index S (length bs) v) (change n v p here).bucket (empty_bucket n r) (index_lt n r S bs h v)
+      ap (nth n r changed) same_index ∙ get_or-set_same bs (index S (length bs) v) (with_plan n v p here) (empty_bucket n r) (index_lt n r S bs h v)
 
-  same-bound : (change n v p here).bucket.bound ≡ here.bound
+  same-bound : (with_plan n v p here).bound ≡ here.bound
   unfolding change change_at
-  same-bound = go (live n v here)
+  same-bound = go (row_of n v here)
     where
-      go : (t : Bool) → (tried t (change_at (row_of n v here) v p here) here).bucket.bound ≡ here.bound
-      go true = refl
-      go false = refl
+      go : (o : Optional ℕ) → (unwrap_or (option_map (λ i. change_at i v p here) o) here).bound ≡ here.bound
+      go None = refl
+      go (Some i) = refl
 
   still_held : holds n r S changed v ≡ holds n r S bs v
   still_held = ap (λ (b : Bucket). ltb (thr S v) b.bound) changed-here ∙ ap (ltb (thr S v)) same-bound
 
-  level_forgotten : put S changed v (withdraw n v (bucket_of n r S changed v)).bucket ≡ put S bs v (withdraw n v here).bucket
+  level_forgotten : put S changed v (without n v (bucket_of n r S changed v)) ≡ put S bs v (without n v here)
   level_forgotten =
       let s = h.buckets (index S (length bs) v) (index_lt n r S bs h v) in
-      let same : (withdraw n v (bucket_of n r S changed v)).bucket ≡ (withdraw n v here).bucket =
-      ap (λ (b : Bucket). (withdraw n v b).bucket) changed-here
+      let same : (without n v (bucket_of n r S changed v)) ≡ (without n v here) =
+      ap (λ (b : Bucket). without n v b) changed-here
       ∙ plan_forgotten n here v p s.sound.inverse.cols s.sound.inverse.cols_lt (live_of n v q here e) (subst⁻¹ (λ (m : ℕ). p < 2 ^ m) s.wide hp) in
       ap₂ (λ (i : ℕ) (b : Bucket). set changed i b) same_index same
-      ∙ set-set bs (index S (length bs) v) (change n v p here).bucket (withdraw n v here).bucket
+      ∙ set-set bs (index S (length bs) v) (with_plan n v p here) (without n v here)
 
 module _ (n r : ℕ) (S U : ℕ → ℕ) (T : Table) (h : SoundTable n r S U T) (w p q : ℕ) (hp : p < 2 ^ r) (e : plan_in n r S T w ≡ some q) where
   abbrev v : ℕ

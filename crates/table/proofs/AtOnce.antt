@@ -7,7 +7,7 @@ use mathlib.Core.List.{List, [], ◌∷◌, ◌++◌, map}
 use lib.Dec.{ltb}
 use Rattle.lists.specs.Entries.{Entry, words, insert, insert_all}
 use Rattle.bucket.specs.declared.Bucket.{Bucket}
-use Rattle.bucket.specs.declared.Tried.{Tried}
+use Rattle.std.specs.Prelude.{Option, Some, None, option_map, unwrap_or}
 use Rattle.bucket.specs.Bucket.{add}
 use Rattle.bucket_settle.specs.Settle.{leaving, withdraw_all, at_bound, lowered, Settlement, ahead, or_else, settle}
 use Rattle.table.specs.Table.{Table, with_first, with_second, with_base, with_one, Placed, thr, on_second, put, bucket_of, arrive_at, arrive_all, added_to}
@@ -35,17 +35,22 @@ module _ {X : Type 0} (go : X → Entry → X) where
     abbrev done : X → Settlement → Bucket × X
     done x s = (s.bucket, hand_all x s.out)
 
+    -- the bucket after an add, if there is one, or what follows
+    by_add : (x : X) (s : Settlement) (o : Option Bucket) → unwrap_or (option_map (λ c. (c, x)) o) (done x s) ≡ done x (or_else o s)
+    by_add x s None = refl
+    by_add x s (Some c) = refl
+
     enter_law : (e : Entry) (t : ℕ) (b : Bucket) (x : X) → enter n thr go e t b x ≡ done x (settle n thr e t b)
     enter_law e zero b x = refl
     enter_law e (suc t) b x =
         let es : List Entry = leaving n thr t b in
         let rest : Settlement = settle n thr e t (lowered n thr t b) in
         let c : Bool = ltb (thr e.word) (suc t) in
-        let a : Tried = add n e.word e.plan b in
-        ap (λ (q : Bucket × X). cond c (cond a.done (a.bucket, x) q) (b, go x e))
+        let a : Option Bucket = add n e.word e.plan b in
+        ap (λ (q : Bucket × X). cond c (unwrap_or (option_map (λ d. (d, x)) a) q) (b, go x e))
         (ap (λ (l : Bucket × X). enter n thr go e t (at_bound t l.0) l.1) (leave_law es b x) ∙ enter_law e t (lowered n thr t b) (hand_all x es)
         ∙ ap (λ (y : X). (rest.bucket, y)) (sym (hand_append x es rest.out)))
-        ∙ ap (λ (q : Bucket × X). cond c q (b, go x e)) (cond_map (done x) a.done (record { bucket = a.bucket; out = [] }) (ahead es rest))
+        ∙ ap (λ (q : Bucket × X). cond c q (b, go x e)) (by_add x (ahead es rest) a)
         ∙ cond_map (done x) c (or_else a (ahead es rest)) (record { bucket = b; out = e ∷ [] })
 
   module _ (n r : ℕ) (S : ℕ → ℕ) where

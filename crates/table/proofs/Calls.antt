@@ -10,6 +10,8 @@ use mathlib.Core.List.{List, Permᴰ}
 use lib.Dec.{ltb, leb}
 use lib.ListN.{length, get_or}
 use borrow.Author.Tests.{eqb-true, eq-eqb, leb-true, le-leb, ltb-false}
+use Rattle.std.specs.Prelude.{Ok, Err}
+use Rattle.answer.specs.Numbers.{Answer}
 use Rattle.lists.specs.Entries.{Entry, assignable, find, update, remove}
 use Rattle.lists.specs.Totals.{plan_count}
 use Rattle.lists.proofs.Tests.{cond_true, and_one, and_two, and_both}
@@ -17,10 +19,8 @@ use Rattle.lists.proofs.Entries.{assignable_byte, update_found}
 use Rattle.lists.proofs.Totals.{totals_length, totals-at}
 use Rattle.hash.specs.Mix.{mix_of, unmix_of}
 use Rattle.hash.proofs.Inverse.{mix_lt, unmix_lt, unmix_mix, mix_unmix}
-use Rattle.answer.specs.declared.Answer.TheVariants.{Accepted, Full}
+use Rattle.answer.specs.declared.Cause.TheVariants.{Full}
 use Rattle.identifier.specs.Identifier.{Token}
-use Rattle.identifier.specs.declared.Read.{Read}
-use Rattle.identifier.specs.declared.Read.TheVariants.{Word, Refused}
 use Rattle.bucket.specs.declared.Bucket.{Bucket}
 use Rattle.model.specs.Levels.{first_level, second_level}
 use Rattle.model.specs.Model as M
@@ -131,11 +131,11 @@ module _ (t : List ℕ) (s : State) (h : FlatStands t s) where
   stands_look w l = look rows solutions mix_of keeps one T₀ s h.stands w l
 
   -- the total of a plan is the number of live words with it
-  pub stands_total : (p : ℕ) → p < total_numbers → total_call t p ≡ Accepted (plan_count p s.live)
+  pub stands_total : (p : ℕ) → p < total_numbers → total_call t p ≡ Ok (plan_count p s.live)
   unfolding total_call
   stands_total p l =
       cond_true _ _ h.shape
-      ∙ ap Accepted (sym (total_read rows solutions t p l) ∙ ap (λ (ts : List ℕ). get_or ts p 0) h.stands.totalled ∙ totals-at total_numbers s.live p l)
+      ∙ ap Ok (sym (total_read rows solutions t p l) ∙ ap (λ (ts : List ℕ). get_or ts p 0) h.stands.totalled ∙ totals-at total_numbers s.live p l)
 
   -- its occupied rows and base entries are the live words
   pub stands_entries : Permᴰ (entries_of rows unmix_of T₀) s.live
@@ -165,12 +165,12 @@ module _ (t : List ℕ) (s : State) (h : FlatStands t s) where
         let t' : State = would_leave first_level second_level s e in
         by_plan (joined t u) (step_add first_level second_level s e)
         (λ f.
-        subst⁻¹ (λ (k : ℕ). Match (cond (ltb base_limit k) (turned_down Full t) (record { answer = Accepted u.count; table = numbers_of u })) (M.unless_full first_level second_level s t'))
+        subst⁻¹ (λ (k : ℕ). Match (cond (ltb base_limit k) (turned_down Full t) (record { answer = Ok u.count; table = numbers_of u })) (M.unless_full first_level second_level s t'))
         (based_length rows solutions mix_of keeps one T₀ s h.stands e fits a f)
         (match_test (ltb base_limit (length (base first_level second_level t'))) (λ b. record { says = refl; stands = h })
         (λ b.
         let k = add_stands rows solutions mix_of keeps one T₀ s h.stands e fits a f (ltb-false base_limit _ b) in
-        record { says = ap Accepted k.counted; stands = numbers_stand u t' k range })))
+        record { says = ap Ok k.counted; stands = numbers_stand u t' k range })))
         (λ q f. record { says = refl; stands = h })
 
     -- the causes 15, 1, 2, 14, 4 and 5 are not met
@@ -182,7 +182,7 @@ module _ (t : List ℕ) (s : State) (h : FlatStands t s) where
     served_match (query i) k = by_plan (queried t) (step_live s s.live) (λ e. record { says = refl; stands = h }) (λ q e. record { says = refl; stands = h })
 
   -- the table that an accepted change leaves
-  module _ (id : Token) (w p q : ℕ) (e : word_for (change id p) ≡ Word w) (k : plan_in t w ≡ some q) where
+  module _ (id : Token) (w p q : ℕ) (e : word_for (change id p) ≡ Ok w) (k : plan_in t w ≡ some q) where
     abbrev changed : Table
     changed = changed_in rows solutions mix_of T₀ w p q
 
@@ -210,9 +210,9 @@ module _ (t : List ℕ) (s : State) (h : FlatStands t s) where
   unfolding call
   call_match c = go (word_for c) refl
     where
-      go : (x : Read) → word_for c ≡ x → Match (call_read t c x) (serve_read s c x)
-      go (Refused a) e = record { says = refl; stands = h }
-      go (Word w) e =
+      go : (x : Answer) → word_for c ≡ x → Match (call_read t c x) (serve_read s c x)
+      go (Err a) e = record { says = refl; stands = h }
+      go (Ok w) e =
           subst⁻¹ (λ (o : Outcome). Match o (step first_level second_level s (ask_of w c))) (cond_true _ _ h.shape ∙ cond_true _ _ stands_test)
           (served_match w (word_small c w e) c (word_plan c w e))
 

@@ -9,20 +9,19 @@ use mathlib.Core.List.{List, [], ◌∷◌, ◌++◌}
 use lib.Dec.{eqb, ltb, leb, lit<}
 use lib.ListN.{length, get_or}
 use borrow.Author.Tests.{ltb-true, lt-ltb, leb-false, lt-leb, eqb-false, ne_eqb}
+use Rattle.std.specs.Prelude.{Ok, Err}
 use Rattle.lists.specs.Entries.{Entry, assignable, find, update, remove}
 use Rattle.lists.proofs.Entries.{insert-length, none≢some}
 use Rattle.lists.proofs.Tests.{by_test, cases, cond_true}
 use Rattle.hash.specs.Mix.{mix_of}
-use Rattle.answer.specs.declared.Answer.{Answer}
-use Rattle.answer.specs.declared.Answer.TheVariants.{WrongTable, NotSound, DeskPlanGiven}
-use Rattle.answer.specs.Numbers.{number_of, value_of}
+use Rattle.answer.specs.declared.Cause.TheVariants.{WrongTable, NotSound, DeskPlanGiven}
+use Rattle.answer.specs.Numbers.{Answer, cause_number, number_of, value_of}
 use Rattle.answer.specs.Causes.{Cause, InOrder, Apart, Exactly}
+use Rattle.answer.proofs.Determined.{refused≢accepted}
 use Rattle.answer.proofs.Causes.{One, OneEach, one_value, one_if, Given, exactly, unless_met, if_met, test_apart}
 use Rattle.identifier.specs.Identifier.{one_of, Token, word_of, read_of, with_plan}
-use Rattle.identifier.specs.Causes.{wrong_length, wrong_byte, id_causes, word_answer}
-use Rattle.identifier.specs.declared.Read.{Read}
-use Rattle.identifier.specs.declared.Read.TheVariants.{Word, Refused}
-use Rattle.identifier.proofs.Causes.{OfIdentifier, of_identifier, refused≢word, by_reading, one_identifier, identifier_given}
+use Rattle.identifier.specs.Causes.{wrong_length, wrong_byte, id_causes}
+use Rattle.identifier.proofs.Causes.{OfIdentifier, of_identifier, by_reading, one_identifier, identifier_given}
 use Rattle.identifier.proofs.Words.{word_lt}
 use Rattle.model.specs.Levels.{first_level, second_level}
 use Rattle.model.specs.Model as M
@@ -56,7 +55,7 @@ unsound_exactly t k b =
     (λ f h. true≢false (sym (e.1 h) ∙ f), λ f. cases (sound t) (λ h. absurd (f (e.0 h))) (λ h. h))
 
 -- causes 4 and 5 of a call that makes these two tests: x is what it does with a sound table
-pub table_given : (t : List ℕ) → ((i : ℕ) → get_or t i 0 < 2 ^ rows) → {A : Type 0} (answer : A → Answer) (x y z : A) → answer y ≡ NotSound → answer z ≡ WrongTable (length t)
+pub table_given : (t : List ℕ) → ((i : ℕ) → get_or t i 0 < 2 ^ rows) → {A : Type 0} (answer : A → Answer) (x y z : A) → answer y ≡ Err NotSound → answer z ≡ Err (WrongTable (length t))
     → (cs : List Cause) (returns : ℕ → Type 0) → (shaped t ≡ true → FlatSound t → Given cs returns (answer x))
     → Given (wrong_table t ∷ not_sound t ∷ cs) returns (answer (cond (shaped t) (cond (sound t) x y) z))
 table_given t b answer x y z five four cs returns g =
@@ -145,13 +144,13 @@ module _ (t : List ℕ) where
   step_given (withdraw i) = live_given i (remove (word_of i) (flat_state t).live) (find (word_of i) (flat_state t).live) refl
   step_given (query i) = live_given i (flat_state t).live (find (word_of i) (flat_state t).live) refl
 
-  given_14 : (c : Call Token) (p w : ℕ) (cs : List Cause) → (assignable p ≡ true → Given cs (call_returns t c) (call_read t c (Word w)).answer)
-      → Given (wrong_plan p ∷ cs) (call_returns t c) (call_read t c (cond (assignable p) (Word w) (Refused DeskPlanGiven))).answer
-  given_14 c p w cs g = unless_met (λ (r : Read). (call_read t c r).answer) 14 _ 0 cs (call_returns t c) (assignable p) (Word w) (Refused DeskPlanGiven) (λ e. e, λ e. e) (refl, refl) g
+  given_14 : (c : Call Token) (p w : ℕ) (cs : List Cause) → (assignable p ≡ true → Given cs (call_returns t c) (call_read t c (Ok w)).answer)
+      → Given (wrong_plan p ∷ cs) (call_returns t c) (call_read t c (cond (assignable p) (Ok w) (Err DeskPlanGiven))).answer
+  given_14 c p w cs g = unless_met (λ (r : Answer). (call_read t c r).answer) 14 _ 0 cs (call_returns t c) (assignable p) (Ok w) (Err DeskPlanGiven) (λ e. e, λ e. e) (refl, refl) g
 
   -- cause 14, before the causes cs
-  plan_given : (c : Call Token) (w : ℕ) (cs : List Cause) → (plan_allowed c ≡ true → Given cs (call_returns t c) (call_read t c (Word w)).answer)
-      → Given (plan_causes c ++ cs) (call_returns t c) (call_read t c (with_plan (plan_allowed c) (Word w))).answer
+  plan_given : (c : Call Token) (w : ℕ) (cs : List Cause) → (plan_allowed c ≡ true → Given cs (call_returns t c) (call_read t c (Ok w)).answer)
+      → Given (plan_causes c ++ cs) (call_returns t c) (call_read t c (with_plan (plan_allowed c) (Ok w))).answer
   plan_given (add i p) w cs g = given_14 (add i p) p w cs g
   plan_given (change i p) w cs g = given_14 (change i p) p w cs g
   plan_given (withdraw i) w cs g = g refl
@@ -165,7 +164,7 @@ module _ (t : List ℕ) where
         (served_match t (flat_state t) (sound_stands_flat t k h) (word_of (subject c)) (word_lt (subject c)) c f).says (step_given c)
 
     -- the causes cs after those of the identifier and 14
-    by_read : (cs : List Cause) → OneEach cs (call_returns t c) → (plan_allowed c ≡ true → Given cs (call_returns t c) (call_read t c (Word (word_of (subject c)))).answer)
+    by_read : (cs : List Cause) → OneEach cs (call_returns t c) → (plan_allowed c ≡ true → Given cs (call_returns t c) (call_read t c (Ok (word_of (subject c)))).answer)
         → Exactly (id_causes (subject c) ++ (plan_causes c ++ cs)) (call_returns t c) (call t c).answer
     unfolding call
     by_read cs o g =
@@ -214,29 +213,29 @@ module _ (t : List ℕ) (n : ℕ) (l : one_of from_table n ≡ false) where
   other-served (withdraw w) = other_by (replaced t _) (other 7 refl) (λ q. other 0 refl) (plan_in t w)
   other-served (query w) = other_by (queried t) (other 7 refl) (λ q. other 0 refl) (plan_in t w)
 
-  other_word : (c : Call Token) (w : ℕ) → Other (call_read t c (Word w))
+  other_word : (c : Call Token) (w : ℕ) → Other (call_read t c (Ok w))
   other_word c w = by_test Other (shaped t) (λ k. by_test Other (sound t) (λ h. other-served (ask_of w c)) (λ h. other 5 refl)) (λ k. other 4 refl)
 
 module _ (t : List ℕ) (c : Call Token) where
   -- a call gives a cause of its identifier exactly if reading that gives it
   pub as_read : (n v : ℕ) → OfIdentifier n
-      → ((number_of (call t c).answer ≡ n) × (value_of (call t c).answer ≡ v)) ↔ ((number_of (word_answer (read_of (subject c))) ≡ n) × (value_of (word_answer (read_of (subject c))) ≡ v))
+      → ((number_of (call t c).answer ≡ n) × (value_of (call t c).answer ≡ v)) ↔ ((number_of (read_of (subject c)) ≡ n) × (value_of (read_of (subject c)) ≡ v))
   unfolding call
   as_read n v o =
       let l : one_of from_table n ≡ false = of_identifier (one_of from_table) n refl refl refl o in
       by_reading (subject c)
-      (λ r. ((number_of (call_read t c (with_plan (plan_allowed c) r)).answer ≡ n) × (value_of (call_read t c (with_plan (plan_allowed c) r)).answer ≡ v)) ↔ ((number_of (word_answer r) ≡ n) × (value_of (word_answer r) ≡ v)))
+      (λ r. ((number_of (call_read t c (with_plan (plan_allowed c) r)).answer ≡ n) × (value_of (call_read t c (with_plan (plan_allowed c) r)).answer ≡ v)) ↔ ((number_of r ≡ n) × (value_of r ≡ v)))
       (λ a k. (λ e. e, λ e. e)) (
-        λ e. absurd (by_test (λ (r : Read). Other t n l (call_read t c r)) (plan_allowed c) (λ a. other_word t n l c (word_of (subject c))) (λ a. eqb-false 14 n (of_identifier (eqb 14) n refl refl refl o)) e.0),
+        λ e. absurd (by_test (λ (r : Answer). Other t n l (call_read t c r)) (plan_allowed c) (λ a. other_word t n l c (word_of (subject c))) (λ a. eqb-false 14 n (of_identifier (eqb 14) n refl refl refl o)) e.0),
         λ e. absurd (other t n l 0 refl e.0),
       )
 
-  pub cause_14 : (number_of (call t c).answer ≡ 14) ↔ ((read_of (subject c) ≡ Word (word_of (subject c))) × (plan_allowed c ≡ false))
+  pub cause_14 : (number_of (call t c).answer ≡ 14) ↔ ((read_of (subject c) ≡ Ok (word_of (subject c))) × (plan_allowed c ≡ false))
   unfolding call
   cause_14 =
       let i : Token = subject c in
-      by_reading i (λ r. (number_of (call_read t c (with_plan (plan_allowed c) r)).answer ≡ 14) ↔ ((r ≡ Word (word_of i)) × (plan_allowed c ≡ false)))
-      (λ a o. (λ e. absurd (eqb-false (number_of a) 14 (of_identifier (λ k. eqb k 14) (number_of a) refl refl refl o) e), λ q. absurd (refused≢word _ _ q.0)))
+      by_reading i (λ r. (number_of (call_read t c (with_plan (plan_allowed c) r)).answer ≡ 14) ↔ ((r ≡ Ok (word_of i)) × (plan_allowed c ≡ false)))
+      (λ f o. (λ e. absurd (eqb-false (cause_number f) 14 (of_identifier (λ k. eqb k 14) (cause_number f) refl refl refl o) e), λ q. absurd (refused≢accepted _ _ q.0)))
       (cases (plan_allowed c)
       (λ a. rw a (λ e. absurd (other_word t 14 refl c (word_of i) e), λ q. absurd (true≢false q.1)))
       (λ a. rw a (λ e. (refl, refl), λ q. refl)))

@@ -10,12 +10,11 @@ use mathlib.Core.List.{List, [], ◌∷◌}
 use lib.Dec.{eqb, ltb}
 use lib.ListN.{length}
 use borrow.Author.Tests.{eqb-true}
+use Rattle.std.specs.Prelude.{Ok, Err}
+use Rattle.answer.specs.Numbers.{Answer}
 use Rattle.lists.proofs.Tests.{by_test}
 use Rattle.hash.specs.Mix.{mix_of}
-use Rattle.answer.specs.declared.Answer.TheVariants.{Accepted}
 use Rattle.identifier.specs.Identifier.{Token, word_of}
-use Rattle.identifier.specs.declared.Read.{Read}
-use Rattle.identifier.specs.declared.Read.TheVariants.{Word, Refused}
 use Rattle.model.specs.Levels.{first_level, second_level}
 use Rattle.model.specs.Model as M
 use Rattle.model.specs.Model.{base_limit, State, Call, add, change, withdraw, query, opened, base, step}
@@ -40,11 +39,11 @@ compares = record { one = λ t u s q e h g. sym (stands_shows t s h) ∙ e ∙ s
 
 -- ---- opening
 
-pub open_cases : (b1 b2 : ℕ) (t : List ℕ) → (open_call b1 b2 t).answer ≡ Accepted 0
+pub open_cases : (b1 b2 : ℕ) (t : List ℕ) → (open_call b1 b2 t).answer ≡ Ok 0
     → (in_range b1 b2 ≡ true) × ((open_call b1 b2 t).table ≡ numbers_of (open_table rows solutions b1 b2)) × (length t ≡ length_of rows solutions b1 b2)
 unfolding open_call
 open_cases b1 b2 t =
-    let Fits : Outcome → Type 0 = (λ o. o.answer ≡ Accepted 0 → (in_range b1 b2 ≡ true) × (o.table ≡ numbers_of (open_table rows solutions b1 b2)) × (length t ≡ length_of rows solutions b1 b2)) in
+    let Fits : Outcome → Type 0 = (λ o. o.answer ≡ Ok 0 → (in_range b1 b2 ≡ true) × (o.table ≡ numbers_of (open_table rows solutions b1 b2)) × (length t ≡ length_of rows solutions b1 b2)) in
     by_test Fits (in_range b1 b2)
     (λ r. by_test Fits (eqb (length t) (length_of rows solutions b1 b2)) (λ q a. (r, refl, eqb-true _ _ q)) (λ q a. let z : ◌≡◌ {A = ℕ} 0 1 = cc in absurd (omega arith)))
     (λ r a. let z : ◌≡◌ {A = ℕ} 0 1 = cc in absurd (omega arith))
@@ -90,9 +89,9 @@ module _ (t : List ℕ) where
   unfolding call
   request_refused (ask c) = go (word_for c)
     where
-      go : (x : Read) → Kept (call_read t c x)
-      go (Refused a) = λ r. refl
-      go (Word w) = by_test Kept (shaped t) (λ k. by_test Kept (sound t) (λ h. kept-served w c) (λ h r. refl)) (λ k r. refl)
+      go : (x : Answer) → Kept (call_read t c x)
+      go (Err e) = λ r. refl
+      go (Ok w) = by_test Kept (shaped t) (λ k. by_test Kept (sound t) (λ h. kept-served w c) (λ h r. refl)) (λ k r. refl)
 
 -- ---- after any list of requests since an accepted opening
 

@@ -22,7 +22,7 @@ use Rattle.gf2.specs.Bound.{Due}
 use Rattle.gf2.proofs.Bound.{fall}
 use Rattle.identifier.specs.Place.{thresholds}
 use Rattle.bucket.specs.declared.Bucket.{Bucket}
-use Rattle.bucket.specs.Bucket.{empty_bucket, change, withdraw}
+use Rattle.bucket.specs.Bucket.{empty_bucket, changed, without}
 use Rattle.bucket_settle.specs.Settle.{plan_of, Settlement, settle}
 use Rattle.bucket_settle.proofs.Hold.{Holds, holds_perm, holds-find, holds-withdraw, withdraw-bound, holds-change, change-bound}
 use Rattle.bucket_settle.proofs.Settling.{held, over, seen, Settles, settle_law}
@@ -249,7 +249,7 @@ module _ (n r : ℕ) (S : ℕ → ℕ) where
     pub sorted : (v q : ℕ) (es : List Entry) → Distinct es → find v es ≡ some q → g v (sort es) ≡ sort (g v es)
 
   module _ (inj : (u v : ℕ) → u < 2 ^ n → v < 2 ^ n → second S u ≡ second S v → u ≡ v) where
-    pub withdraw_edit : Edit (λ v b. (withdraw n v b).bucket) (λ v es. remove v es)
+    pub withdraw_edit : Edit (λ v b. without n v b) (λ v es. remove v es)
     withdraw_edit = record {
       inside = remove_in;
       outside = remove_out;
@@ -259,7 +259,7 @@ module _ (n r : ℕ) (S : ℕ → ℕ) where
       sorted = λ v q es d f. sort-remove v q es d f;
     }
 
-    pub change_edit : (p : ℕ) → p < 2 ^ r → Edit (λ v b. (change n v p b).bucket) (λ v es. update (record { word = v; plan = p }) es)
+    pub change_edit : (p : ℕ) → p < 2 ^ r → Edit (λ v b. changed n v p b) (λ v es. update (record { word = v; plan = p }) es)
     change_edit p hp = record {
       inside = λ P v es t. update_in P (record { word = v; plan = p }) es t;
       outside = λ P v es t. update_out P (record { word = v; plan = p }) es t;

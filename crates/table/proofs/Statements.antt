@@ -11,6 +11,7 @@ use mathlib.Core.List.{List, ◌∷◌, ◌++◌, Permᴰ}
 use lib.Dec.{eqb}
 use lib.ListN.{length, get_or, set, take, drop}
 use borrow.Author.Tests.{eqb-true, eq-eqb, ltb-true}
+use Rattle.std.specs.Prelude.{Ok, Err}
 use Rattle.lists.specs.Lists.{keep}
 use Rattle.lists.specs.Entries.{Entry, plan_limit, desk_plan, assignable, words, find}
 use Rattle.lists.specs.Totals.{plan_count, totals_of, sum_of}
@@ -21,16 +22,13 @@ use Rattle.gf2.specs.Vectors.{Clear}
 use Rattle.gf2.specs.Bound.{Largest}
 use Rattle.hash.specs.Mix.{mix_of, unmix_of}
 use Rattle.hash.proofs.Inverse.{unmix_lt, mix_unmix}
-use Rattle.answer.specs.declared.Answer.{Answer}
-use Rattle.answer.specs.declared.Answer.TheVariants.{Accepted, NotLive, Full}
-use Rattle.answer.specs.Numbers.{number_of, value_of}
+use Rattle.answer.specs.declared.Cause.TheVariants.{NotLive, Full}
+use Rattle.answer.specs.Numbers.{Answer, number_of, value_of}
 use Rattle.answer.specs.Causes.{Cause, NoneMet, InOrder, Apart, Exactly}
 use Rattle.answer.proofs.Causes.{number_exactly, accepted_exactly}
 use Rattle.identifier.specs.Identifier.{Token, word_of, read_of, with_plan}
-use Rattle.identifier.specs.Causes.{wrong_length, wrong_byte, word_answer}
-use Rattle.identifier.specs.declared.Read.{Read}
+use Rattle.identifier.specs.Causes.{wrong_length, wrong_byte}
 use Rattle.identifier.proofs.Causes.{OfIdentifier}
-use Rattle.identifier.specs.declared.Read.TheVariants.{Word}
 use Rattle.bucket.specs.declared.Bucket.{Bucket}
 use Rattle.bucket.specs.Bucket.{lookup}
 use Rattle.bucket_words.specs.Words.{bucket_words, words_of, bucket_from}
@@ -85,7 +83,7 @@ pub lengths : (length_of rows solutions 1 1 ≡ 536) × (longest rows solutions 
 lengths = (refl, refl)
 
 -- opening accepts that length alone
-pub opened-length : (b1 b2 : ℕ) (t : List ℕ) → (open_call b1 b2 t).answer ≡ Accepted 0 → length t ≡ 4 + 256 + 74 * (b1 + b2) + 128
+pub opened-length : (b1 b2 : ℕ) (t : List ℕ) → (open_call b1 b2 t).answer ≡ Ok 0 → length t ≡ 4 + 256 + 74 * (b1 + b2) + 128
 opened-length b1 b2 t e = (History.open_cases b1 b2 t e).2 ∙ length_formula b1 b2
 
 -- of any table whose shape is right
@@ -161,12 +159,12 @@ module _ (t : List ℕ) (b : (i : ℕ) → get_or t i 0 < 2 ^ 64) (c : Call Toke
 
 -- a call gives 15, 1 or 2 exactly if reading its identifier does, whatever the table
 pub as_read : (t : List ℕ) (c : Call Token) (n v : ℕ) → OfIdentifier n
-    → ((number_of (call t c).answer ≡ n) × (value_of (call t c).answer ≡ v)) ↔ ((number_of (word_answer (read_of (subject c))) ≡ n) × (value_of (word_answer (read_of (subject c))) ≡ v))
+    → ((number_of (call t c).answer ≡ n) × (value_of (call t c).answer ≡ v)) ↔ ((number_of (read_of (subject c)) ≡ n) × (value_of (read_of (subject c)) ≡ v))
 as_read = Causes.as_read
 
 -- document 02, order 3, "plan 255 given, after cause 2": 14 exactly if the identifier is one and the plan may not be given, whatever the
 -- table
-pub cause_14 : (t : List ℕ) (c : Call Token) → (number_of (call t c).answer ≡ 14) ↔ ((read_of (subject c) ≡ Word (word_of (subject c))) × (plan_allowed c ≡ false))
+pub cause_14 : (t : List ℕ) (c : Call Token) → (number_of (call t c).answer ≡ 14) ↔ ((read_of (subject c) ≡ Ok (word_of (subject c))) × (plan_allowed c ≡ false))
 cause_14 = Causes.cause_14
 
 -- document 02, order 2, "The question for one plan tests only cause 4 and reads one number": 4 exactly if the shape is wrong, else the number
@@ -182,7 +180,7 @@ pub call_order : (t : List ℕ) (c : Call Token) → InOrder 0 (wrong_length (su
 call_order = Causes.call_order
 
 -- a call that meets none of 15, 1, 2, 14, 4 and 5 does what `served` says
-pub causes_else : (t : List ℕ) (c : Call Token) (w : ℕ) → word_for c ≡ Word w → shaped t ≡ true → sound t ≡ true → call t c ≡ served t (ask_of w c)
+pub causes_else : (t : List ℕ) (c : Call Token) (w : ℕ) → word_for c ≡ Ok w → shaped t ≡ true → sound t ≡ true → call t c ≡ served t (ask_of w c)
 unfolding call
 causes_else t c w e k h = ap (call_read t c) e ∙ cond_true _ _ k ∙ cond_true _ _ h
 
@@ -234,13 +232,13 @@ call_size t k h c =
 
 -- document 02, order 6, "withdrawn cards must leave no plan behind": whatever plan an identifier had, its withdrawal leaves the same numbers,
 -- every one; for any sound table in which it is live, with the plan q, and any plan p that may be given
-pub plan_forgotten : (t : List ℕ) → shaped t ≡ true → FlatSound t → (id : Token) (w p q : ℕ) → read_of id ≡ Word w → assignable p ≡ true → plan_in t w ≡ some q
+pub plan_forgotten : (t : List ℕ) → shaped t ≡ true → FlatSound t → (id : Token) (w p q : ℕ) → read_of id ≡ Ok w → assignable p ≡ true → plan_in t w ≡ some q
     → (call (call t (change id p)).table (withdraw id)).table ≡ (call t (withdraw id)).table
 unfolding served
 plan_forgotten t k h id w p q i a f =
     let s = sound_stands t k h in
-    let for : word_for (change id p) ≡ Word w = ap (with_plan (assignable p)) i ∙ cond_true _ _ a in
-    let leave : word_for (withdraw id) ≡ Word w = ap (with_plan true) i in
+    let for : word_for (change id p) ≡ Ok w = ap (with_plan (assignable p)) i ∙ cond_true _ _ a in
+    let leave : word_for (withdraw id) ≡ Ok w = ap (with_plan true) i in
     let T : Table = table_of t in
     let C : Table = changed_in rows solutions mix_of T w p q in
     let u : List ℕ = numbers_of C in
@@ -278,7 +276,7 @@ module _ (t : List ℕ) (k : shaped t ≡ true) (h : FlatSound t) where
   pub totals : (table_of t).totals ≡ totals_of total_numbers (flat_state t).live
   totals = (sound_stands t k h).stands.totalled
 
-  pub total_exact : (p : ℕ) → p < plan_limit → total_call t p ≡ Accepted (plan_count p (flat_state t).live)
+  pub total_exact : (p : ℕ) → p < plan_limit → total_call t p ≡ Ok (plan_count p (flat_state t).live)
   total_exact = Calls.stands_total t (flat_state t) (sound_stands t k h)
 
   -- the totals sum to the live count
@@ -291,10 +289,10 @@ module _ (t : List ℕ) (k : shaped t ≡ true) (h : FlatSound t) where
   live_given w p e = (sound_stands t k h).stands.given (record { word = w; plan = p }) (find_mem w p (flat_state t).live e)
 
   -- so its total, which may be asked, is 0
-  pub desk_total : total_call t desk_plan ≡ Accepted 0
+  pub desk_total : total_call t desk_plan ≡ Ok 0
   desk_total =
       total_exact desk_plan (omega arith)
-      ∙ ap Accepted (Totals.count_none desk_plan (flat_state t).live (λ e m q. let l = ltb-true e.plan desk_plan ((sound_stands t k h).stands.given e m) in omega arith))
+      ∙ ap Ok (Totals.count_none desk_plan (flat_state t).live (λ e m q. let l = ltb-true e.plan desk_plan ((sound_stands t k h).stands.given e m) in omega arith))
 
   -- document 02, order 6, "In every table row j of Z is 0 for each free row j": of each bucket, first level and second
   pub free_rows_clear : ((i : ℕ) → i < length (table_of t).level1 → Clear (nth rows solutions (table_of t).level1 i).mark (nth rows solutions (table_of t).level1 i).sols)
@@ -311,15 +309,15 @@ module _ (t : List ℕ) (k : shaped t ≡ true) (h : FlatSound t) where
       → Answered rows (λ v. plan_in t (unmix_of (unmix_of v))) (bucket_of rows solutions mix_of (table_of t).level2 v) v (lookup (bucket_of rows solutions mix_of (table_of t).level2 v) v)
   answers-second = Answers.answered_second rows solutions mix_of unmix_of (table_of t) h.table (λ v l. ap mix_of (mix_unmix (unmix_of v) (unmix_lt v)) ∙ mix_unmix v l)
 
-  query_plan : (i : Token) (w : ℕ) → word_for (query i) ≡ Word w → call t (query i) ≡ queried t (find w (flat_state t).live)
+  query_plan : (i : Token) (w : ℕ) → word_for (query i) ≡ Ok w → call t (query i) ≡ queried t (find w (flat_state t).live)
   unfolding served
   query_plan i w e = causes_else t (query i) w e k (stands_sound t _ (sound_stands t k h)).1 ∙ ap (queried t) (live-plans w (word_small (query i) w e))
 
   -- "query the plan", and 7 where the word is not live
-  pub query_live : (i : Token) (w p : ℕ) → word_for (query i) ≡ Word w → find w (flat_state t).live ≡ some p → call t (query i) ≡ record { answer = Accepted p; table = t }
+  pub query_live : (i : Token) (w p : ℕ) → word_for (query i) ≡ Ok w → find w (flat_state t).live ≡ some p → call t (query i) ≡ record { answer = Ok p; table = t }
   query_live i w p e f = query_plan i w e ∙ ap (queried t) f
 
-  pub query_other : (i : Token) (w : ℕ) → word_for (query i) ≡ Word w → find w (flat_state t).live ≡ none → call t (query i) ≡ record { answer = NotLive; table = t }
+  pub query_other : (i : Token) (w : ℕ) → word_for (query i) ≡ Ok w → find w (flat_state t).live ≡ none → call t (query i) ≡ record { answer = Err NotLive; table = t }
   query_other i w e f = query_plan i w e ∙ ap (queried t) f
 
   -- document 02, order 4: a call for another word, accepted or not, leaves what the table has of the word w
@@ -329,7 +327,7 @@ module _ (t : List ℕ) (k : shaped t ≡ true) (h : FlatSound t) where
       Calls.stands_look (call t c).table _ (Calls.call_match t (flat_state t) st c).stands w l ∙ found-other (flat_state t) st.stands.valid w c ne ∙ sym (live-plans w l)
 
   -- so a query for that word gets the same answer after it as before
-  pub other_query : (c : Call Token) (i : Token) (w : ℕ) → word_for (query i) ≡ Word w → (w ≡ word_of (subject c) → ⊥) → (call (call t c).table (query i)).answer ≡ (call t (query i)).answer
+  pub other_query : (c : Call Token) (i : Token) (w : ℕ) → word_for (query i) ≡ Ok w → (w ≡ word_of (subject c) → ⊥) → (call (call t c).table (query i)).answer ≡ (call t (query i)).answer
   unfolding served
   other_query c i w e ne =
       let u : List ℕ = (call t c).table in
@@ -362,11 +360,11 @@ module _ (t : List ℕ) (k : shaped t ≡ true) (h : FlatSound t) where
 
     -- statement 3, the rule of the base list: refused as full exactly when more than 64 words would fall to the base list under the bounds
     -- that the add would so leave
-    pub full_exactly : (w : ℕ) → word_for (add i p) ≡ Word w → find w (flat_state t).live ≡ none
-        → ((call t (add i p)).answer ≡ Full) ↔ (64 < length (base first_level second_level (would_leave first_level second_level (flat_state t) (record { word = w; plan = p }))))
+    pub full_exactly : (w : ℕ) → word_for (add i p) ≡ Ok w → find w (flat_state t).live ≡ none
+        → ((call t (add i p)).answer ≡ Err Full) ↔ (64 < length (base first_level second_level (would_leave first_level second_level (flat_state t) (record { word = w; plan = p }))))
     full_exactly w q f =
-        subst⁻¹ (λ (a : Answer). (a ≡ Full) ↔ (64 < length (base first_level second_level (would_leave first_level second_level (flat_state t) (record { word = w; plan = p })))))
-        ((History.m t k h i p).says ∙ ap (λ (x : Read). (serve_read (flat_state t) (add i p) x).answer) q) (Model.full_exactly first_level second_level (flat_state t) _ f)
+        subst⁻¹ (λ (a : Answer). (a ≡ Err Full) ↔ (64 < length (base first_level second_level (would_leave first_level second_level (flat_state t) (record { word = w; plan = p })))))
+        ((History.m t k h i p).says ∙ ap (λ (x : Answer). (serve_read (flat_state t) (add i p) x).answer) q) (Model.full_exactly first_level second_level (flat_state t) _ f)
 
 -- two sound tables that statement 3 calls equal have equal totals, so they answer each question for one alike
 pub same_totals : (t u : List ℕ) → shaped t ≡ true → FlatSound t → shaped u ≡ true → FlatSound u → Same t u
@@ -374,7 +372,7 @@ pub same_totals : (t u : List ℕ) → shaped t ≡ true → FlatSound t → sha
 same_totals t u k h j g e =
     let live = ap (λ (s : State). s.live) e in (
       totals t k h ∙ ap (totals_of total_numbers) live ∙ sym (totals u j g),
-      λ p l. total_exact t k h p l ∙ ap (λ (es : List Entry). Accepted (plan_count p es)) live ∙ sym (total_exact u j g p l),
+      λ p l. total_exact t k h p l ∙ ap (λ (es : List Entry). Ok (plan_count p es)) live ∙ sym (total_exact u j g p l),
     )
 
 -- ---- "A list of calls": t is what an accepted opening left, ps any requests, refused ones included
@@ -452,18 +450,18 @@ module _ (t : List ℕ) (o : Opened t) (ps : List Request) where
       st.stands.given (record { word = v; plan = p })
       (find_mem v p (after model (opened o.size) ps).live (sym (Calls.stands_look (after tables t ps) _ st v l) ∙ plan v l ∙ e))
 
-  -- so a query of an identifier gives the last accepted plan of its word (`queried`: Accepted), or says that it is not live
-  pub query_tells : (i : Token) (w : ℕ) → word_for (query i) ≡ Word w → call (after tables t ps) (query i) ≡ queried (after tables t ps) (told w (accepted_calls t ps))
+  -- so a query of an identifier gives the last accepted plan of its word (`queried`: Ok), or says that it is not live
+  pub query_tells : (i : Token) (w : ℕ) → word_for (query i) ≡ Ok w → call (after tables t ps) (query i) ≡ queried (after tables t ps) (told w (accepted_calls t ps))
   unfolding served
   query_tells i w e =
       causes_else (after tables t ps) (query i) w e always_sound.0 always_sound.1 ∙ ap (queried (after tables t ps)) (plan w (word_small (query i) w e))
 
   -- document 02, order 2: after any list the question for a plan gets the number of words then live with it, as the model has them
-  pub total_after : (p : ℕ) → p < plan_limit → total_call (after tables t ps) p ≡ Accepted (plan_count p (after model (opened o.size) ps).live)
+  pub total_after : (p : ℕ) → p < plan_limit → total_call (after tables t ps) p ≡ Ok (plan_count p (after model (opened o.size) ps).live)
   total_after = Calls.stands_total (after tables t ps) _ (History.after_stands t o ps)
 
   -- and as the accepted calls tell them
-  pub total_told : (p : ℕ) → p < plan_limit → (k : ℕ) × (total_call (after tables t ps) p ≡ Accepted k) × LiveWith p (accepted_calls t ps) k
+  pub total_told : (p : ℕ) → p < plan_limit → (k : ℕ) × (total_call (after tables t ps) p ≡ Ok k) × LiveWith p (accepted_calls t ps) k
   total_told p l =
       let s = after model (opened o.size) ps in
       let st = History.after_stands t o ps in

@@ -26,7 +26,8 @@ use Rattle.gf2.specs.Vectors.{outside}
 use Rattle.gf2.specs.Select.{elem, chosen}
 use Rattle.gf2.proofs.Chosen.{Row, elem→row}
 use Rattle.gf2.proofs.Clear.{words-clear, clear-words}
-use Rattle.bucket_rows.specs.declared.Rows.{Rows}
+use Rattle.std.specs.Prelude.{Option, Some, None}
+use Rattle.std.specs.Option.{is_some, unwrap_or}
 use Rattle.bucket_rows.specs.Exact.{FoundFree}
 use Rattle.bucket_rows.specs.Elimination.{sound_rows}
 use Rattle.bucket_rows.proofs.Exact.{decides_free, found_is}
@@ -117,36 +118,30 @@ Each n row b = (v : ℕ) → v < 2 ^ n → live n v b ≡ true → row (entry b 
 
 bucket_out : (n r : ℕ) (row : Entry → Bool) (b : Bucket) → Ranged n r b → bucket_test n row b ≡ true → SoundBucket n r b × Each n row b
 unfolding bucket_test
-bucket_out n r row b h t = go (decides_free n b.mark b.cols h.shaped.cols h.cols_lt)
+bucket_out n r row b h t = go (sound_rows n b.mark b.cols) (decides_free n b.mark b.cols h.shaped.cols h.cols_lt) (and_two (clear_test b) _ v)
   where
-    f : Rows
-    f = sound_rows n b.mark b.cols
-
-    v : (clear_test b && (f.ok && all_of row (rows_in n b))) ≡ true
+    v : (clear_test b && (is_some (sound_rows n b.mark b.cols) && all_of row (rows_in n b))) ≡ true
     v = and_two (leb b.bound largest_bound) _ t
 
-    u : (f.ok && all_of row (rows_in n b)) ≡ true
-    u = and_two (clear_test b) _ v
-
-    go : FoundFree n b.mark b.cols f → SoundBucket n r b × Each n row b
-    go (inl k) =
-        let sound : Sound n f.rows b = record {
-          inverse = k.1.inverse;
-          free = k.1.free;
+    go : (f : Option (List ℕ)) → FoundFree n b.mark b.cols f → (is_some f && all_of row (listed b (chosen b.mark (unwrap_or f b.cols)))) ≡ true → SoundBucket n r b × Each n row b
+    go None k u = absurd (true≢false (sym u))
+    go (Some K) k u =
+        let sound : Sound n K b = record {
+          inverse = k.inverse;
+          free = k.free;
           mark_lt = h.mark_lt;
           clear = words-clear b.mark b.sols (zeros_out (λ s. outside s b.mark) refl b.sols (and_one (clear_test b) _ v));
         } in (
-          record { matrix = f.rows; sound = sound; wide = h.shaped.sols; low = leb-true b.bound largest_bound (and_one (leb b.bound largest_bound) _ t) },
-          λ v l e. elem_out (λ k. row (entry b k)) (chosen b.mark f.rows) (sym (all_listed row b (chosen b.mark f.rows)) ∙ and_two f.ok _ u) v (sym (live_test n f.rows b sound v l) ∙ e),
+          record { matrix = K; sound = sound; wide = h.shaped.sols; low = leb-true b.bound largest_bound (and_one (leb b.bound largest_bound) _ t) },
+          λ v l e. elem_out (λ k. row (entry b k)) (chosen b.mark K) (sym (all_listed row b (chosen b.mark K)) ∙ u) v (sym (live_test n K b sound v l) ∙ e),
         )
-    go (inr k) = absurd (true≢false (sym (and_one f.ok _ u) ∙ k.0))
 
 bucket_in : (n r : ℕ) (row : Entry → Bool) (b : Bucket) → SoundBucket n r b → Each n row b → bucket_test n row b ≡ true
 unfolding bucket_test Row
 bucket_in n r row b h each =
     and_both (le-leb b.bound largest_bound h.low)
     (and_both (zeros_in (λ s. outside s b.mark) b.sols (clear-words b.mark b.sols h.sound.clear))
-    (subst⁻¹ (λ (f : Rows). (f.ok && all_of row (listed b (chosen b.mark f.rows))) ≡ true)
+    (subst⁻¹ (λ (f : Option (List ℕ)). (is_some f && all_of row (listed b (chosen b.mark (unwrap_or f b.cols)))) ≡ true)
     (found_is n b.mark b.cols h.matrix (record { inverse = h.sound.inverse; free = h.sound.free }))
     (all_listed row b (chosen b.mark h.matrix) ∙ elem_in (λ k. row (entry b k)) (chosen b.mark h.matrix) (λ v m.
     let q = elem→row v b.mark h.matrix m in
@@ -180,7 +175,7 @@ level_in n r row i (b ∷ bs) h =
 -- the rows found are those of K
 rows_perm : (n r : ℕ) (b : Bucket) → SoundBucket n r b → Permᴰ (contents n b) (rows_in n b)
 rows_perm n r b h =
-    subst⁻¹ (λ (f : Rows). Permᴰ (contents n b) (listed b (chosen b.mark f.rows)))
+    subst⁻¹ (λ (f : Option (List ℕ)). Permᴰ (contents n b) (listed b (chosen b.mark (unwrap_or f b.cols))))
     (found_is n b.mark b.cols h.matrix (record { inverse = h.sound.inverse; free = h.sound.free })) (rows_of (sound-listed h))
 
 found_perm : (n r : ℕ) (bs : List Bucket) → ((j : ℕ) → j < length bs → SoundBucket n r (nth n r bs j)) → Permᴰ (all_rows n bs) (rows_found n bs)

@@ -1,11 +1,10 @@
 -- An add in document 01's own order: each word that leaves a bucket is withdrawn and goes on at once. (Table's `added_to` hands the words on
 -- once the level is done; proofs/AtOnce.antt shows that the tables are the same.)
 -- Assumes nothing.
-use Rattle.std.specs.Prelude.{ℕ, zero, suc, cond, List, [], ◌∷◌, ltb}
+use Rattle.std.specs.Prelude.{ℕ, zero, suc, cond, List, [], ◌∷◌, ltb, option_map, unwrap_or}
 use Rattle.lists.specs.Entries.{Entry, insert}
 use Rattle.bucket.specs.declared.Bucket.{Bucket}
-use Rattle.bucket.specs.declared.Tried.{Tried}
-use Rattle.bucket.specs.Bucket.{add, withdraw}
+use Rattle.bucket.specs.Bucket.{add, without}
 use Rattle.bucket_settle.specs.Settle.{leaving, at_bound}
 use Rattle.table.specs.Table.{Table, with_first, with_second, with_base, with_one, thr, on_second, put, bucket_of}
 
@@ -14,16 +13,15 @@ module _ (n : ℕ) (thr : ℕ → ℕ) {X : Type 0} (go : X → Entry → X) whe
   -- these words leave, each withdrawn and added one level further
   abbrev pub leave_all : List Entry → Bucket → X → Bucket × X
   leave_all [] b x = (b, x)
-  leave_all (e ∷ es) b x = leave_all es (withdraw n e.word b).bucket (go x e)
+  leave_all (e ∷ es) b x = leave_all es (without n e.word b) (go x e)
 
   -- The word e comes to the bucket b, whose bound is the number after e. While e depends there, the bound falls by one, and the words
   -- whose threshold equals the new bound leave. If e's threshold is not below the bound, e goes on last.
   abbrev pub enter : Entry → ℕ → Bucket → X → Bucket × X
   enter e zero b x = (b, go x e)
   enter e (suc t) b x =
-      let a : Tried = add n e.word e.plan b in
       let l : Bucket × X = leave_all (leaving n thr t b) b x in
-      cond (ltb (thr e.word) (suc t)) (cond a.done (a.bucket, x) (enter e t (at_bound t l.0) l.1)) (b, go x e)
+      cond (ltb (thr e.word) (suc t)) (unwrap_or (option_map (λ c. (c, x)) (add n e.word e.plan b)) (enter e t (at_bound t l.0) l.1)) (b, go x e)
 
 module _ (n r : ℕ) (S : ℕ → ℕ) where
   -- the word e arrives at a level, with x after it

@@ -1,14 +1,13 @@
 -- What each call of the table answers, and every number of the table after it: for any numbers as table and anything as identifier.
 -- The causes stand in the order of document 01's table, of document 02's 15 before 1 and 14 after 2; a call that is turned down leaves the table as it was.
 -- Assumes nothing.
-use Rattle.std.specs.Prelude.{ℕ, ◌+◌, ◌≡◌, Bool, cond, List, eqb, ltb, length, get_or}
+use Rattle.std.specs.Prelude.{ℕ, ◌+◌, ◌≡◌, Bool, cond, List, eqb, ltb, length, get_or, Ok, Err}
 use Rattle.std.proofs.Math.Option.{Option, none, some}
+use Rattle.answer.specs.Numbers.{Answer}
 use Rattle.hash.specs.Mix.{mix_of, unmix_of}
-use Rattle.answer.specs.declared.Answer.{Answer}
-use Rattle.answer.specs.declared.Answer.TheVariants.{Accepted, WrongBuckets, WrongTable, NotSound, Live, NotLive, Full}
+use Rattle.answer.specs.declared.Cause.{Cause}
+use Rattle.answer.specs.declared.Cause.TheVariants.{WrongBuckets, WrongTable, NotSound, Live, NotLive, Full}
 use Rattle.identifier.specs.Identifier.{Token}
-use Rattle.identifier.specs.declared.Read.{Read}
-use Rattle.identifier.specs.declared.Read.TheVariants.{Word, Refused}
 pub use Rattle.bucket.specs.Bucket.{rows, solutions}
 use Rattle.model.specs.Model.{base_limit, Call, add, change, withdraw, query}
 use Rattle.model.specs.Request.{ask_of, word_for}
@@ -52,33 +51,33 @@ abbrev pub Performs : Outcome → Answer → List ℕ → Type 0
 Performs o a t = (a ≡ o.answer) × (t ≡ o.table)
 
 -- turned down: the table stays as it was
-abbrev pub turned_down : Answer → List ℕ → Outcome
-turned_down a t = record { answer = a; table = t }
+abbrev pub turned_down : Cause → List ℕ → Outcome
+turned_down c t = record { answer = Err c; table = t }
 
 -- opening: cause 3, then 4 for a wrong length alone
 unfoldable pub open_call : ℕ → ℕ → List ℕ → Outcome
 open_call b1 b2 t =
     cond (L.in_range b1 b2)
     (cond (eqb (length t) (L.length_of rows solutions b1 b2))
-    (record { answer = Accepted 0; table = L.numbers_of (T.open_table rows solutions b1 b2) })
+    (record { answer = Ok 0; table = L.numbers_of (T.open_table rows solutions b1 b2) })
     (turned_down (WrongTable (length t)) t))
     (turned_down WrongBuckets t)
 
 -- query: the table stays
 abbrev pub queried : List ℕ → Option ℕ → Outcome
-queried t (some p) = record { answer = Accepted p; table = t }
+queried t (some p) = record { answer = Ok p; table = t }
 queried t none = turned_down NotLive t
 
 -- change and withdrawal: the earlier plan, and u of it the table after it
 abbrev pub replaced : List ℕ → (ℕ → Table) → Option ℕ → Outcome
-replaced t u (some q) = record { answer = Accepted q; table = L.numbers_of (u q) }
+replaced t u (some q) = record { answer = Ok q; table = L.numbers_of (u q) }
 replaced t u none = turned_down NotLive t
 
 -- add: u is the table after it, unless its base list is too long
 abbrev pub joined : List ℕ → Table → Option ℕ → Outcome
 joined t u (some p) = turned_down (Live p) t
 joined t u none =
-    cond (ltb base_limit (length u.base)) (turned_down Full t) (record { answer = Accepted u.count; table = L.numbers_of u })
+    cond (ltb base_limit (length u.base)) (turned_down Full t) (record { answer = Ok u.count; table = L.numbers_of u })
 
 -- a call by its word on a sound table
 unfoldable pub served : List ℕ → Call ℕ → Outcome
@@ -88,9 +87,9 @@ served t (withdraw w) = replaced t (T.withdrawn_from rows (solutions_in t) mix_o
 served t (query w) = queried t (plan_in t w)
 
 -- the causes that every call meets first: 15, 1, 2 and 14, 4, 5
-abbrev pub call_read : List ℕ → Call Token → Read → Outcome
-call_read t c (Refused a) = turned_down a t
-call_read t c (Word w) = cond (shaped t) (cond (sound t) (served t (ask_of w c)) (turned_down NotSound t)) (turned_down (WrongTable (length t)) t)
+abbrev pub call_read : List ℕ → Call Token → Answer → Outcome
+call_read t c (Err e) = turned_down e t
+call_read t c (Ok w) = cond (shaped t) (cond (sound t) (served t (ask_of w c)) (turned_down NotSound t)) (turned_down (WrongTable (length t)) t)
 
 -- what a call does
 unfoldable pub call : List ℕ → Call Token → Outcome
@@ -98,4 +97,4 @@ call t c = call_read t c (word_for c)
 
 -- document 02, order 2: the total of the plan p, as the table has it. Cause 4 alone; the table stays
 unfoldable pub total_call : List ℕ → ℕ → Answer
-total_call t p = cond (shaped t) (Accepted (get_or t (L.totals_at + p) 0)) (WrongTable (length t))
+total_call t p = cond (shaped t) (Ok (get_or t (L.totals_at + p) 0)) (Err (WrongTable (length t)))

@@ -1,11 +1,10 @@
 -- Lists of requests put to a table; document 01, "A list of calls".
 -- Assumes nothing.
-use Rattle.std.specs.Prelude.{ℕ, ◌^◌, ◌<◌, ◌≡◌, ◌↔◌, length}
+use Rattle.std.specs.Prelude.{ℕ, ◌^◌, ◌<◌, ◌≡◌, ◌↔◌, length, Ok}
 use Rattle.std.proofs.Math.Option.{some}
 use mathlib.Core.List.{List, Memᴰ}
 use Rattle.lists.specs.Entries.{Entry, Ascending}
 use Rattle.hash.specs.Mix.{unmix_of}
-use Rattle.answer.specs.declared.Answer.TheVariants.{Accepted}
 use Rattle.model.specs.Model.{Size, State, Call}
 use Rattle.model.specs.Request.{Request, ask, calls_of}
 use Rattle.model.specs.Machine.{Machine, accepted_of}
@@ -25,7 +24,7 @@ tables = record { answer = λ t q. (request t q).answer; next = λ t q. (request
 pub record Opened (t : List ℕ) : Type 0 where
   pub size : Size
   pub before : List ℕ
-  pub accepted : open_call size.buckets1 size.buckets2 before ≡ record { answer = Accepted 0; table = t }
+  pub accepted : open_call size.buckets1 size.buckets2 before ≡ record { answer = Ok 0; table = t }
 
 -- the calls of qs that the table accepts, by the words of their identifiers
 abbrev pub accepted_calls : List ℕ → List Request → List (Call ℕ)

@@ -121,12 +121,12 @@ module _ (n r : ℕ) (S : ℕ → ℕ) where
   -- the live word w, whose plan is q, gets the plan p
   abbrev pub changed_in : Table → ℕ → ℕ → ℕ → Table
   changed_in T w p q =
-      with_totals (touch T w (λ v b. (B.change n v p b).bucket) (λ v es. update (record { word = v; plan = p }) es)) (one_more p (one_less q T.totals))
+      with_totals (touch T w (λ v b. B.changed n v p b) (λ v es. update (record { word = v; plan = p }) es)) (one_more p (one_less q T.totals))
 
   -- the live word w, whose plan is q, goes
   abbrev pub withdrawn_from : Table → ℕ → ℕ → Table
   withdrawn_from T w q =
-      with_totals (with_count (touch T w (λ v b. (B.withdraw n v b).bucket) (λ v es. remove v es)) (T.count - 1)) (one_less q T.totals)
+      with_totals (with_count (touch T w (λ v b. B.without n v b) (λ v es. remove v es)) (T.count - 1)) (one_less q T.totals)
 
   -- the word e arrives at a level: it settles in its bucket
   abbrev pub arrive_at : List Bucket → Entry → Placed

@@ -2,6 +2,7 @@
 -- the totals, the plans and the cleared rows of document 02, orders 2, 3 and 6).
 -- Assumes nothing.
 use Rattle.std.specs.Prelude.{ℕ, suc, ◌+◌, Bool, true, not, ◌&&◌, List, [], ◌∷◌, ◌++◌, eqb, ltb, leb, length, get_or}
+use Rattle.std.specs.Option.{is_some, unwrap_or}
 use Rattle.lists.specs.Lists.{count_from}
 use Rattle.lists.specs.Entries.{Entry, desk_plan, assignable}
 use Rattle.lists.specs.Totals.{plan_count}
@@ -40,7 +41,7 @@ ascends (e ∷ es) = before e.word es && ascends es
 
 -- the occupied rows of a bucket with their plans, as the elimination finds them
 abbrev pub rows_in : ℕ → Bucket → List Entry
-rows_in n b = listed b (chosen b.mark (sound_rows n b.mark b.cols).rows)
+rows_in n b = listed b (chosen b.mark (unwrap_or (sound_rows n b.mark b.cols) b.cols))
 
 -- no solution word has a bit outside the mark
 abbrev pub clear_test : Bucket → Bool
@@ -49,7 +50,7 @@ clear_test b = all_of (λ s. eqb (outside s b.mark) 0) b.sols
 -- a bucket: the bound is at most the largest, free rows of the solutions are 0, the columns are invertible, free rows are units, and each
 -- occupied row passes `row`
 unfoldable pub bucket_test : ℕ → (Entry → Bool) → Bucket → Bool
-bucket_test n row b = leb b.bound largest_bound && (clear_test b && ((sound_rows n b.mark b.cols).ok && all_of row (rows_in n b)))
+bucket_test n row b = leb b.bound largest_bound && (clear_test b && (is_some (sound_rows n b.mark b.cols) && all_of row (rows_in n b)))
 
 -- the buckets from number i on
 abbrev pub level_test : ℕ → (ℕ → Bucket → Entry → Bool) → ℕ → List Bucket → Bool

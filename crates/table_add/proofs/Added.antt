@@ -10,8 +10,9 @@ use mathlib.Core.Option.{none, some}
 use lib.Dec.{ltb}
 use lib.ListN.{length, get_or, set, drop}
 use borrow.Author.Tests.{leb-false, le-ltb, lt-ltb}
-use Rattle.answer.specs.declared.Answer.{Answer}
-use Rattle.answer.specs.declared.Answer.TheVariants.{Accepted, Live, Full}
+use Rattle.std.specs.Prelude.{Ok, Err}
+use Rattle.answer.specs.Numbers.{Answer}
+use Rattle.answer.specs.declared.Cause.TheVariants.{Live, Full}
 use Rattle.lists.specs.Entries.{Entry}
 use Rattle.lists.specs.Totals.{one_more}
 use Rattle.lists.proofs.Entries.{assignable_byte}
@@ -20,7 +21,6 @@ use Rattle.hash.specs.Mix.{mix_of}
 use Rattle.bucket.specs.declared.Bucket.{Bucket}
 use Rattle.bucket_words.specs.Words.{bucket_words, bucket_from}
 use Rattle.bucket_settle.specs.Settle.{SoundBucket}
-use Rattle.bucket_settle.specs.Outgoing.{outgoing}
 use Rattle.bucket_fall.specs.declared.Settled.{Settled}
 use Rattle.bucket_fall.specs.Settled.{settled_of}
 use Rattle.model.specs.Model.{base_limit, add}
@@ -35,7 +35,7 @@ use Rattle.table_edit.proofs.Touched.{flat_of, live_room}
 use Rattle.table_edit.proofs.Calls.{total_few}
 use Rattle.table_arrive.specs.Arrival.{settled_at, stored_at, to_second, Straight, Passed, Kept, FlatKept}
 use Rattle.table_arrive.proofs.Tables.{flat, first-sound, numbers_table, numbers_kept}
-use Rattle.table_arrive.proofs.Settled.{past-settled, straightly, straight_is, bucket_is, out_is, out_few}
+use Rattle.table_arrive.proofs.Settled.{past-settled, straightly, straight_is, bucket_is, out_is}
 use Rattle.table_pass.specs.Passing.{seconds, all_to_second}
 use Rattle.table_add.specs.Arrivals.{entering, Passing, counted_in, Countable}
 use Rattle.table_pass.proofs.Arrivals.{all_law, add_law}
@@ -54,7 +54,7 @@ pub record Counted (n r : ℕ) (S : ℕ → ℕ) (t : List ℕ) (e : Entry) (u :
   pub table : e.plan < total_numbers → numbers_of (added_to n r S (table_from n r t) e) ≡ counted_in e.plan u
 
 module _ (n r : ℕ) (S : ℕ → ℕ) (t : List ℕ) (h : FlatKept n r t) (e : Entry) (small : e.word < 2 ^ n) (at : ℕ) (p : at ≡ bucket_place n r (index S (get_or t buckets1_at 0) e.word))
-    (m : ℕ) (s : Settled) (q : s ≡ settled_of m (settled_at n r (thr S) at e t)) where
+    (s : Settled) (q : s ≡ settled_of (settled_at n r (thr S) at e t)) where
   abbrev T : Table
   T = table_from n r t
 
@@ -71,14 +71,11 @@ module _ (n r : ℕ) (S : ℕ → ℕ) (t : List ℕ) (h : FlatKept n r t) (e : 
   sound : SoundBucket n r (bucket_of n r S T.level1 e.word)
   sound = first-sound n r t h S e.word
 
-  pub enter_few : s.out.count ≤ suc n
-  enter_few = out_few n r S m T.level1 e at t s here q small sound
-
   U-is : U ≡ with_one (with_first D (arrive_at n r S T.level1 e).buckets) e.plan
   U-is =
       add_law n r S T e
       ∙ ap (λ (es : List Entry). with_one (with_first (all_to_second n r S T (map (on_second S) es)) (arrive_at n r S T.level1 e).buckets) e.plan)
-      (sym (out_is n r S m T.level1 e at t s here q))
+      (sym (out_is n r S T.level1 e at t s here q))
 
   -- the words did not go on
   pub enter_full : (t1 : List ℕ) → Passed n r t D false t1 → (ltb base_limit (length U.base) ≡ true) × (t1 ≡ t)
@@ -122,7 +119,7 @@ module _ (n r : ℕ) (S : ℕ → ℕ) (t : List ℕ) (h : FlatKept n r t) (e : 
           w ∙ first_stored n r t1 (flat n r t1 kept1) S e.word at place1 s.bucket
           ∙ ap (λ (X : Table). numbers_of (with_first X (put S X.level1 e.word s.bucket))) table1
           ∙ ap (λ (bs : List Bucket). numbers_of (with_first D (put S bs e.word s.bucket))) first-same
-          ∙ ap (λ (bs : List Bucket). numbers_of (with_first D bs)) (bucket_is n r S m T.level1 e at t s here q)
+          ∙ ap (λ (bs : List Bucket). numbers_of (with_first D bs)) (bucket_is n r S T.level1 e at t s here q)
 
       counted : get_or t2 live_count_at 0 ≡ T.count
       unfolding numbers_of
@@ -151,30 +148,28 @@ module _ (n r : ℕ) (S : ℕ → ℕ) (t : List ℕ) (h : FlatKept n r t) (e : 
 
 module _ (n r : ℕ) (S : ℕ → ℕ) (t : List ℕ) (h : FlatKept n r t) (e : Entry) (small : e.word < 2 ^ n) (at : ℕ) (p : at ≡ bucket_place n r (index S (get_or t buckets1_at 0) e.word)) where
   pub counted_straight : (u : List ℕ) → Straight n r (thr S) at e t true u → Counted n r S t e u
-  unfolding outgoing
   counted_straight u g =
-      let s : Settled = straightly n r (thr S) at e t 0 u g in
-      enter-counted n r S t h e small at p 0 s (straight_is n r (thr S) at e t 0 u g) t (pass_none n r S t h s.out refl) u g.table
+      let s : Settled = straightly n r (thr S) at e t u g in
+      enter-counted n r S t h e small at p s (straight_is n r (thr S) at e t u g) t (pass_none n r S t h s.out refl) u g.table
 
   -- level 1 does not hold the word: v is its form at level 2
   module _ (f : holds n r S (table_from n r t).level1 e.word ≡ false) (v : ℕ) (w : v ≡ S (S e.word)) (u : List ℕ) where
     abbrev passing : Settled
-    passing = settled_of 1 (record { bucket = bucket_from n r (drop at t); out = e ∷ [] })
+    passing = settled_of (record { bucket = bucket_from n r (drop at t); out = e ∷ [] })
 
-    passing_is : passing ≡ settled_of 1 (settled_at n r (thr S) at e t)
-    passing_is = past-settled n r (thr S) at e t (ap (λ (b : Bucket). ltb (thr S e.word) b.bound) (first-here n r t (flat n r t h).shape S e.word at p) ∙ f) 1
+    passing_is : passing ≡ settled_of (settled_at n r (thr S) at e t)
+    passing_is = past-settled n r (thr S) at e t (ap (λ (b : Bucket). ltb (thr S e.word) b.bound) (first-here n r t (flat n r t h).shape S e.word at p) ∙ f)
 
     passes : (done : Bool) → Passed n r t (to_second n r S (table_from n r t) (record { word = v; plan = e.plan })) done u → Passed n r t (all_to_second n r S (table_from n r t) (seconds S passing.out)) done u
-    unfolding outgoing
-    passes done g = pass_one n r S t h passing.out v done u refl w g
+    passes done g = pass_one n r S t h passing.out e refl v done u refl w g
 
     pub counted-second : Passed n r t (to_second n r S (table_from n r t) (record { word = v; plan = e.plan })) true u → Counted n r S t e u
     counted-second g =
         let k = passes true g in
-        enter-counted n r S t h e small at p 1 passing passing_is u k u (enter-same n r S t h e small at p 1 passing passing_is u k refl)
+        enter-counted n r S t h e small at p passing passing_is u k u (enter-same n r S t h e small at p passing passing_is u k refl)
 
     pub full_second : Passed n r t (to_second n r S (table_from n r t) (record { word = v; plan = e.plan })) false u → (ltb base_limit (length (added_to n r S (table_from n r t) e).base) ≡ true) × (u ≡ t)
-    full_second g = enter_full n r S t h e small at p 1 passing passing_is u (passes false g)
+    full_second g = enter_full n r S t h e small at p passing passing_is u (passes false g)
 
 -- ---- at 64 and 8
 
@@ -207,15 +202,15 @@ module _ (t : List ℕ) (w p : ℕ) where
   abbrev outcome : Outcome
   outcome = entering t (record { word = w; plan = p })
 
-  pub entered_full : (u : List ℕ) → (ltb base_limit (length added.base) ≡ true) × (u ≡ t) → (Full ≡ outcome.answer) × (u ≡ outcome.table)
-  entered_full u g = let e = cond_true (turned_down Full t) (record { answer = Accepted added.count; table = numbers_of added }) g.0 in (ap (λ (o : Outcome). o.answer) (sym e), g.1 ∙ ap (λ (o : Outcome). o.table) (sym e))
+  pub entered_full : (u : List ℕ) → (ltb base_limit (length added.base) ≡ true) × (u ≡ t) → (Err Full ≡ outcome.answer) × (u ≡ outcome.table)
+  entered_full u g = let e = cond_true (turned_down Full t) (record { answer = Ok added.count; table = numbers_of added }) g.0 in (ap (λ (o : Outcome). o.answer) (sym e), g.1 ∙ ap (λ (o : Outcome). o.table) (sym e))
 
   -- u is counted: a is the answer, v the table then
   pub entered_done : (u : List ℕ) → Counted rows solutions mix_of t (record { word = w; plan = p }) u → p < total_numbers → (a : Answer) (v : List ℕ)
-      → (a ≡ Accepted (get_or u live_count_at 0 + 1)) × (v ≡ counted_in p u) → (a ≡ outcome.answer) × (v ≡ outcome.table)
+      → (a ≡ Ok (get_or u live_count_at 0 + 1)) × (v ≡ counted_in p u) → (a ≡ outcome.answer) × (v ≡ outcome.table)
   entered_done u g l a v k =
-      let e = cond_false (turned_down Full t) (record { answer = Accepted added.count; table = numbers_of added }) g.fits in
-      (k.0 ∙ ap Accepted (sym g.next) ∙ ap (λ (o : Outcome). o.answer) (sym e), k.1 ∙ sym (g.table l) ∙ ap (λ (o : Outcome). o.table) (sym e))
+      let e = cond_false (turned_down Full t) (record { answer = Ok added.count; table = numbers_of added }) g.fits in
+      (k.0 ∙ ap Ok (sym g.next) ∙ ap (λ (o : Outcome). o.answer) (sym e), k.1 ∙ sym (g.table l) ∙ ap (λ (o : Outcome). o.table) (sym e))
 
   -- the call, by the plan of w
   pub added-live : (q : ℕ) → plan_in t w ≡ some q → served t (add w p) ≡ turned_down (Live q) t
@@ -236,9 +231,9 @@ module _ {t : List ℕ} {w p : ℕ} (h : Passing t w p) (small : w < 2 ^ rows) {
   pub passing_room : done ≡ true → Countable p u
   passing_room y = count_room t h.ready (record { word = w; plan = p }) u (passing-counted y) (assignable_byte p h.plan)
 
-  pub passing-done : done ≡ true → (a : Answer) (x : List ℕ) → (a ≡ Accepted (get_or u live_count_at 0 + 1)) × (x ≡ counted_in p u) → (a ≡ (outcome t w p).answer) × (x ≡ (outcome t w p).table)
+  pub passing-done : done ≡ true → (a : Answer) (x : List ℕ) → (a ≡ Ok (get_or u live_count_at 0 + 1)) × (x ≡ counted_in p u) → (a ≡ (outcome t w p).answer) × (x ≡ (outcome t w p).table)
   passing-done y = entered_done t w p u (passing-counted y) (assignable_byte p h.plan)
 
-  pub passing_full : done ≡ false → (Full ≡ (outcome t w p).answer) × (u ≡ (outcome t w p).table)
+  pub passing_full : done ≡ false → (Err Full ≡ (outcome t w p).answer) × (u ≡ (outcome t w p).table)
   passing_full y =
       entered_full t w p u (full_second rows solutions mix_of t (ready_kept t h.ready) (record { word = w; plan = p }) small _ refl h.past v e u (passed_as rows solutions t _ done false u y g))

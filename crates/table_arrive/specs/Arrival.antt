@@ -1,26 +1,16 @@
 -- A word arrives, as the code goes about it: at a bucket, straight in or by settling there; at level 2, and what leaves that goes to the
 -- base list at once. S is the mix, n the number of rows, r of solution words.
 -- Assumes nothing.
-use Rattle.std.specs.Prelude.{ℕ, zero, suc, ◌+◌, ◌≤◌, ◌<◌, ◌≡◌, Bool, true, false, cond, ◌&&◌, List, [], ◌∷◌, ◌++◌, leb, ltb, length, get_or, take, drop}
+use Rattle.std.specs.Prelude.{ℕ, ◌+◌, ◌≤◌, ◌<◌, ◌≡◌, Bool, true, cond, ◌&&◌, List, ◌++◌, leb, ltb, length, get_or, take, drop, None, is_some, unwrap_or}
 use Rattle.lists.specs.Entries.{Entry, insert_all}
 use Rattle.gf2.specs.Vectors.{product}
 use Rattle.bucket.specs.declared.Bucket.{Bucket}
 use Rattle.bucket.specs.Bucket.{add}
 use Rattle.bucket_words.specs.Words.{bucket_words, words_of, bucket_from}
-use Rattle.bucket_settle.specs.declared.Outgoing.{Outgoing}
 use Rattle.bucket_settle.specs.Settle.{SoundBucket, Settlement, settle}
 use Rattle.model.specs.Model.{base_limit}
 use Rattle.table.specs.Table.{Table, total_numbers, with_second, with_base, Placed, nth, bucket_of, arrive_at}
 use Rattle.table.specs.Layout.{in_range, numbers_of, table_from}
-
--- k words with their plans, from the front of two lists
-abbrev pub entries_from : ℕ → List ℕ → List ℕ → List Entry
-entries_from zero vs ps = []
-entries_from (suc k) vs ps = record { word = get_or vs 0 0; plan = get_or ps 0 0 } ∷ entries_from k (drop 1 vs) (drop 1 ps)
-
--- the words that leave a bucket, as the code keeps them
-abbrev pub entries_of : Outgoing → List Entry
-entries_of o = entries_from o.count o.vectors o.plans
 
 module _ (n r : ℕ) where
   -- e settles in the bucket at a place
@@ -37,11 +27,11 @@ module _ (n r : ℕ) where
 
   -- e goes straight into the bucket of a stretch xs: its threshold is below the bound, and it does not depend there
   abbrev pub goes_in : (ℕ → ℕ) → Entry → List ℕ → Bool
-  goes_in thr e xs = let b : Bucket = bucket_from n r xs in ltb (thr e.word) b.bound && (add n e.word e.plan b).done
+  goes_in thr e xs = let b : Bucket = bucket_from n r xs in ltb (thr e.word) b.bound && is_some (add n e.word e.plan b)
 
   -- the stretch then: e is added to its bucket
   abbrev pub added_in : Entry → List ℕ → List ℕ
-  added_in e xs = words_of (add n e.word e.plan (bucket_from n r xs)).bucket
+  added_in e xs = let b : Bucket = bucket_from n r xs in words_of (unwrap_or (add n e.word e.plan b) b)
 
   -- e went into the bucket at a place, if it goes straight in; else the numbers t stay as they were
   pub record Straight (thr : ℕ → ℕ) (at : ℕ) (e : Entry) (t : List ℕ) (done : Bool) (after : List ℕ) : Type 0 where
@@ -55,7 +45,7 @@ module _ (n r : ℕ) (S : ℕ → ℕ) where
 
   -- e depends in its bucket of a level
   abbrev pub DependsIn : List Bucket → Entry → Type 0
-  DependsIn bs e = (add n e.word e.plan (bucket_of n r S bs e.word)).done ≡ false
+  DependsIn bs e = add n e.word e.plan (bucket_of n r S bs e.word) ≡ None
 
   -- the word e arrives at level 2, and what leaves that at the base list
   abbrev pub to_second : Table → Entry → Table

@@ -3,10 +3,10 @@
 // room nothing is written.
 // specs/Arrival.antt has the steps as the code goes about them, at every number of rows and of solution words, and `Kept`, what each of
 // them keeps. Laws: proofs/Tables.antt (such a table and its numbers, words into the pairs of the base list),
-// proofs/Settled.antt (the words that leave a bucket, as the code keeps them; what it finds settled is what the crate table's `arrive_at` leaves).
+// proofs/Settled.antt (what the code finds settled is what the crate table's `arrive_at` leaves).
 #![tactic(auto)]
 
-ghost use Rattle.std.specs.Prelude.{◌≡◌, true, false, cond, ◌+◌, ◌≤◌, length, get_or, drop};
+ghost use Rattle.std.specs.Prelude.{◌≡◌, None, true, false, cond, ◌+◌, ◌≤◌, length, get_or, drop};
 ghost use Rattle.lists.specs.Entries.{insert_all};
 ghost use Rattle.gf2.specs.Vectors.{product};
 ghost use Rattle.hash.specs.Mix.{mix_of};
@@ -19,12 +19,12 @@ ghost use Rattle.table.specs.Table.{with_base, holds};
 ghost use Rattle.table.specs.Layout.{base_count_at, pairs_from, base_pairs, numbers_of};
 ghost use Rattle.table.specs.Calls.{rows, solutions, table_of};
 ghost use Rattle.table_base.specs.Base.{Pairs};
-ghost use Rattle.table_arrive.specs.Arrival.{entries_of, settled_at, product_at, stored_at, goes_in, added_in, product_in, DependsIn, to_second, Straight, Passed, FlatKept};
+ghost use Rattle.table_arrive.specs.Arrival.{settled_at, product_at, stored_at, goes_in, added_in, product_in, DependsIn, to_second, Straight, Passed, FlatKept};
 
 use bucket::Bucket;
 use bucket_fall::Settled;
-use bucket_settle::Outgoing;
-use table_layout::Table;
+use bucket_settle::Entry;
+use table_layout::{Level, Table};
 
 // The product of v in the bucket at a place. An add forms it here, once for each bucket that holds the word: whether the word is live, the
 // straight attempt and the dependence go on from it.
@@ -33,13 +33,13 @@ pub fn product_at(t: &[u64], at: usize, v: u64) -> u64
     ensures { result ≡ product_at rows solutions at v t.now }
 {
     let end = at + Bucket::ROWS;
-    bucket::product(bucket_words::cols_in(&t[at..end]), v)
+    bucket::product(bucket_words::array_of(&t[at..end]), v)
 }
 
 // v, which depends there, settles with its plan in the bucket at a place. Nothing is written.
 pub fn fallen_at(t: &[u64], at: usize, v: u64, plan: u64) -> Settled
-    requires { (at + Bucket.WORDS ≤ length t.now) × (SoundBucket rows solutions (bucket_from rows solutions (drop at t.now)) × ((add rows v plan (bucket_from rows solutions (drop at t.now))).done ≡ false)) }
-    ensures { result ≡ settled_of Outgoing.MOST (settled_at rows solutions threshold_of at (record { word = v; plan = plan }) t.now) }
+    requires { (at + Bucket.WORDS ≤ length t.now) × (SoundBucket rows solutions (bucket_from rows solutions (drop at t.now)) × (add rows v plan (bucket_from rows solutions (drop at t.now)) ≡ None)) }
+    ensures { result ≡ settled_of (settled_at rows solutions threshold_of at (record { word = v; plan = plan }) t.now) }
 {
     bucket_fall::fall(table_layout::bucket_at(t, at), v, plan)
 }
@@ -59,10 +59,7 @@ pub(crate) fn put_part_by(part: &mut [u64], v: u64, p: u64, plan: u64) -> bool
     requires { (length part.old ≡ Bucket.WORDS) × (p ≡ product (bucket_from rows solutions part.old).cols v) }
     ensures { (result ≡ goes_in rows solutions threshold_of (record { word = v; plan = plan }) part.old) × (part.new ≡ cond result (added_in rows solutions (record { word = v; plan = plan }) part.old) part.old) }
 {
-    if identifier::threshold(v) < part[Bucket::BOUND_AT] {
-        return bucket_words::add_by(part, v, p, plan);
-    }
-    false
+    identifier::threshold(v) < part[Bucket::BOUND_AT] && bucket_words::add_by(part, v, p, plan)
 }
 
 // The word v, whose product there is p, goes straight into the bucket at a place, whose stretch alone is lent to the bucket step. False if it
@@ -76,29 +73,25 @@ pub fn put_by(t: &mut [u64], at: usize, v: u64, p: u64, plan: u64) -> bool
 }
 
 // The words into the base list, one after the other.
-pub(crate) fn insert_all(pairs: &mut [u64], count: usize, out: Outgoing)
-    requires { Pairs base_limit count pairs.old × (count + out.count ≤ base_limit) }
-    ensures { pairs.new ≡ base_pairs (insert_all (entries_of out) (pairs_from count pairs.old)) }
+pub(crate) fn insert_all(pairs: &mut [u64], count: usize, entries: &[Entry])
+    requires { Pairs base_limit count pairs.old × (count + length entries.now ≤ base_limit) }
+    ensures { pairs.new ≡ base_pairs (insert_all entries.now (pairs_from count pairs.old)) }
 {
-    let vectors = out.vectors;
-    let plans = out.plans;
-    let more = out.count;
-    let mut i: usize = 0;
-    while i < more {
-        table_base::insert(pairs, count + i, vectors[i], plans[i]);
-        i += 1;
+    for (i, e) in entries.iter().enumerate() {
+        table_base::insert(pairs, count + i, e.word, e.plan);
     }
 }
 
 // The words into the base list of a table, and its count.
-pub(crate) fn enter_base(t: &mut [u64], out: Outgoing)
-    requires { FlatKept rows solutions t.old × (get_or t.old base_count_at 0 + out.count ≤ base_limit) }
-    ensures { t.new ≡ numbers_of (with_base (table_of t.old) (insert_all (entries_of out) (table_of t.old).base)) }
+// FlatKept is a clause, no field of a type: between the pairs and the count it need not hold, and the steps take `&mut` of the same numbers.
+pub(crate) fn enter_base(t: &mut [u64], entries: &[Entry])
+    requires { FlatKept rows solutions t.old × (get_or t.old base_count_at 0 + length entries.now ≤ base_limit) }
+    ensures { t.new ≡ numbers_of (with_base (table_of t.old) (insert_all entries.now (table_of t.old).base)) }
 {
     let a = table_layout::base_place(t);
     let count = t[Table::BASE_COUNT_AT] as usize;
-    let more = out.count;
-    insert_all(&mut t[a..], count, out);
+    let more = entries.len();
+    insert_all(&mut t[a..], count, entries);
     t[Table::BASE_COUNT_AT] = (count + more) as u64;
 }
 
@@ -108,15 +101,14 @@ pub fn fall_second(t: &mut [u64], v: u64, plan: u64) -> bool
     requires { FlatKept rows solutions t.old × DependsIn rows solutions mix_of (table_of t.old).level2 (record { word = v; plan = plan }) }
     ensures { Passed rows solutions t.old (to_second rows solutions mix_of (table_of t.old) (record { word = v; plan = plan })) result t.new }
 {
-    let at = table_layout::second_place(t, v);
+    let at = table_layout::place(t, Level::Second, v);
     let s = fallen_at(t, at, v, plan);
-    let out = s.out;
-    let more = out.count as u64;
+    let out = s.out.entries();
+    let more = out.len() as u64;
     if Table::BASE_ENTRIES < t[Table::BASE_COUNT_AT] + more {
         return false;
     }
-    let b = s.bucket;
-    store_at(t, at, b);
+    store_at(t, at, s.bucket);
     enter_base(t, out);
     true
 }
@@ -126,11 +118,8 @@ pub(crate) fn arrive_by(t: &mut [u64], v: u64, p: u64, plan: u64) -> bool
     requires { FlatKept rows solutions t.old × ((holds rows solutions mix_of (table_of t.old).level2 v ≡ true) × (p ≡ product_in rows solutions mix_of (table_of t.old).level2 v)) }
     ensures { Passed rows solutions t.old (to_second rows solutions mix_of (table_of t.old) (record { word = v; plan = plan })) result t.new }
 {
-    let at = table_layout::second_place(t, v);
-    if put_by(t, at, v, p, plan) {
-        return true;
-    }
-    fall_second(t, v, plan)
+    let at = table_layout::place(t, Level::Second, v);
+    put_by(t, at, v, p, plan) || fall_second(t, v, plan)
 }
 
 // The word v, which level 2 does not hold, goes on to the base list. False if that has no room: then nothing is written.
@@ -139,7 +128,7 @@ pub fn pass_second(t: &mut [u64], v: u64, plan: u64) -> bool
     ensures { Passed rows solutions t.old (to_second rows solutions mix_of (table_of t.old) (record { word = v; plan = plan })) result t.new }
 {
     if t[Table::BASE_COUNT_AT] < Table::BASE_ENTRIES {
-        enter_base(t, Outgoing::one(v, plan));
+        enter_base(t, &[Entry { word: v, plan }]);
         return true;
     }
     false
@@ -150,8 +139,8 @@ pub fn arrive_second(t: &mut [u64], v: u64, plan: u64) -> bool
     requires { FlatKept rows solutions t.old }
     ensures { Passed rows solutions t.old (to_second rows solutions mix_of (table_of t.old) (record { word = v; plan = plan })) result t.new }
 {
-    if table_layout::holds_second(t, v) {
-        let p = product_at(t, table_layout::second_place(t, v), v);
+    if table_layout::holds(t, Level::Second, v) {
+        let p = product_at(t, table_layout::place(t, Level::Second, v), v);
         return arrive_by(t, v, p, plan);
     }
     pass_second(t, v, plan)

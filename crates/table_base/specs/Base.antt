@@ -1,11 +1,10 @@
 -- The base list as it lies in the table, for any number of entries that there is room for.
 -- Assumes nothing.
-use Rattle.std.specs.Prelude.{ℕ, suc, ◌-◌, ◌*◌, ◌/◌, ◌≤◌, ◌≡◌, Bool, true, false, cond, List, [], ◌∷◌, ◌++◌, eqb, ltb, length, replicate}
-use Rattle.std.proofs.Math.Option.{Option, none, some}
+use Rattle.std.specs.Prelude.{ℕ, suc, ◌-◌, ◌*◌, ◌/◌, ◌≤◌, ◌≡◌, Bool, true, false, cond, List, [], ◌∷◌, ◌++◌, eqb, ltb, length, replicate, Some, None, Option}
+use Rattle.std.proofs.Math.Option as Math
+use Rattle.std.proofs.Math.Option.{none, some}
 use Rattle.lists.specs.Entries.{Entry}
 use Rattle.table.specs.Layout.{pair_numbers, pairs_from}
-use Rattle.table_base.specs.declared.Found.{Found}
-use Rattle.table_base.specs.declared.Found.TheVariants.{Plan, Nothing}
 
 -- how many entries the numbers have room for
 abbrev pub capacity : List ℕ → ℕ
@@ -21,9 +20,9 @@ pub record Pairs (m count : ℕ) (xs : List ℕ) : Type 0 where
   pub rest : xs ≡ pairs_in m (pairs_from count xs)
 
 -- what the search for a word gives
-abbrev pub found_of : Option ℕ → Found
-found_of (some p) = Plan p
-found_of none = Nothing
+abbrev pub found_of : Math.Option ℕ → Option ℕ
+found_of (some p) = Some p
+found_of none = None
 
 -- the test of a word x: larger than v, or equal to it
 abbrev pub hits : Bool → ℕ → ℕ → Bool

@@ -8,18 +8,18 @@ use mathlib.Core.Bool.{Bool, true, false}
 use mathlib.Core.List.{List}
 use mathlib.Core.Option.{Option, none, some}
 use lib.ListN.{length, get_or, set, length-set}
+use Rattle.std.specs.Prelude.{Ok, Err, Some, None, ok_or}
+use Rattle.answer.specs.Numbers.{Answer}
 use Rattle.lists.proofs.Tests.{cases, cond_true, cond_false}
 use Rattle.lists.specs.Entries.{Entry, find}
 use Rattle.lists.specs.Totals.{plan_count, totals_of, one_more, one_less}
 use Rattle.lists.proofs.Entries.{assignable_byte, find_mem, remove-length}
 use Rattle.lists.proofs.Totals.{count_le, count_found, totals_length, totals-at, less_le}
 use Rattle.hash.specs.Mix.{mix_of}
-use Rattle.answer.specs.declared.Answer.{Answer}
-use Rattle.answer.specs.declared.Answer.TheVariants.{Accepted, WrongTable, NotSound, NotLive}
+use Rattle.answer.specs.declared.Cause.{Cause}
+use Rattle.answer.specs.declared.Cause.TheVariants.{NotLive}
 use Rattle.identifier.specs.Identifier.{Token, read_of, with_plan}
-use Rattle.identifier.proofs.Causes.{refused≢word}
-use Rattle.identifier.specs.declared.Read.{Read}
-use Rattle.identifier.specs.declared.Read.TheVariants.{Word, Refused}
+use Rattle.answer.proofs.Determined.{refused≢accepted}
 use Rattle.model.specs.Model.{Call, change, withdraw, query}
 use Rattle.model.specs.Request.{word_for, ask_of}
 use Rattle.table.specs.Table.{Table, total_numbers, with_count, with_totals}
@@ -30,8 +30,6 @@ use Rattle.table.proofs.Numbers.{write_count, read_total, write_more, write_less
 use Rattle.table.proofs.Level.{touch_keeps, touch_totals}
 use Rattle.table.proofs.Calls.{FlatStands, stands_look, sound_stands_flat, sound_exactly}
 use Rattle.table_edit.proofs.Touched.{live_room}
-use Rattle.table_base.specs.declared.Found.{Found}
-use Rattle.table_base.specs.declared.Found.TheVariants.{Plan, Nothing}
 use Rattle.table_base.specs.Base.{found_of}
 use Rattle.table_edit.specs.declared.Edit.{Edit}
 use Rattle.table_edit.specs.declared.Edit.TheVariants.{Change, Withdraw}
@@ -40,13 +38,30 @@ use Rattle.table_edit.specs.Edit.{on_bucket, on_base, touched, leaving, recounte
 
 -- ---- a word that is live, or not
 
-found_some : (o : Option ℕ) (p : ℕ) → found_of o ≡ Plan p → o ≡ some p
+found_some : (o : Option ℕ) (p : ℕ) → found_of o ≡ Some p → o ≡ some p
 found_some (some q) p e = cc
 found_some none p e = absurd (let z : ◌≡◌ {A = ℕ} 0 1 = cc in omega arith)
 
-found_none : (o : Option ℕ) → found_of o ≡ Nothing → o ≡ none
+found_none : (o : Option ℕ) → found_of o ≡ None → o ≡ none
 found_none (some q) e = absurd (let z : ◌≡◌ {A = ℕ} 0 1 = cc in omega arith)
 found_none none e = refl
+
+-- not live is cause 7
+pub was_live : (o : _) (p : ℕ) → ok_or o NotLive ≡ Ok p → o ≡ Some p
+was_live (Some q) p e = cc
+was_live None p e = absurd (refused≢accepted _ p e)
+
+pub was_gone : (o : _) (c : Cause) → ok_or {T = ℕ} o NotLive ≡ Err c → (o ≡ None) × (c ≡ NotLive)
+was_gone (Some q) c e = absurd (refused≢accepted c q (sym e))
+was_gone None c e = (refl, cc)
+
+asked_for : (t : List ℕ) (o : Option ℕ) → queried t o ≡ record { answer = ok_or (found_of o) NotLive; table = t }
+asked_for t (some p) = refl
+asked_for t none = refl
+
+pub query_said : (t : List ℕ) (w : ℕ) (f : _) → f ≡ found_of (plan_in t w) → served t (query w) ≡ record { answer = ok_or f NotLive; table = t }
+unfolding served
+query_said t w f e = asked_for t (plan_in t w) ∙ ap {B = Outcome} (λ o. record { answer = ok_or o NotLive; table = t }) (sym e)
 
 -- the table after an edit, with the live count
 abbrev edited : Edit → ℕ → Table → Table
@@ -115,14 +130,10 @@ leaving_le : (d : Edit) → leaving d ≤ 1
 leaving_le (Change q) = omega arith
 leaving_le Withdraw = omega arith
 
-module _ (t : List ℕ) (w : ℕ) (f : Found) (e : f ≡ found_of (plan_in t w)) where
-  module _ (p : ℕ) (l : f ≡ Plan p) where
+module _ (t : List ℕ) (w : ℕ) (f : _) (e : f ≡ found_of (plan_in t w)) where
+  module _ (p : ℕ) (l : f ≡ Some p) where
     pub live : plan_in t w ≡ some p
     live = found_some (plan_in t w) p (sym e ∙ l)
-
-    pub query_live : served t (query w) ≡ record { answer = Accepted p; table = t }
-    unfolding served
-    query_live = ap (queried t) live
 
     module _ (h : Ready t) (b : w < 2 ^ rows) where
       st : FlatStands t (flat_state t)
@@ -159,84 +170,74 @@ module _ (t : List ℕ) (w : ℕ) (f : Found) (e : f ≡ found_of (plan_in t w))
             subst (Movable d p) numbers_X
             (movable d p X (flat_state t).live (totals_stay ∙ st.stands.totalled) plan-small (count_found w p (flat_state t).live found) (subst (λ (k : ℕ). k + 1 < 2 ^ 64) st.stands.counted (live_room h)) pf)
 
-        pub edit_live : served t (asked d w) ≡ record { answer = Accepted p; table = recounted_in d p (set ys live_count_at (get_or t live_count_at 0 - leaving d)) }
+        pub edit_live : served t (asked d w) ≡ record { answer = Ok p; table = recounted_in d p (set ys live_count_at (get_or t live_count_at 0 - leaving d)) }
         edit_live =
             edit_served t w d ∙ ap (replaced t (moved d w T)) live
-            ∙ ap {B = Outcome} (λ l. record { answer = Accepted p; table = l })
+            ∙ ap {B = Outcome} (λ l. record { answer = Ok p; table = l })
             (ap (λ (ts : List ℕ). numbers_of (with_totals X (recounted d p ts))) (sym totals_stay)
             ∙ moved_numbers d p X (ap length (totals_stay ∙ st.stands.totalled) ∙ totals_length total_numbers (flat_state t).live) plan-small pf ∙ ap (recounted_in d p) numbers_X)
 
-  module _ (l : f ≡ Nothing) where
+  module _ (l : f ≡ None) where
     pub gone : plan_in t w ≡ none
     gone = found_none (plan_in t w) (sym e ∙ l)
-
-    pub query_gone : served t (query w) ≡ turned_down NotLive t
-    unfolding served
-    query_gone = ap (queried t) gone
 
     pub edit_gone : (d : Edit) → served t (asked d w) ≡ turned_down NotLive t
     edit_gone d = edit_served t w d ∙ ap (replaced t (moved d w (table_of t))) gone
 
 -- ---- the causes before that
 
-abbrev after : List ℕ → Call Token → Read → Outcome
-after t c (Refused a) = turned_down a t
-after t c (Word w) = served t (ask_of w c)
+abbrev after : List ℕ → Call Token → Answer → Outcome
+after t c (Err a) = turned_down a t
+after t c (Ok w) = served t (ask_of w c)
 
-after-admitted : (t : List ℕ) (c : Call Token) (x : Read) → call_read t c x ≡ after t c (admitted t x)
-after-admitted t c (Refused a) = refl
-after-admitted t c (Word w) = cases (shaped t) (λ p. rw p (cases (sound t) (λ q. rw q) (λ q. rw q))) (λ p. rw p)
+after-admitted : (t : List ℕ) (c : Call Token) (x : Answer) → call_read t c x ≡ after t c (admitted t x)
+after-admitted t c (Err a) = refl
+after-admitted t c (Ok w) = cases (shaped t) (λ p. rw p (cases (sound t) (λ q. rw q) (λ q. rw q))) (λ p. rw p)
 
-module _ (t : List ℕ) (c : Call Token) (x : Read) (e : x ≡ admitted t (word_for c)) where
-  pub call_word : (w : ℕ) → x ≡ Word w → call t c ≡ served t (ask_of w c)
+module _ (t : List ℕ) (c : Call Token) (x : Answer) (e : x ≡ admitted t (word_for c)) where
+  pub call_word : (w : ℕ) → x ≡ Ok w → call t c ≡ served t (ask_of w c)
   unfolding call
   call_word w q = after-admitted t c (word_for c) ∙ ap (after t c) (sym e ∙ q)
 
-  pub call_refused : (a : Answer) → x ≡ Refused a → call t c ≡ turned_down a t
+  pub call_refused : (a : Cause) → x ≡ Err a → call t c ≡ turned_down a t
   unfolding call
   call_refused a q = after-admitted t c (word_for c) ∙ ap (after t c) (sym e ∙ q)
 
 -- the same for an edit
-pub edit_word : (t : List ℕ) (i : Token) (d : Edit) (x : Read) → x ≡ admitted t (with_plan (edit_allowed d) (read_of i)) → (w : ℕ) → x ≡ Word w → call t (asked d i) ≡ served t (asked d w)
+pub edit_word : (t : List ℕ) (i : Token) (d : Edit) (x : Answer) → x ≡ admitted t (with_plan (edit_allowed d) (read_of i)) → (w : ℕ) → x ≡ Ok w → call t (asked d i) ≡ served t (asked d w)
 edit_word t i (Change q) x = call_word t (change i q) x
 edit_word t i Withdraw x = call_word t (withdraw i) x
 
-pub edit_refused : (t : List ℕ) (i : Token) (d : Edit) (x : Read) → x ≡ admitted t (with_plan (edit_allowed d) (read_of i)) → (a : Answer) → x ≡ Refused a → call t (asked d i) ≡ turned_down a t
+pub edit_refused : (t : List ℕ) (i : Token) (d : Edit) (x : Answer) → x ≡ admitted t (with_plan (edit_allowed d) (read_of i)) → (a : Cause) → x ≡ Err a → call t (asked d i) ≡ turned_down a t
 edit_refused t i (Change q) x = call_refused t (change i q) x
 edit_refused t i Withdraw x = call_refused t (withdraw i) x
 
-passed : (t : List ℕ) (x : Read) (w : ℕ) → admitted t x ≡ Word w → (shaped t ≡ true) × (sound t ≡ true)
-passed t (Refused a) w e = absurd (refused≢word a w e)
-passed t (Word v) w e =
+passed : (t : List ℕ) (x : Answer) (w : ℕ) → admitted t x ≡ Ok w → (shaped t ≡ true) × (sound t ≡ true)
+passed t (Err a) w e = absurd (refused≢accepted a w e)
+passed t (Ok v) w e =
     cases (shaped t)
-    (λ p. cases (sound t) (λ q. (p, q)) (λ q. absurd (refused≢word _ w (sym (cond_true _ _ p ∙ cond_false (Word v) _ q) ∙ e))))
-    (λ p. absurd (refused≢word _ w (sym (cond_false _ _ p) ∙ e)))
+    (λ p. cases (sound t) (λ q. (p, q)) (λ q. absurd (refused≢accepted _ w (sym (cond_true _ _ p ∙ cond_false (Ok v) _ q) ∙ e))))
+    (λ p. absurd (refused≢accepted _ w (sym (cond_false _ _ p) ∙ e)))
 
 -- a call that is admitted meets a sound table
-pub ready : (t : List ℕ) (x y : Read) (w : ℕ) → x ≡ admitted t y → x ≡ Word w → ((i : ℕ) → get_or t i 0 < 2 ^ rows) → Ready t
+pub ready : (t : List ℕ) (x y : Answer) (w : ℕ) → x ≡ admitted t y → x ≡ Ok w → ((i : ℕ) → get_or t i 0 < 2 ^ rows) → Ready t
 ready t x y w e q b = let p = passed t y w (sym e ∙ q) in record { shape = p.0; sound = (sound_exactly t p.0 b).0 p.1 }
 
 -- and its plan may be given
-word_allowed : (b : Bool) (y : Read) (w : ℕ) → with_plan b y ≡ Word w → b ≡ true
-word_allowed b (Refused a) w e = absurd (refused≢word a w e)
-word_allowed true (Word v) w e = refl
-word_allowed false (Word v) w e = absurd (refused≢word _ w e)
+word_allowed : (b : Bool) (y : Answer) (w : ℕ) → with_plan b y ≡ Ok w → b ≡ true
+word_allowed b (Err a) w e = absurd (refused≢accepted a w e)
+word_allowed true (Ok v) w e = refl
+word_allowed false (Ok v) w e = absurd (refused≢accepted _ w e)
 
-admitted_word : (t : List ℕ) (y : Read) (w : ℕ) → admitted t y ≡ Word w → y ≡ Word w
-admitted_word t (Refused a) w e = absurd (refused≢word a w e)
-admitted_word t (Word v) w e = let p = passed t (Word v) w e in sym (cond_true _ _ p.0 ∙ cond_true _ _ p.1) ∙ e
+admitted_word : (t : List ℕ) (y : Answer) (w : ℕ) → admitted t y ≡ Ok w → y ≡ Ok w
+admitted_word t (Err a) w e = absurd (refused≢accepted a w e)
+admitted_word t (Ok v) w e = let p = passed t (Ok v) w e in sym (cond_true _ _ p.0 ∙ cond_true _ _ p.1) ∙ e
 
-pub allowed : (t : List ℕ) (x : Read) (b : Bool) (y : Read) (w : ℕ) → x ≡ admitted t (with_plan b y) → x ≡ Word w → b ≡ true
+pub allowed : (t : List ℕ) (x : Answer) (b : Bool) (y : Answer) (w : ℕ) → x ≡ admitted t (with_plan b y) → x ≡ Ok w → b ≡ true
 allowed t x b y w e q = word_allowed b y w (admitted_word t (with_plan b y) w (sym e ∙ q))
 
 -- ---- the tests of an admission
 
 module _ (t : List ℕ) (w : ℕ) where
-  pub admits : shaped t ≡ true → sound t ≡ true → admitted t (Word w) ≡ Word w
+  pub admits : shaped t ≡ true → sound t ≡ true → admitted t (Ok w) ≡ Ok w
   admits p q = cond_true _ _ p ∙ cond_true _ _ q
-
-  pub not_sound_lem : shaped t ≡ true → sound t ≡ false → admitted t (Word w) ≡ Refused NotSound
-  not_sound_lem p q = cond_true _ _ p ∙ cond_false _ _ q
-
-  pub not_shaped : shaped t ≡ false → admitted t (Word w) ≡ Refused (WrongTable (length t))
-  not_shaped p = cond_false _ _ p

@@ -9,11 +9,11 @@ use mathlib.Core.List.{List, [], ◌∷◌, ◌++◌}
 use mathlib.Core.Option.{Option, none, some}
 use lib.Count.{ones-le}
 use lib.ListN.{length, get_or, set, take, drop}
-use borrow.Author.Tests.{lt-ltb, le-ltb}
 use borrow.Rule.Slice.PartMut.{put_mid, Post-is}
 use Rattle.lists.specs.Entries.{Entry, find}
 use Rattle.lists.proofs.Tests.{cond_true, cond_false}
 use Rattle.bucket.specs.declared.Bucket.{Bucket}
+use Rattle.std.specs.Prelude.{is_some}
 use Rattle.bucket.specs.Bucket.{row_of, lookup}
 use Rattle.bucket.proofs.Laws.{live-row}
 use Rattle.bucket_words.specs.Words.{bucket_words, words_of, bucket_from}
@@ -138,9 +138,9 @@ module _ {t : List ℕ} (h : Ready t) where
 
 -- ---- one bucket
 
-module _ (v i : ℕ) (b : Bucket) (l : length b.cols ≡ rows) (e : i ≡ row_of rows v b) where
-  pub plan-live : i < rows → plan_of rows v b ≡ some (lookup b v)
-  plan-live h = cond_true _ _ (live-row rows v b l ∙ lt-ltb _ _ (subst (λ (j : ℕ). j < rows) e h))
+module _ (v : ℕ) (b : Bucket) where
+  pub plan-live : is_some (row_of rows v b) ≡ true → plan_of rows v b ≡ some (lookup b v)
+  plan-live h = cond_true _ _ (live-row rows v b ∙ h)
 
-  pub plan-gone : rows ≤ i → plan_of rows v b ≡ none
-  plan-gone h = cond_false _ _ (live-row rows v b l ∙ le-ltb _ _ (subst (λ (j : ℕ). rows ≤ j) e h))
+  pub plan-gone : is_some (row_of rows v b) ≡ false → plan_of rows v b ≡ none
+  plan-gone h = cond_false _ _ (live-row rows v b ∙ h)

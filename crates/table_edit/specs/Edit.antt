@@ -15,8 +15,8 @@ use Rattle.table_edit.specs.declared.Edit.TheVariants.{Change, Withdraw}
 
 -- the bucket of the vector v after it
 abbrev pub on_bucket : Edit → ℕ → Bucket → Bucket
-on_bucket (Change p) v b = (B.change rows v p b).bucket
-on_bucket Withdraw v b = (B.withdraw rows v b).bucket
+on_bucket (Change p) v b = B.changed rows v p b
+on_bucket Withdraw v b = B.without rows v b
 
 -- the base list after it
 abbrev pub on_base : Edit → ℕ → List Entry → List Entry

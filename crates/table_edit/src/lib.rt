@@ -15,36 +15,35 @@ ghost use Rattle.table_edit.specs.Ready.{Ready};
 ghost use Rattle.table_edit.specs.declared.Edit.TheVariants.{Change};
 ghost use Rattle.table_edit.specs.Edit.{on_bucket, on_base, touched, leaving, recounted_in, edit_allowed, Movable, asked};
 
-use answer::Answer;
+use answer::{Answer, Cause};
 use bucket::Bucket;
-use table_base::Found;
-use table_layout::Table;
+use table_layout::{Level, Table};
 
 // The plan of v in a bucket, if it is live there.
-pub(crate) fn plan_of(b: Bucket, v: u64) -> Found
+pub(crate) fn plan_of(b: Bucket, v: u64) -> Option<u64>
     ensures { result ≡ found_of (plan_of rows v b) }
 {
-    if b.row_of(v) < Bucket::ROWS {
-        return Found::Plan(b.lookup(v));
+    if b.row_of(v).is_some() {
+        return Some(b.lookup(v));
     }
-    Found::Nothing
+    None
 }
 
 // The plan of w, if it is live: at level 1 if that holds it, else at level 2 if that holds it, else in the base list.
-pub fn plan_in(t: &[u64], w: u64) -> Found
+pub fn plan_in(t: &[u64], w: u64) -> Option<u64>
     requires { Ready t.now }
     ensures { result ≡ found_of (plan_in t.now w) }
 {
-    if table_layout::holds_first(t, w) {
+    if table_layout::holds(t, Level::First, w) {
         return plan_of(
-            table_layout::bucket_at(t, table_layout::first_place(t, w)),
+            table_layout::bucket_at(t, table_layout::place(t, Level::First, w)),
             w,
         );
     }
     let v = identifier::second(w);
-    if table_layout::holds_second(t, v) {
+    if table_layout::holds(t, Level::Second, v) {
         return plan_of(
-            table_layout::bucket_at(t, table_layout::second_place(t, v)),
+            table_layout::bucket_at(t, table_layout::place(t, Level::Second, v)),
             v,
         );
     }
@@ -75,8 +74,9 @@ pub(crate) fn change_bucket(part: &mut [u64], v: u64, plan: u64)
     requires { length part.old ≡ Bucket.WORDS }
     ensures { part.new ≡ words_of (on_bucket (Change plan) v (bucket_from rows solutions part.old)) }
 {
-    let b = bucket_words::load(part).change(v, plan).bucket;
-    bucket_words::store(part, b);
+    if let Some(b) = bucket_words::load(part).change(v, plan) {
+        bucket_words::store(part, b);
+    }
 }
 
 // The bucket of a stretch of the table after the edit of v, if v is live there.
@@ -107,19 +107,20 @@ pub(crate) fn edit_base(pairs: &mut [u64], count: usize, v: u64, edit: Edit) -> 
 }
 
 // The edit of w in its bucket or in the base list, wherever the three tests send w. The live count and the totals stay.
+// Ready is a clause, no field of a type: from here to the last total of the edit it need not hold, and the steps take `&mut` of the same numbers.
 pub(crate) fn touch(t: &mut [u64], w: u64, edit: Edit)
     requires { Ready t.old }
     ensures { t.new ≡ numbers_of (touched edit w (table_of t.old)) }
 {
-    if table_layout::holds_first(t, w) {
-        let a = table_layout::first_place(t, w);
+    if table_layout::holds(t, Level::First, w) {
+        let a = table_layout::place(t, Level::First, w);
         let e = a + Bucket::WORDS;
         edit_bucket(&mut t[a..e], w, edit);
         return;
     }
     let v = identifier::second(w);
-    if table_layout::holds_second(t, v) {
-        let a = table_layout::second_place(t, v);
+    if table_layout::holds(t, Level::Second, v) {
+        let a = table_layout::place(t, Level::Second, v);
         let e = a + Bucket::WORDS;
         edit_bucket(&mut t[a..e], v, edit);
         return;
@@ -134,11 +135,7 @@ pub fn query_word(t: &[u64], w: u64) -> Answer
     requires { Ready t.now }
     ensures { Performs (served t.now (query w)) result t.now }
 {
-    let found = plan_in(t, w);
-    match found {
-        Found::Plan(p) => Answer::Accepted(p),
-        Found::Nothing => Answer::NotLive,
-    }
+    plan_in(t, w).ok_or(Cause::NotLive)
 }
 
 // The totals after the edit of a word that had the plan q.
@@ -158,17 +155,12 @@ pub fn edit_word(t: &mut [u64], w: u64, edit: Edit) -> Answer
     requires { Ready t.old × (edit_allowed edit ≡ true) }
     ensures { Performs (served t.old (asked edit w)) result t.new }
 {
-    let found = plan_in(t, w);
-    match found {
-        Found::Plan(p) => {
-            let live = t[Table::LIVE_COUNT_AT] - leaving(edit);
-            touch(t, w, edit);
-            t[Table::LIVE_COUNT_AT] = live;
-            recount(t, p, edit);
-            Answer::Accepted(p)
-        }
-        Found::Nothing => Answer::NotLive,
-    }
+    let plan = plan_in(t, w).ok_or(Cause::NotLive)?;
+    let live = t[Table::LIVE_COUNT_AT] - leaving(edit);
+    touch(t, w, edit);
+    t[Table::LIVE_COUNT_AT] = live;
+    recount(t, plan, edit);
+    Ok(plan)
 }
 
 // A change of the word w.

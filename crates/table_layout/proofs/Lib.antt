@@ -1,2 +1,3 @@
 -- The laws of the crate.
 pub mod Shape
+pub mod Levels

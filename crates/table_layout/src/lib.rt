@@ -1,5 +1,6 @@
 // What a table of document 01 has where: its limits, its length, the test of its shape (cause 4), the places of buckets, their bounds, which
-// level holds a vector; and the totals of document 02, order 2, raised and lowered by one. Each function is an equation with a definition of the crate table (specs/Layout.antt, Table.antt, Calls.antt).
+// level holds a vector; and the totals of document 02, order 2, raised and lowered by one. Each function is an equation with a definition of the crate table (specs/Layout.antt, Table.antt, Calls.antt);
+// specs/Level.antt has these at a level.
 // proofs/Shape.antt has the laws of the places, and what one bucket or the base list changes.
 #![tactic(auto)]
 
@@ -8,9 +9,10 @@ ghost use Rattle.lists.specs.Entries.{assignable};
 ghost use Rattle.lists.specs.Totals.{one_more, one_less};
 ghost use Rattle.hash.specs.Mix.{mix_of};
 ghost use Rattle.bucket_words.specs.Words.{bucket_from};
-ghost use Rattle.table.specs.Table.{total_numbers, index, holds};
+ghost use Rattle.table.specs.Table.{total_numbers, holds};
 ghost use Rattle.table.specs.Layout.{buckets1_at, buckets2_at, totals_at, in_range, bucket_place, length_of};
 ghost use Rattle.table.specs.Calls.{rows, solutions, table_of, shaped};
+ghost use Rattle.table_layout.specs.Level.{index_at, level_of};
 
 use bucket::Bucket;
 
@@ -63,20 +65,18 @@ impl Table {
         + Self::BASE_NUMBERS;
 }
 
+// A level of the table.
+#[derive(Clone, Copy)]
+pub enum Level {
+    First,
+    Second,
+}
+
 // The bucket numbers are in range.
 pub fn in_range(b1: u64, b2: u64) -> bool
     ensures { result ≡ in_range b1 b2 }
 {
-    if b1 < 1 {
-        return false;
-    }
-    if Table::MOST_BUCKETS_1 < b1 {
-        return false;
-    }
-    if b2 < 1 {
-        return false;
-    }
-    b2 <= Table::MOST_BUCKETS_2
+    (1..=Table::MOST_BUCKETS_1).contains(&b1) && (1..=Table::MOST_BUCKETS_2).contains(&b2)
 }
 
 // The plan may be given to a word.
@@ -102,17 +102,16 @@ pub fn length_of(b1: u64, b2: u64) -> usize
     bucket_place((b1 + b2) as usize) + Table::BASE_NUMBERS
 }
 
-// Not cause 4.
+// Not cause 4. The functions below ask for it in a clause: the calls that write hold `&mut`, and would have to make a type of it anew at each read.
 pub fn shaped(t: &[u64]) -> bool
     ensures { result ≡ shaped t.now }
 {
     if t.len() < Table::LEADING {
         return false;
     }
-    if in_range(t[Table::BUCKETS_1_AT], t[Table::BUCKETS_2_AT]) {
-        return t.len() == length_of(t[Table::BUCKETS_1_AT], t[Table::BUCKETS_2_AT]);
-    }
-    false
+    let b1 = t[Table::BUCKETS_1_AT];
+    let b2 = t[Table::BUCKETS_2_AT];
+    in_range(b1, b2) && t.len() == length_of(b1, b2)
 }
 
 // The bound of bucket i, level 1 first.
@@ -123,52 +122,32 @@ pub fn bound_at(t: &[u64], i: usize) -> u64
     t[bucket_place(i) + Bucket::BOUND_AT]
 }
 
-// The number of the bucket of v at level 1.
-pub fn first_index(t: &[u64], v: u64) -> usize
+// The number of the bucket of v at a level, those of level 1 first.
+pub fn index(t: &[u64], level: Level, v: u64) -> usize
     requires { shaped t.now ≡ true }
-    ensures { result ≡ index mix_of (get_or t.now buckets1_at 0) v }
+    ensures { result ≡ index_at level t.now v }
 {
-    identifier::bucket(v, t[Table::BUCKETS_1_AT]) as usize
+    let i = match level {
+        Level::First => identifier::bucket(v, t[Table::BUCKETS_1_AT]),
+        Level::Second => { t[Table::BUCKETS_1_AT] + identifier::bucket(v, t[Table::BUCKETS_2_AT]) }
+    };
+    i as usize
 }
 
-// The number of the bucket of v at level 2, after those of level 1.
-pub fn second_index(t: &[u64], v: u64) -> usize
+// The place of v's bucket at a level.
+pub fn place(t: &[u64], level: Level, v: u64) -> usize
     requires { shaped t.now ≡ true }
-    ensures { result ≡ get_or t.now buckets1_at 0 + index mix_of (get_or t.now buckets2_at 0) v }
+    ensures { result ≡ bucket_place rows solutions (index_at level t.now v) }
 {
-    (t[Table::BUCKETS_1_AT] + identifier::bucket(v, t[Table::BUCKETS_2_AT])) as usize
+    bucket_place(index(t, level, v))
 }
 
-// The place of v's bucket at level 1.
-pub fn first_place(t: &[u64], v: u64) -> usize
+// A level holds v.
+pub fn holds(t: &[u64], level: Level, v: u64) -> bool
     requires { shaped t.now ≡ true }
-    ensures { result ≡ bucket_place rows solutions (index mix_of (get_or t.now buckets1_at 0) v) }
+    ensures { result ≡ holds rows solutions mix_of (level_of level (table_of t.now)) v }
 {
-    bucket_place(first_index(t, v))
-}
-
-// The place of v's bucket at level 2.
-pub fn second_place(t: &[u64], v: u64) -> usize
-    requires { shaped t.now ≡ true }
-    ensures { result ≡ bucket_place rows solutions (get_or t.now buckets1_at 0 + index mix_of (get_or t.now buckets2_at 0) v) }
-{
-    bucket_place(second_index(t, v))
-}
-
-// Level 1 holds v.
-pub fn holds_first(t: &[u64], v: u64) -> bool
-    requires { shaped t.now ≡ true }
-    ensures { result ≡ holds rows solutions mix_of (table_of t.now).level1 v }
-{
-    identifier::threshold(v) < bound_at(t, first_index(t, v))
-}
-
-// Level 2 holds v.
-pub fn holds_second(t: &[u64], v: u64) -> bool
-    requires { shaped t.now ≡ true }
-    ensures { result ≡ holds rows solutions mix_of (table_of t.now).level2 v }
-{
-    identifier::threshold(v) < bound_at(t, second_index(t, v))
+    identifier::threshold(v) < bound_at(t, index(t, level, v))
 }
 
 // The place of the base list.
@@ -194,7 +173,7 @@ pub fn raise_total(t: &mut [u64], plan: u64)
     ensures { t.new ≡ one_more (totals_at + plan) t.old }
 {
     let at = Table::TOTALS_AT + (plan as usize);
-    t[at] = t[at] + 1;
+    t[at] += 1;
 }
 
 // One live word less has it.
@@ -203,5 +182,5 @@ pub fn lower_total(t: &mut [u64], plan: u64)
     ensures { t.new ≡ one_less (totals_at + plan) t.old }
 {
     let at = Table::TOTALS_AT + (plan as usize);
-    t[at] = t[at] - 1;
+    t[at] -= 1;
 }

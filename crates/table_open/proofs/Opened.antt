@@ -9,8 +9,9 @@ use lib.ListN.{length, set, take, drop, replicate, length-append, length-drop, l
 use lib.Seq.{length-take-le, take_at, drop_at, drop-drop}
 use borrow.Author.Tests.{eq-eqb, ne_eqb}
 use borrow.Rule.Slice.PartMut.{put_mid}
+use Rattle.std.specs.Prelude.{Ok}
 use Rattle.lists.proofs.Tests.{cond_true, cond_false}
-use Rattle.answer.specs.declared.Answer.TheVariants.{Accepted, WrongBuckets, WrongTable}
+use Rattle.answer.specs.declared.Cause.TheVariants.{WrongBuckets, WrongTable}
 use Rattle.bucket.specs.declared.Bucket.{Bucket}
 use Rattle.bucket.specs.Bucket.{empty_bucket}
 use Rattle.bucket_words.specs.Words.{bucket_words, words_of, Shaped}
@@ -117,6 +118,6 @@ module _ (b1 b2 : ℕ) (t : List ℕ) where
     unfolding open_call
     wrong-length e = cond_true _ _ i ∙ cond_false _ _ (ne_eqb _ _ e)
 
-    pub accepted : length t ≡ length_of rows solutions b1 b2 → open_call b1 b2 t ≡ record { answer = Accepted 0; table = numbers_of (open_table rows solutions b1 b2) }
+    pub accepted : length t ≡ length_of rows solutions b1 b2 → open_call b1 b2 t ≡ record { answer = Ok 0; table = numbers_of (open_table rows solutions b1 b2) }
     unfolding open_call
     accepted e = cond_true _ _ i ∙ cond_true _ _ (eq-eqb _ _ e)

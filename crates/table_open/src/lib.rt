@@ -8,20 +8,9 @@ ghost use Rattle.table.specs.Table.{open_table};
 ghost use Rattle.table.specs.Layout.{header, level_numbers, heads, numbers_of, in_range, length_of};
 ghost use Rattle.table.specs.Calls.{rows, solutions, open_call, Performs};
 
-use answer::Answer;
+use answer::{Answer, Cause};
 use bucket::Bucket;
 use table_layout::Table;
-
-// 0 in each number.
-pub(crate) fn clear(words: &mut [u64])
-    ensures { words.new ≡ replicate (length words.old) 0 }
-{
-    let mut i: usize = 0;
-    while i < words.len() {
-        words[i] = 0;
-        i += 1;
-    }
-}
 
 // Empty buckets one after the other.
 pub(crate) fn empty_buckets(words: &mut [u64], count: usize)
@@ -29,13 +18,10 @@ pub(crate) fn empty_buckets(words: &mut [u64], count: usize)
     ensures { words.new ≡ level_numbers (replicate count (empty_bucket rows solutions)) }
 {
     let empty = Bucket::empty();
-    let mut at: usize = 0;
-    let mut i: usize = 0;
-    while i < count {
+    for i in 0..count {
+        let at = i * Bucket::WORDS;
         let end = at + Bucket::WORDS;
         bucket_words::store(&mut words[at..end], empty);
-        at = end;
-        i += 1;
     }
 }
 
@@ -50,7 +36,7 @@ pub(crate) fn put_header(t: &mut [u64], b1: u64, b2: u64)
     t[Table::LIVE_COUNT_AT] = 0;
     let first = Table::TOTALS_AT;
     let end = Table::HEADER;
-    clear(&mut t[first..end]);
+    t[first..end].fill(0);
 }
 
 // The numbers of an opened table: header, empty buckets, base pairs 0.
@@ -63,20 +49,20 @@ pub(crate) fn lay_out(t: &mut [u64], b1: u64, b2: u64)
     let first = Table::HEADER;
     let base = table_layout::bucket_place(count);
     empty_buckets(&mut t[first..base], count);
-    clear(&mut t[base..]);
+    t[base..].fill(0);
 }
 
 // Opening: cause 3, then 4 for a wrong length alone. Earlier contents are not tested.
 pub fn open(t: &mut [u64], b1: u64, b2: u64) -> Answer
     ensures { Performs (open_call b1 b2 t.old) result t.new }
 {
-    if table_layout::in_range(b1, b2) {
-        let size = t.len();
-        if size == table_layout::length_of(b1, b2) {
-            lay_out(t, b1, b2);
-            return Answer::Accepted(0);
-        }
-        return Answer::WrongTable(size as u64);
+    if !table_layout::in_range(b1, b2) {
+        return Err(Cause::WrongBuckets);
     }
-    Answer::WrongBuckets
+    let size = t.len();
+    if size != table_layout::length_of(b1, b2) {
+        return Err(Cause::WrongTable(size as u64));
+    }
+    lay_out(t, b1, b2);
+    Ok(0)
 }

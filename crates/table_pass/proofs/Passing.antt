@@ -1,55 +1,50 @@
 -- The words that leave level 1 go on: the loops over them. At every number n of rows and r of solution words, and for every mix S.
 -- Assumes nothing.
-use Prim.Native.Nat.{ℕ, zero, suc, ◌+◌, ◌≤◌, ◌<◌}
+use Prim.Native.Nat.{ℕ, suc, ◌+◌, ◌≤◌, ◌<◌}
 use native.Mathlib.Numerals.{add-one}
 use native.Mathlib.Omega.{arith}
 use mathlib.Core.Path.{◌≡◌, refl, sym, ap, ap₂, ◌∙◌, subst, subst₂}
 use mathlib.Core.Bool.{Bool, true, false, true≢false}
 use mathlib.Core.List.{List, [], ◌∷◌, map}
 use lib.ListN.{length, get_or, drop, drop_of_length-le, length-map, length-set}
+use lib.Seq.{drop-cons}
 use borrow.Author.Tests.{le-leb, lt-leb, leb-false}
 use Rattle.lists.specs.Entries.{Entry, words}
 use Rattle.lists.proofs.Parts.{drop-map}
 use Rattle.lists.proofs.Tests.{cond_true}
 use Rattle.bucket.specs.declared.Bucket.{Bucket}
 use Rattle.bucket_words.specs.Words.{bucket_words, bucket_from}
-use Rattle.bucket_settle.specs.declared.Outgoing.{Outgoing}
 use Rattle.model.specs.Model.{base_limit}
 use Rattle.table.specs.Table.{Table, with_second, with_base, index, on_second, put, bucket_of}
 use Rattle.table.specs.Layout.{buckets1_at, buckets2_at, in_range, numbers_of, bucket_place, table_from}
 use Rattle.table.proofs.Numbers.{header_read}
-use Rattle.table_arrive.specs.Arrival.{entries_from, entries_of, stored_at, to_second, Passed, Kept, FlatKept}
+use Rattle.table_arrive.specs.Arrival.{stored_at, to_second, Passed, Kept, FlatKept}
 use Rattle.table_layout.proofs.Shape.{second_in, second-here, second_stored}
 use Rattle.table_arrive.proofs.Tables.{flat, second-sound, second-kept, numbers_table, numbers_kept}
-use Rattle.table_arrive.proofs.Settled.{entries_next, entries_length}
 use Rattle.table_pass.specs.Passing.{seconds, all_to_second, take_over, Drafted, SameSize}
 use Rattle.table_pass.proofs.Arrivals.{all_law, base_grows, second-length, taken-all}
 
-module _ (S : ℕ → ℕ) (o : Outgoing) where
+module _ (S : ℕ → ℕ) (es : List Entry) where
   -- the words as level 2 sees them
-  module _ (i : ℕ) (h : i < o.count) (v : ℕ) (q : v ≡ S (S (get_or o.vectors i 0))) where
+  module _ (i : ℕ) (d : Entry) (h : i < length es) {x : Entry} (a : x ≡ get_or es i d) (v : ℕ) (q : v ≡ S (S x.word)) where
     abbrev here : Entry
-    here = record { word = v; plan = get_or o.plans i 0 }
+    here = record { word = v; plan = x.plan }
 
-    pub seconds-next : drop i (seconds S o) ≡ here ∷ drop (suc i) (seconds S o)
+    pub seconds-next : drop i (seconds S es) ≡ here ∷ drop (suc i) (seconds S es)
     seconds-next =
-        drop-map (on_second S) i (entries_of o) ∙ ap (map (on_second S)) (entries_next o.count o.vectors o.plans i h)
-        ∙ ap₂ {C = List Entry} (λ w l. record { word = w; plan = get_or o.plans i 0 } ∷ l) (sym q) (sym (drop-map (on_second S) (suc i) (entries_of o)))
+        drop-map (on_second S) i es ∙ ap (map (on_second S)) (drop-cons es i d h)
+        ∙ ap (λ (y : Entry). on_second S y ∷ map (on_second S) (drop (suc i) es)) (sym a)
+        ∙ ap₂ {C = List Entry} (λ w l. record { word = w; plan = x.plan } ∷ l) (sym q) (sym (drop-map (on_second S) (suc i) es))
 
-    pub words-next : drop i (words (seconds S o)) ≡ v ∷ drop (suc i) (words (seconds S o))
+    pub words-next : drop i (words (seconds S es)) ≡ v ∷ drop (suc i) (words (seconds S es))
     words-next =
-        drop-map (λ (e : Entry). e.word) i (seconds S o) ∙ ap words seconds-next ∙ ap {B = List ℕ} (λ l. v ∷ l) (sym (drop-map (λ (e : Entry). e.word) (suc i) (seconds S o)))
+        drop-map (λ (e : Entry). e.word) i (seconds S es) ∙ ap words seconds-next ∙ ap {B = List ℕ} (λ l. v ∷ l) (sym (drop-map (λ (e : Entry). e.word) (suc i) (seconds S es)))
 
-  pub seconds-length : length (seconds S o) ≡ o.count
-  seconds-length = length-map (entries_of o) (on_second S) ∙ entries_length o.count o.vectors o.plans
+  pub seconds-length : length (seconds S es) ≡ length es
+  seconds-length = length-map es (on_second S)
 
-  pub words-length : length (words (seconds S o)) ≡ o.count
-  words-length = length-map (seconds S o) (λ e. e.word) ∙ seconds-length
-
--- their words, whatever the plans
-pub words-plans : (S : ℕ → ℕ) (k : ℕ) (vs ps qs : List ℕ) → words (map (on_second S) (entries_from k vs ps)) ≡ words (map (on_second S) (entries_from k vs qs))
-words-plans S zero vs ps qs = refl
-words-plans S (suc k) vs ps qs = ap {B = List ℕ} (λ l. S (S (get_or vs 0 0)) ∷ l) (words-plans S k (drop 1 vs) (drop 1 ps) (drop 1 qs))
+  pub words-length : length (words (seconds S es)) ≡ length es
+  words-length = length-map (seconds S es) (λ e. e.word) ∙ seconds-length
 
 module _ (n r : ℕ) (S : ℕ → ℕ) where
   -- ---- the words arrive, where t is the table after i of them
@@ -214,18 +209,17 @@ not_drafted n r t U d c = record { says = c.says; kept = c.kept; table = refl }
 
 -- ---- no word, or one
 
-module _ (n r : ℕ) (S : ℕ → ℕ) (t : List ℕ) (h : FlatKept n r t) (o : Outgoing) where
+module _ (n r : ℕ) (S : ℕ → ℕ) (t : List ℕ) (h : FlatKept n r t) where
   abbrev all : List Entry → Table
   all = all_to_second n r S (table_from n r t)
 
-  pub pass_none : o.count ≡ 0 → Passed n r t (all (seconds S o)) true t
-  pass_none e =
-      let q : table_from n r t ≡ all (seconds S o) = ap (λ (k : ℕ). all (map (on_second S) (entries_from k o.vectors o.plans))) (sym e) in
-      let k : Kept n r (all (seconds S o)) = subst (Kept n r) q h.table in
-      record { says = sym (le-leb _ base_limit k.short); kept = λ _. k; table = sym h.numbers ∙ ap numbers_of q }
+  pub pass_none : (es : List Entry) → length es ≡ 0 → Passed n r t (all (seconds S es)) true t
+  pass_none [] z = record { says = sym (le-leb _ base_limit h.table.short); kept = λ _. h.table; table = sym h.numbers }
+  pass_none (e ∷ es) z = absurd (omega (arith, z))
 
-  pub pass_one : (v : ℕ) (done : Bool) (u : List ℕ) → o.count ≡ 1 → v ≡ S (S (get_or o.vectors 0 0))
-      → Passed n r t (to_second n r S (table_from n r t) (record { word = v; plan = get_or o.plans 0 0 })) done u → Passed n r t (all (seconds S o)) done u
-  pass_one v done u e q p =
-      subst (λ (es : List Entry). Passed n r t (all es) done u)
-      (ap {B = List Entry} (λ w. record { word = w; plan = get_or o.plans 0 0 } ∷ []) q ∙ ap (λ (k : ℕ). map (on_second S) (entries_from k o.vectors o.plans)) (sym e)) p
+  pub pass_one : (es : List Entry) (d : Entry) {x : Entry} → x ≡ get_or es 0 d → (v : ℕ) (done : Bool) (u : List ℕ) → length es ≡ 1 → v ≡ S (S x.word)
+      → Passed n r t (to_second n r S (table_from n r t) (record { word = v; plan = x.plan })) done u → Passed n r t (all (seconds S es)) done u
+  pass_one [] d a v done u z q p = absurd (omega (arith, z))
+  pass_one (e ∷ []) d {x = x} a v done u z q p =
+      subst₂ (λ (w : ℕ) (y : Entry). Passed n r t (to_second n r S (table_from n r t) (record { word = w; plan = y.plan })) done u) (q ∙ ap (λ (y : Entry). S (S y.word)) a) a p
+  pass_one (e ∷ f ∷ es) d a v done u z q p = absurd (omega (arith, z))

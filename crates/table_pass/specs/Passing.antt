@@ -3,14 +3,13 @@
 -- Assumes nothing.
 use Rattle.std.specs.Prelude.{ℕ, ◌≡◌, Bool, true, List, [], ◌∷◌, map, get_or}
 use Rattle.lists.specs.Entries.{Entry}
-use Rattle.bucket_settle.specs.declared.Outgoing.{Outgoing}
 use Rattle.table.specs.Table.{Table, with_second, on_second, put, bucket_of}
 use Rattle.table.specs.Layout.{buckets1_at, buckets2_at, numbers_of}
-use Rattle.table_arrive.specs.Arrival.{entries_of, to_second, fits, Kept, FlatKept}
+use Rattle.table_arrive.specs.Arrival.{to_second, fits, Kept, FlatKept}
 
 -- the words that leave level 1, as level 2 sees them
-abbrev pub seconds : (ℕ → ℕ) → Outgoing → List Entry
-seconds S o = map (on_second S) (entries_of o)
+abbrev pub seconds : (ℕ → ℕ) → List Entry → List Entry
+seconds S = map (on_second S)
 
 module _ (n r : ℕ) (S : ℕ → ℕ) where
   -- words arrive at level 2 one after the other

@@ -13,23 +13,17 @@ ghost use Rattle.table.specs.Calls.{rows, solutions, table_of};
 ghost use Rattle.table_arrive.specs.Arrival.{Passed, FlatKept};
 ghost use Rattle.table_pass.specs.Passing.{seconds, all_to_second, take_over, Drafted, SameSize};
 
-use bucket_settle::Outgoing;
-use table_layout::Table;
+use bucket_settle::Entry;
+use table_layout::{Level, Table};
 
 // The words that leave level 1 arrive at level 2 one after the other, on a draft. False as soon as the base list has no room: then nothing is
 // said of the draft.
-pub(crate) fn carry(t: &mut [u64], out: Outgoing) -> bool
-    requires { FlatKept rows solutions t.old × (out.count ≤ Outgoing.MOST) }
-    ensures { Drafted rows solutions (all_to_second rows solutions mix_of (table_of t.old) (seconds mix_of out)) result t.new }
+pub(crate) fn carry(t: &mut [u64], entries: &[Entry]) -> bool
+    requires { FlatKept rows solutions t.old }
+    ensures { Drafted rows solutions (all_to_second rows solutions mix_of (table_of t.old) (seconds mix_of entries.now)) result t.new }
 {
-    let vectors = out.vectors;
-    let plans = out.plans;
-    let count = out.count;
-    let mut i: usize = 0;
-    while i < count {
-        if table_arrive::arrive_second(t, identifier::second(vectors[i]), plans[i]) {
-            i += 1;
-        } else {
+    for e in entries {
+        if !table_arrive::arrive_second(t, identifier::second(e.word), e.plan) {
             return false;
         }
     }
@@ -37,17 +31,13 @@ pub(crate) fn carry(t: &mut [u64], out: Outgoing) -> bool
 }
 
 // The level 2 buckets of these words become those of another table.
-pub(crate) fn take_buckets(t: &mut [u64], from: &[u64], out: Outgoing)
-    requires { SameSize rows solutions t.old from.now × (out.count ≤ Outgoing.MOST) }
-    ensures { t.new ≡ numbers_of (take_over rows solutions mix_of (table_of from.now) (words (seconds mix_of out)) (table_of t.old)) }
+pub(crate) fn take_buckets(t: &mut [u64], from: &[u64], entries: &[Entry])
+    requires { SameSize rows solutions t.old from.now }
+    ensures { t.new ≡ numbers_of (take_over rows solutions mix_of (table_of from.now) (words (seconds mix_of entries.now)) (table_of t.old)) }
 {
-    let vectors = out.vectors;
-    let count = out.count;
-    let mut i: usize = 0;
-    while i < count {
-        let at = table_layout::second_place(from, identifier::second(vectors[i]));
+    for e in entries {
+        let at = table_layout::place(from, Level::Second, identifier::second(e.word));
         table_arrive::store_at(t, at, table_layout::bucket_at(from, at));
-        i += 1;
     }
 }
 
@@ -62,34 +52,33 @@ pub(crate) fn take_base(t: &mut [u64], from: &[u64])
 }
 
 // The words that leave level 1 go on, each tried on a draft first; then what they changed is written.
-pub(crate) fn pass_drafted(t: &mut [u64], draft: &mut [u64], out: Outgoing) -> bool
-    requires { FlatKept rows solutions t.old × ((length draft.old ≡ length t.old) × (out.count ≤ Outgoing.MOST)) }
-    ensures { Passed rows solutions t.old (all_to_second rows solutions mix_of (table_of t.old) (seconds mix_of out)) result t.new }
+pub(crate) fn pass_drafted(t: &mut [u64], draft: &mut [u64], entries: &[Entry]) -> bool
+    requires { FlatKept rows solutions t.old × (length draft.old ≡ length t.old) }
+    ensures { Passed rows solutions t.old (all_to_second rows solutions mix_of (table_of t.old) (seconds mix_of entries.now)) result t.new }
 {
     bucket_words::put(draft, t);
-    if carry(draft, out) {
-        take_buckets(t, draft, out);
-        take_base(t, draft);
-        return true;
+    if !carry(draft, entries) {
+        return false;
     }
-    false
+    take_buckets(t, draft, entries);
+    take_base(t, draft);
+    true
 }
 
 // The words that leave level 1 go on, or nothing is written. One word alone needs no draft.
-pub fn pass_on(t: &mut [u64], out: Outgoing) -> bool
-    requires { FlatKept rows solutions t.old × (out.count ≤ Outgoing.MOST) }
-    ensures { Passed rows solutions t.old (all_to_second rows solutions mix_of (table_of t.old) (seconds mix_of out)) result t.new }
+pub fn pass_on(t: &mut [u64], entries: &[Entry]) -> bool
+    requires { FlatKept rows solutions t.old }
+    ensures { Passed rows solutions t.old (all_to_second rows solutions mix_of (table_of t.old) (seconds mix_of entries.now)) result t.new }
 {
-    let count = out.count;
+    let count = entries.len();
     if count == 0 {
         return true;
     }
     if count == 1 {
-        let vectors = out.vectors;
-        let plans = out.plans;
-        return table_arrive::arrive_second(t, identifier::second(vectors[0]), plans[0]);
+        let e = entries[0];
+        return table_arrive::arrive_second(t, identifier::second(e.word), e.plan);
     }
     let n = t.len();
     let mut draft = [0u64; Table::LONGEST];
-    pass_drafted(t, &mut draft[..n], out)
+    pass_drafted(t, &mut draft[..n], entries)
 }

@@ -1,54 +1,45 @@
 -- What is left of the totals, and what the loops over the rows of a bucket and the buckets of a level ask for: one of them, then the rest,
 -- at every number n of rows and r of solution words.
 -- Assumes nothing.
-use Prim.Native.Nat.{ℕ, suc, ◌+◌, ◌-◌, ◌^◌, ◌≤◌, ◌<◌}
+use Prim.Native.Nat.{ℕ, suc, ◌+◌, ◌-◌, ◌^◌, ◌<◌}
 use native.Mathlib.Numerals.{add-one}
 use native.Mathlib.Omega.{arith}
 use mathlib.Core.Path.{◌≡◌, refl, sym, ap, ap₂, ◌∙◌, subst, subst⁻¹}
 use mathlib.Core.Bool.{Bool, true, false, cond, ◌&&◌}
-use mathlib.Core.List.{List, [], ◌∷◌}
+use mathlib.Core.List.{List, ◌∷◌}
 use lib.Bits.{bit_and}
 use lib.Count.{count_trailing_zeros, count_leading_zeros, leading_length}
-use lib.Dec.{eqb, ltb, leb}
-use lib.ListN.{length, get_or, drop, drop_of_length-le}
+use lib.Dec.{ltb, leb}
+use lib.ListN.{length, get_or, drop}
 use lib.Seq.{drop-drop, drop-cons}
 use Rattle.lists.specs.Entries.{Entry}
 use Rattle.lists.specs.Totals.{one_less}
-use Rattle.hash.specs.Mix.{mix_of}
 use Rattle.gf2.specs.Select.{chosen}
 use Rattle.gf2.proofs.Bit.{bit-set_lt}
 use Rattle.gf2.proofs.Lowest.{tz_bit, tz_lt}
 use Rattle.gf2.proofs.Chosen.{chosen_none, chosen-low}
-use Rattle.bucket_rows.specs.declared.Rows.{Rows}
+use Rattle.std.specs.Prelude.{Option}
+use Rattle.std.specs.Option.{is_some, unwrap_or}
 use Rattle.bucket_rows.specs.Elimination.{sound_rows}
 use Rattle.bucket.specs.declared.Bucket.{Bucket}
 use Rattle.bucket.specs.Bucket.{largest_bound, lookup}
 use Rattle.bucket_words.specs.Words.{bucket_words, bucket_from}
 use Rattle.bucket_settle.specs.Settle.{listed}
-use Rattle.table.specs.Table.{thr, index}
 use Rattle.table.specs.Layout.{level_from}
 use Rattle.table.specs.Test.{all_of, clear_test}
 use Rattle.table_rows.specs.Several.{products}
-use Rattle.table_rows.specs.Counting.{passes, held_test, Counted, ended, stopped, gate, next, one_off, count_off, bucket_off, level_off, Leaves}
+use Rattle.table_rows.specs.Counting.{Counted, ended, stopped, gate, next, one_off, count_off, bucket_off, level_off, Leaves}
 use Rattle.table_rows.proofs.Several.{products_at}
 
 -- a loop of tests: one of them, q, then the others: x is what the loop has left to test, b what was to be tested
 pub go_on : {x q b c : Bool} (a : Bool) → x ≡ (q && a) → q ≡ c → x ≡ b → (c && a) ≡ b
 go_on a e h i = sym (e ∙ ap (λ (c : Bool). c && a) h) ∙ i
 
--- a row in its bucket and under the bound
-pub row-passes : (t : List ℕ) (second : Bool) (m i bound v : ℕ) → eqb (index mix_of m v) i ≡ true → ltb (thr mix_of v) bound ≡ true
-    → held_test t second m i bound v ≡ passes t second v
-row-passes t second m i bound v p q = ap₂ (λ (x y : Bool). x && (y && passes t second v)) p q
-
 -- ---- numbers that all pass a test
 
 module _ (xs : List ℕ) where
   pub all-next : (p : ℕ → Bool) (at : ℕ) → at < length xs → all_of p (drop at xs) ≡ (p (get_or xs at 0) && all_of p (drop (at + 1) xs))
   all-next p at h = rw (add-one, drop-cons xs at 0 h)
-
-  pub all_end : (p : ℕ → Bool) (at : ℕ) → length xs ≤ at → all_of p (drop at xs) ≡ true
-  all_end p at h = ap (all_of p) (drop_of_length-le xs h)
 
 -- ---- what is left, and what the code says
 
@@ -110,12 +101,11 @@ module _ (n : ℕ) (row : Entry → Bool) (b : Bucket) (ts : List ℕ) where
   unfolding bucket_off
   bucket_unclear l c = gate-on ts l (gate_off ts _ c)
 
-  pub bucket-found : leb b.bound largest_bound ≡ true → clear_test b ≡ true → (found : Rows) → found ≡ sound_rows n b.mark b.cols → {ok : Bool} → found.ok ≡ ok
-      → bucket_off n row b ts ≡ gate ok ts (count_off row (listed b (chosen b.mark found.rows)) ts)
+  pub bucket-found : leb b.bound largest_bound ≡ true → clear_test b ≡ true → (found : Option (List ℕ)) → found ≡ sound_rows n b.mark b.cols
+      → bucket_off n row b ts ≡ gate (is_some found) ts (count_off row (listed b (chosen b.mark (unwrap_or found b.cols))) ts)
   unfolding bucket_off
-  bucket-found l c found e f =
-      gate-on ts l (gate-on ts c (ap (λ (r : Rows). gate r.ok ts (count_off row (listed b (chosen b.mark r.rows)) ts)) (sym e)
-      ∙ ap (λ (x : Bool). gate x ts (count_off row (listed b (chosen b.mark found.rows)) ts)) f))
+  bucket-found l c found e =
+      gate-on ts l (gate-on ts c (ap (λ (r : Option (List ℕ)). gate (is_some r) ts (count_off row (listed b (chosen b.mark (unwrap_or r b.cols))) ts)) (sym e)))
 
 -- ---- the rows that a mark names
 
@@ -163,9 +153,6 @@ module _ (n r : ℕ) (xs : List ℕ) where
       ap (λ (k : ℕ). level_from n r k (drop at xs)) e
       ∙ ap (λ (l : List ℕ). bucket_from n r (drop at xs) ∷ level_from n r (m - (i + 1)) l) (drop-drop (bucket_words n r) at xs)
 
-  pub level_end : (at m i : ℕ) → m ≤ i → level_from n r (m - i) (drop at xs) ≡ []
-  level_end at m i h = let e : m - i ≡ 0 = omega arith in ap (λ (k : ℕ). level_from n r k (drop at xs)) e
-
   module _ (row : ℕ → Bucket → Entry → Bool) (at m i : ℕ) (ts : List ℕ) (h : i < m) {x : Counted} (all : level_off n row i (level_from n r (m - i) (drop at xs)) ts ≡ x) where
     abbrev here : Counted
     here = bucket_off n (row i (bucket_from n r (drop at xs))) (bucket_from n r (drop at xs)) ts
@@ -181,6 +168,3 @@ module _ (n r : ℕ) (xs : List ℕ) where
 
     pub level_out : {done : Bool} (us : List ℕ) → Leaves here done us → done ≡ false → Leaves x false us
     level_out us = count_out here past us off_next all
-
-  pub off_end : (row : ℕ → Bucket → Entry → Bool) (at m i : ℕ) (ts : List ℕ) → m ≤ i → level_off n row i (level_from n r (m - i) (drop at xs)) ts ≡ ended ts
-  off_end row at m i ts h = ap (λ (bs : List Bucket). level_off n row i bs ts) (level_end at m i h)

@@ -4,6 +4,7 @@ use Rattle.std.specs.Prelude.{ℕ, suc, ◌≡◌, Bool, true, false, cond, ◌&
 use Rattle.lists.specs.Entries.{Entry}
 use Rattle.lists.specs.Totals.{one_less}
 use Rattle.hash.specs.Mix.{mix_of, unmix_of}
+use Rattle.std.specs.Option.{is_some}
 use Rattle.bucket_rows.specs.Elimination.{sound_rows}
 use Rattle.bucket.specs.declared.Bucket.{Bucket}
 use Rattle.bucket.specs.Bucket.{largest_bound}
@@ -11,19 +12,21 @@ use Rattle.table.specs.Table.{thr, index}
 use Rattle.table.specs.Layout.{level_from}
 use Rattle.table.specs.Test.{passes1, rows_in, clear_test}
 use Rattle.table.specs.Calls.{rows, solutions, table_of}
+use Rattle.table_layout.specs.declared.Level.{Level}
+use Rattle.table_layout.specs.declared.Level.TheVariants.{First, Second}
 
 -- at level 2: level 1 does not hold the word whose w' is v
-abbrev pub passes : List ℕ → Bool → ℕ → Bool
-passes t false v = true
-passes t true v = passes1 rows solutions mix_of unmix_of (table_of t) v
+abbrev pub passes : List ℕ → Level → ℕ → Bool
+passes t First v = true
+passes t Second v = passes1 rows solutions mix_of unmix_of (table_of t) v
 
 -- a vector v in bucket i, of m, under its bound, is held where the tests send it
-abbrev pub held_test : List ℕ → Bool → ℕ → ℕ → ℕ → ℕ → Bool
-held_test t second m i bound v = eqb (index mix_of m v) i && (ltb (thr mix_of v) bound && passes t second v)
+abbrev pub held_test : List ℕ → Level → ℕ → ℕ → ℕ → ℕ → Bool
+held_test t level m i bound v = eqb (index mix_of m v) i && (ltb (thr mix_of v) bound && passes t level v)
 
 -- an occupied row e of the bucket b, number i of m
-abbrev pub row_of : List ℕ → Bool → ℕ → ℕ → Bucket → Entry → Bool
-row_of t second m i b e = held_test t second m i b.bound e.word
+abbrev pub row_of : List ℕ → Level → ℕ → ℕ → Bucket → Entry → Bool
+row_of t level m i b e = held_test t level m i b.bound e.word
 
 -- ---- each entry is counted off the totals, until a test fails or a total is 0 already
 
@@ -60,7 +63,7 @@ count_off p (e ∷ es) ts = next (one_off p e ts) (count_off p es)
 
 -- the occupied rows of a bucket, if it is sound and they pass
 unfoldable pub bucket_off : ℕ → (Entry → Bool) → Bucket → List ℕ → Counted
-bucket_off n row b ts = gate (leb b.bound largest_bound) ts (gate (clear_test b) ts (gate (sound_rows n b.mark b.cols).ok ts (count_off row (rows_in n b) ts)))
+bucket_off n row b ts = gate (leb b.bound largest_bound) ts (gate (clear_test b) ts (gate (is_some (sound_rows n b.mark b.cols)) ts (count_off row (rows_in n b) ts)))
 
 -- the buckets of a level from number i on
 abbrev pub level_off : ℕ → (ℕ → Bucket → Entry → Bool) → ℕ → List Bucket → List ℕ → Counted
@@ -68,8 +71,8 @@ level_off n row i [] ts = ended ts
 level_off n row i (b ∷ bs) ts = next (bucket_off n (row i b) b ts) (level_off n row (suc i) bs)
 
 -- the m buckets of a level of the table t, from a place on
-abbrev pub level_left : List ℕ → Bool → ℕ → ℕ → List ℕ → Counted
-level_left t second m place ts = level_off rows (row_of t second m) 0 (level_from rows solutions m (drop place t)) ts
+abbrev pub level_left : List ℕ → Level → ℕ → ℕ → List ℕ → Counted
+level_left t level m place ts = level_off rows (row_of t level m) 0 (level_from rows solutions m (drop place t)) ts
 
 -- what the code answers, and the totals after it
 abbrev pub Leaves : Counted → Bool → List ℕ → Type 0

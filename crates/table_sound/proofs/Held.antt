@@ -1,7 +1,7 @@
 -- The parts of the test make the whole; and what its loops ask for: one bucket, one pair or one number, then the rest,
 -- at every number n of rows and r of solution words.
 -- Assumes nothing.
-use Prim.Native.Nat.{ℕ, zero, suc, ◌+◌, ◌-◌, ◌*◌, ◌^◌, ◌≤◌, ◌<◌}
+use Prim.Native.Nat.{ℕ, zero, suc, ◌+◌, ◌-◌, ◌*◌, ◌/◌, ◌^◌, ◌≤◌, ◌<◌}
 use native.Mathlib.Nat.{zero-add, add_assoc, add-zero, lt_of_lt_of_le}
 use native.Mathlib.Omega.{arith}
 use mathlib.Core.Path.{◌≡◌, refl, sym, ap, ap₂, ◌∙◌, subst, fun_ext}
@@ -14,19 +14,20 @@ use lib.Count.{ones}
 use lib.Dec.{eqb, ltb, leb}
 use lib.ListN.{length, get_or, take, drop, replicate, length-set, length-take, length-drop}
 use lib.Pow.{pow_mono}
-use lib.Seq.{drop-drop, get_or-drop, get_or-set_same, length-take-le}
+use lib.Seq.{drop-drop, get_or-drop, get_or-set_same, length-take-le, take-take}
 use borrow.Author.Tests.{leb-true, ltb-true, ltb-false, ne_eqb}
 use Rattle.lists.specs.Lists.{count_from}
 use Rattle.lists.specs.Entries.{Entry, desk_plan, assignable}
 use Rattle.lists.specs.Totals.{plan_count, totals_of, one_more, one_less}
 use Rattle.lists.proofs.Tests.{cases, bool_ext, true→T, T→true, and_one}
 use Rattle.lists.proofs.Entries.{assignable_byte}
-use Rattle.lists.proofs.Parts.{zeros, zero_at}
+use Rattle.lists.proofs.Parts.{stretch, drop-take, zeros, zero_at}
 use Rattle.lists.proofs.Totals as C
 use Rattle.lists.proofs.Totals.{totals_length, totals_none, totals_cons, less_more, more_less}
 use Rattle.hash.specs.Mix.{mix_of, unmix_of}
 use Rattle.gf2.specs.Select.{chosen}
 use Rattle.gf2.proofs.Linear.{product_lt}
+use Rattle.std.specs.Option.{is_some, unwrap_or}
 use Rattle.bucket_rows.specs.Elimination.{sound_rows}
 use Rattle.bucket.specs.declared.Bucket.{Bucket}
 use Rattle.bucket.specs.Bucket.{largest_bound, lookup}
@@ -37,11 +38,12 @@ use Rattle.table.specs.Layout.{buckets1_at, buckets2_at, base_count_at, live_cou
 use Rattle.table.specs.Content.{occupied}
 use Rattle.table.specs.Test.{all_of, ascends, rows_in, clear_test, bucket_test, level_test, rows_found, totals_test, row1, row2, sound_test}
 use Rattle.table.specs.Calls.{rows, solutions, table_of, shaped, sound}
-use Rattle.table.proofs.Numbers.{header_read, total_read}
+use Rattle.table.proofs.Numbers.{from-part, header_read, total_read}
 use Rattle.table.proofs.Test.{all_out, zeros_out, zeros_in, totals_exactly}
+use Rattle.table_layout.specs.declared.Level.TheVariants.{First, Second}
 use Rattle.table_layout.proofs.Shape.{shape}
 use Rattle.table_rows.specs.Counting.{passes, row_of, Counted, ended, stopped, gate, next, one_off, count_off, bucket_off, level_off, level_left, Leaves}
-use Rattle.table_rows.proofs.Counting.{all-next, all_end, left_is, count_on, count_out, off_one, off_zero, level_next, level_end}
+use Rattle.table_rows.proofs.Counting.{all-next, left_is, count_on, count_out, off_one, off_zero, level_next}
 use Rattle.table_sound.specs.Held.{pair_test, counts_sound, base_left, none_left}
 
 -- a test that holds, then the others; a test that does not
@@ -108,7 +110,7 @@ bucket-any : (n : ℕ) (row : Entry → Bool) (b : Bucket) (ts : List ℕ) (g : 
 unfolding bucket_off bucket_test
 bucket-any n row b ts g =
     let low : Bool = leb b.bound largest_bound in
-    let found : Bool = (sound_rows n b.mark b.cols).ok in
+    let found : Bool = is_some (sound_rows n b.mark b.cols) in
     let held : Bool = all_of row (rows_in n b) in
     let k : Bool = ends (count_off any (rows_in n b) ts) g in
     ends-gate low ts (gate (clear_test b) ts (gate found ts (count_off row (rows_in n b) ts))) g
@@ -227,7 +229,7 @@ rows-plans n r (suc m) xs e i =
     let b : Bucket = bucket_from n r xs in
     ⊎_elim
     (λ k.
-    let q = Memᴰ.of_map (λ v. record { word = v; plan = lookup b v }) (chosen b.mark (sound_rows n b.mark b.cols).rows) k in
+    let q = Memᴰ.of_map (λ v. record { word = v; plan = lookup b v }) (chosen b.mark (unwrap_or (sound_rows n b.mark b.cols) b.cols)) k in
     subst (λ (x : Entry). x.plan < 2 ^ r) q.2 (lt_of_lt_of_le (product_lt b.sols q.0) (pow_mono (omega (arith, length-take r (drop (n + 1) xs))))))
     (rows-plans n r m (drop (bucket_words n r) xs) e) (Memᴰ.append_cases (rows_in n b) i)
 
@@ -259,19 +261,19 @@ module _ (t : List ℕ) where
   abbrev R2 : List Entry
   R2 = rows_found rows T.level2
 
-  first-level : (ts : List ℕ) (g : List ℕ → Bool) → ends (level_left t false b1 header ts) g ≡ (level_test rows (row1 rows solutions mix_of unmix_of T) 0 T.level1 && ends (count_off any R1 ts) g)
+  first-level : (ts : List ℕ) (g : List ℕ → Bool) → ends (level_left t First b1 header ts) g ≡ (level_test rows (row1 rows solutions mix_of unmix_of T) 0 T.level1 && ends (count_off any R1 ts) g)
   unfolding table_from
   first-level ts g =
-      level_any rows (row_of t false b1) 0 T.level1 ts g
+      level_any rows (row_of t First b1) 0 T.level1 ts g
       ∙ ap (λ (x : Bool). x && ends (count_off any R1 ts) g)
       (sym (λ j. level_test rows (λ i b e. eqb (index mix_of ((header_read rows solutions t).0 j) e.word) i && sym (and-true (ltb (thr mix_of e.word) b.bound)) j) 0 T.level1))
 
-  second-level : (ts : List ℕ) (g : List ℕ → Bool) → ends (level_left t true b2 (bucket_place rows solutions b1) ts) g ≡ (level_test rows (row2 rows solutions mix_of unmix_of T) 0 T.level2 && ends (count_off any R2 ts) g)
+  second-level : (ts : List ℕ) (g : List ℕ → Bool) → ends (level_left t Second b2 (bucket_place rows solutions b1) ts) g ≡ (level_test rows (row2 rows solutions mix_of unmix_of T) 0 T.level2 && ends (count_off any R2 ts) g)
   unfolding table_from
   second-level ts g =
-      level_any rows (row_of t true b2) 0 T.level2 ts g
+      level_any rows (row_of t Second b2) 0 T.level2 ts g
       ∙ ap (λ (x : Bool). x && ends (count_off any R2 ts) g)
-      (sym (λ j. level_test rows (λ i b e. eqb (index mix_of ((header_read rows solutions t).1 j) e.word) i && (ltb (thr mix_of e.word) b.bound && passes t true e.word)) 0 T.level2))
+      (sym (λ j. level_test rows (λ i b e. eqb (index mix_of ((header_read rows solutions t).1 j) e.word) i && (ltb (thr mix_of e.word) b.bound && passes t Second e.word)) 0 T.level2))
 
   all-rows : occupied T.level1 + (occupied T.level2 + length T.base) ≡ occupied (level_from rows solutions (b1 + b2) (drop header t)) + get_or t base_count_at 0
   unfolding table_from
@@ -281,18 +283,18 @@ module _ (t : List ℕ) where
 
   -- what is left once both levels and the base list are counted off
   abbrev left : Counted
-  left = next (base_left t T.totals) (λ us. next (level_left t false b1 header us) (level_left t true b2 (bucket_place rows solutions b1)))
+  left = next (base_left t T.totals) (λ us. next (level_left t First b1 header us) (level_left t Second b2 (bucket_place rows solutions b1)))
 
   -- the tests of both levels, then their rows
   levels_first : (us : List ℕ) (g : List ℕ → Bool)
-      → ends (next (level_left t false b1 header us) (level_left t true b2 (bucket_place rows solutions b1))) g
+      → ends (next (level_left t First b1 header us) (level_left t Second b2 (bucket_place rows solutions b1))) g
       ≡ (level_test rows (row1 rows solutions mix_of unmix_of T) 0 T.level1 && (level_test rows (row2 rows solutions mix_of unmix_of T) 0 T.level2 && ends (count_off any (R1 ++ R2) us) g))
   levels_first us g =
       let c : Bool = level_test rows (row1 rows solutions mix_of unmix_of T) 0 T.level1 in
       let d : Bool = level_test rows (row2 rows solutions mix_of unmix_of T) 0 T.level2 in
       let k : List ℕ → Bool = λ vs. ends (count_off any R2 vs) g in
-      ends_next (level_left t false b1 header us) (level_left t true b2 (bucket_place rows solutions b1)) g
-      ∙ ap (ends (level_left t false b1 header us)) (fun_ext (λ vs. second-level vs g))
+      ends_next (level_left t First b1 header us) (level_left t Second b2 (bucket_place rows solutions b1)) g
+      ∙ ap (ends (level_left t First b1 header us)) (fun_ext (λ vs. second-level vs g))
       ∙ first-level us (λ vs. d && k vs)
       ∙ ap (λ (x : Bool). c && x) (ends_test d (count_off any R1 us) k ∙ ap (λ (x : Bool). d && x) (sym (count_append R1 R2 us g)))
 
@@ -310,7 +312,7 @@ module _ (t : List ℕ) where
       let z : Bool = all_of (λ x. eqb x 0) (unused_in rows solutions t) in
       let k : List ℕ → Bool = λ us. ends (count_off any (R1 ++ R2) us) g in
       let h : List ℕ → Bool = λ us. c && (d && k us) in
-      ends_next (base_left t ts) (λ us. next (level_left t false b1 header us) (level_left t true b2 (bucket_place rows solutions b1))) g
+      ends_next (base_left t ts) (λ us. next (level_left t First b1 header us) (level_left t Second b2 (bucket_place rows solutions b1))) g
       ∙ ap (ends (base_left t ts)) (fun_ext (λ us. levels_first us g))
       ∙ ends-gate f ts (gate z ts (count_off (pair_test t) T.base ts)) h
       ∙ ap (λ (x : Bool). f && x) (ends-gate z ts (count_off (pair_test t) T.base ts) h
@@ -366,33 +368,33 @@ module _ (t : List ℕ) where
       whole-left : sound t ≡ none_left left
       whole-left = whole ∙ holding h refl
 
-      begun : {o : Counted} → base_left t ts ≡ o → left ≡ next o (λ us. next (level_left t false b1 header us) (level_left t true b2 (bucket_place rows solutions b1)))
+      begun : {o : Counted} → base_left t ts ≡ o → left ≡ next o (λ us. next (level_left t First b1 header us) (level_left t Second b2 (bucket_place rows solutions b1)))
       unfolding table_from
-      begun e = ap (λ (x : List ℕ). next (base_left t x) (λ us. next (level_left t false b1 header us) (level_left t true b2 (bucket_place rows solutions b1)))) (sym z)
-          ∙ ap (λ (o : Counted). next o (λ us. next (level_left t false b1 header us) (level_left t true b2 (bucket_place rows solutions b1)))) e
+      begun e = ap (λ (x : List ℕ). next (base_left t x) (λ us. next (level_left t First b1 header us) (level_left t Second b2 (bucket_place rows solutions b1)))) (sym z)
+          ∙ ap (λ (o : Counted). next o (λ us. next (level_left t First b1 header us) (level_left t Second b2 (bucket_place rows solutions b1)))) e
 
       pub base_fails : (d : Bool) (us : List ℕ) → Leaves (base_left t ts) d us → d ≡ false → false ≡ sound t
       base_fails d us l f = sym (whole-left ∙ ap none_left (begun (left_is (base_left t ts) l f)))
 
       module _ (d : Bool) (us : List ℕ) (l : Leaves (base_left t ts) d us) (on : d ≡ true) where
-        past-base : left ≡ next (level_left t false b1 header us) (level_left t true b2 (bucket_place rows solutions b1))
+        past-base : left ≡ next (level_left t First b1 header us) (level_left t Second b2 (bucket_place rows solutions b1))
         past-base = begun (left_is (base_left t ts) l on)
 
-        pub first_fails : (d1 : Bool) (vs : List ℕ) → Leaves (level_left t false b1 header us) d1 vs → d1 ≡ false → false ≡ sound t
+        pub first_fails : (d1 : Bool) (vs : List ℕ) → Leaves (level_left t First b1 header us) d1 vs → d1 ≡ false → false ≡ sound t
         first_fails d1 vs l1 f =
-            sym (whole-left ∙ ap none_left (past-base ∙ ap (λ (o : Counted). next o (level_left t true b2 (bucket_place rows solutions b1))) (left_is (level_left t false b1 header us) l1 f)))
+            sym (whole-left ∙ ap none_left (past-base ∙ ap (λ (o : Counted). next o (level_left t Second b2 (bucket_place rows solutions b1))) (left_is (level_left t First b1 header us) l1 f)))
 
-        module _ (d1 : Bool) (vs : List ℕ) (l1 : Leaves (level_left t false b1 header us) d1 vs) (on1 : d1 ≡ true) (p : ℕ) (e : p ≡ bucket_place rows solutions b1) where
-          past_first : left ≡ level_left t true b2 p vs
+        module _ (d1 : Bool) (vs : List ℕ) (l1 : Leaves (level_left t First b1 header us) d1 vs) (on1 : d1 ≡ true) (p : ℕ) (e : p ≡ bucket_place rows solutions b1) where
+          past_first : left ≡ level_left t Second b2 p vs
           past_first =
-              past-base ∙ ap (λ (o : Counted). next o (level_left t true b2 (bucket_place rows solutions b1))) (left_is (level_left t false b1 header us) l1 on1)
-              ∙ ap (λ (q : ℕ). level_left t true b2 q vs) (sym e)
+              past-base ∙ ap (λ (o : Counted). next o (level_left t Second b2 (bucket_place rows solutions b1))) (left_is (level_left t First b1 header us) l1 on1)
+              ∙ ap (λ (q : ℕ). level_left t Second b2 q vs) (sym e)
 
-          pub second_fails : (d2 : Bool) (ws : List ℕ) → Leaves (level_left t true b2 p vs) d2 ws → d2 ≡ false → false ≡ sound t
-          second_fails d2 ws l2 f = sym (whole-left ∙ ap none_left (past_first ∙ left_is (level_left t true b2 p vs) l2 f))
+          pub second_fails : (d2 : Bool) (ws : List ℕ) → Leaves (level_left t Second b2 p vs) d2 ws → d2 ≡ false → false ≡ sound t
+          second_fails d2 ws l2 f = sym (whole-left ∙ ap none_left (past_first ∙ left_is (level_left t Second b2 p vs) l2 f))
 
-          pub all-counted : (d2 : Bool) (ws : List ℕ) → Leaves (level_left t true b2 p vs) d2 ws → d2 ≡ true → all_of (λ x. eqb x 0) ws ≡ sound t
-          all-counted d2 ws l2 on2 = sym (whole-left ∙ ap none_left (past_first ∙ left_is (level_left t true b2 p vs) l2 on2))
+          pub all-counted : (d2 : Bool) (ws : List ℕ) → Leaves (level_left t Second b2 p vs) d2 ws → d2 ≡ true → all_of (λ x. eqb x 0) ws ≡ sound t
+          all-counted d2 ws l2 on2 = sym (whole-left ∙ ap none_left (past_first ∙ left_is (level_left t Second b2 p vs) l2 on2))
 
 -- ---- the occupied rows of the buckets of a level, from number i of m on
 
@@ -402,28 +404,60 @@ module _ (n r : ℕ) (xs : List ℕ) where
   unfolding bucket_from
   occupied-next at m i h = ap occupied (level_next n r xs at m i h) ∙ ap (λ (x : ℕ). ones x + occupied (level_from n r (m - (i + 1)) (drop (at + bucket_words n r) xs))) (get_or-drop at xs n 0)
 
-  pub occupied-end : (at m i : ℕ) → m ≤ i → occupied (level_from n r (m - i) (drop at xs)) ≡ 0
-  occupied-end at m i h = ap occupied (level_end n r xs at m i h)
+level_taken : (n r m : ℕ) (xs : List ℕ) → level_from n r m (take (m * bucket_words n r) xs) ≡ level_from n r m xs
+level_taken n r zero xs = refl
+level_taken n r (suc m) xs =
+    let w : ℕ = bucket_words n r in
+    let e : suc m * w ≡ w + m * w = omega arith in
+    ap (λ (k : ℕ). level_from n r (suc m) (take k xs)) e
+    ∙ ap₂ {C = List Bucket} ◌∷◌ (sym (from-part n r (take (w + m * w) xs)) ∙ ap (bucket_from n r) (take-take w (w + m * w) xs (omega arith)) ∙ from-part n r xs)
+    (ap (level_from n r m) (drop-take w (m * w) xs) ∙ level_taken n r m (drop w xs))
+
+-- those of the stretch of the m buckets of a table, as the code lends it
+pub levels_lent : (m p : ℕ) (t : List ℕ) → p ≡ bucket_place rows solutions m → p ≤ length t
+    → let s : List ℕ = take (p - header) (drop header t) in level_from rows solutions (length s / bucket_words rows solutions) s ≡ level_from rows solutions m (drop header t)
+levels_lent m p t e h =
+    let k : ℕ = m * bucket_words rows solutions in
+    let lent : take (p - header) (drop header t) ≡ take k (drop header t) = ap (λ (q : ℕ). take (q - header) (drop header t)) e ∙ stretch header k t in
+    let many : length (take k (drop header t)) / bucket_words rows solutions ≡ m = omega (arith, length-take-le k (drop header t) (omega (arith, length-drop header t))) in
+    ap (λ (s : List ℕ). level_from rows solutions (length s / bucket_words rows solutions) s) lent
+    ∙ ap (λ (j : ℕ). level_from rows solutions j (take k (drop header t))) many ∙ level_taken rows solutions m (drop header t)
 
 -- ---- pairs
 
-module _ (xs : List ℕ) where
-  pairs_next : (at k : ℕ) → 0 < k → pairs_from k (drop at xs) ≡ record { word = get_or xs at 0; plan = get_or xs (at + 1) 0 } ∷ pairs_from (k - 1) (drop (at + 2) xs)
-  pairs_next at zero h = absurd (omega arith)
-  pairs_next at (suc k) h =
-      let f : k ≡ suc k - 1 = omega arith in
-      ap₂ {C = List Entry} ◌∷◌ (ap₂ {C = Entry} (λ u v. record { word = u; plan = v }) (get_or-drop at xs 0 0 ∙ ap (λ (j : ℕ). get_or xs j 0) (add-zero at)) (get_or-drop at xs 1 0))
-      (ap₂ pairs_from f (drop-drop 2 at xs))
+pairs_taken : (c : ℕ) (xs : List ℕ) → 2 * c ≤ length xs → pairs_from c (take (2 * c) xs) ≡ pairs_from c xs
+pairs_taken zero xs h = refl
+pairs_taken (suc c) [] h = absurd (omega arith)
+pairs_taken (suc c) (x ∷ []) h = absurd (omega arith)
+pairs_taken (suc c) (x ∷ y ∷ xs) h =
+    let e : 2 * suc c ≡ suc (suc (2 * c)) = omega arith in
+    ap (λ (k : ℕ). pairs_from (suc c) (take k (x ∷ y ∷ xs))) e ∙ ap {B = List Entry} (λ l. record { word = x; plan = y } ∷ l) (pairs_taken c xs (omega arith))
 
-  module _ (p : Entry → Bool) (at k : ℕ) (ts : List ℕ) (h : 0 < k) {x : Counted} (all : count_off p (pairs_from k (drop at xs)) ts ≡ x) where
+-- those of a stretch of c pairs, as the code lends it
+pub pairs_lent : (at c : ℕ) (xs : List ℕ) → at + 2 * c ≤ length xs → let s : List ℕ = take (at + 2 * c - at) (drop at xs) in pairs_from (length s / 2) s ≡ pairs_from c (drop at xs)
+pairs_lent at c xs h =
+    let l : 2 * c ≤ length (drop at xs) = omega (arith, length-drop at xs) in
+    let k : length (take (2 * c) (drop at xs)) / 2 ≡ c = omega (arith, length-take-le (2 * c) (drop at xs) l) in
+    ap (λ (s : List ℕ). pairs_from (length s / 2) s) (stretch at (2 * c) xs) ∙ ap (λ (n : ℕ). pairs_from n (take (2 * c) (drop at xs))) k ∙ pairs_taken c (drop at xs) l
+
+module _ (xs : List ℕ) where
+  pairs_next : (i n : ℕ) → i < n → pairs_from (n - i) (drop (2 * i) xs) ≡ record { word = get_or xs (2 * i) 0; plan = get_or xs (2 * i + 1) 0 } ∷ pairs_from (n - (i + 1)) (drop (2 * (i + 1)) xs)
+  pairs_next i n h =
+      let e : n - i ≡ suc (n - (i + 1)) = omega arith in
+      let f : 2 * i + 2 ≡ 2 * (i + 1) = omega arith in
+      ap (λ (k : ℕ). pairs_from k (drop (2 * i) xs)) e
+      ∙ ap₂ {C = List Entry} ◌∷◌ (ap₂ {C = Entry} (λ u v. record { word = u; plan = v }) (get_or-drop (2 * i) xs 0 0 ∙ ap (λ (j : ℕ). get_or xs j 0) (add-zero (2 * i))) (get_or-drop (2 * i) xs 1 0))
+      (ap (pairs_from (n - (i + 1))) (drop-drop 2 (2 * i) xs ∙ ap (λ (j : ℕ). drop j xs) f))
+
+  module _ (p : Entry → Bool) (i n : ℕ) (ts : List ℕ) (h : i < n) {x : Counted} (all : count_off p (pairs_from (n - i) (drop (2 * i) xs)) ts ≡ x) where
     abbrev pair : Counted
-    pair = one_off p (record { word = get_or xs at 0; plan = get_or xs (at + 1) 0 }) ts
+    pair = one_off p (record { word = get_or xs (2 * i) 0; plan = get_or xs (2 * i + 1) 0 }) ts
 
     abbrev later : List ℕ → Counted
-    later = count_off p (pairs_from (k - 1) (drop (at + 2) xs))
+    later = count_off p (pairs_from (n - (i + 1)) (drop (2 * (i + 1)) xs))
 
-    next-pair : count_off p (pairs_from k (drop at xs)) ts ≡ next pair later
-    next-pair = ap (λ (es : List Entry). count_off p es ts) (pairs_next at k h)
+    next-pair : count_off p (pairs_from (n - i) (drop (2 * i) xs)) ts ≡ next pair later
+    next-pair = ap (λ (es : List Entry). count_off p es ts) (pairs_next i n h)
 
     pub pairs_on : {done : Bool} (us : List ℕ) → Leaves pair done us → done ≡ true → later us ≡ x
     pairs_on us = count_on pair later next-pair all
@@ -431,14 +465,18 @@ module _ (xs : List ℕ) where
     pub pairs_out : {done : Bool} (us : List ℕ) → Leaves pair done us → done ≡ false → Leaves x false us
     pairs_out us = count_out pair later us next-pair all
 
-  pub ascends-next : (at k : ℕ) → 1 < k → ascends (pairs_from k (drop at xs)) ≡ (ltb (get_or xs at 0) (get_or xs (at + 2) 0) && ascends (pairs_from (k - 1) (drop (at + 2) xs)))
-  ascends-next at k h =
-      rw (pairs_next at k (omega arith), pairs_next (at + 2) (k - 1) (omega arith))
-
-  pub ascends-end : (at k : ℕ) → k ≤ 1 → ascends (pairs_from k (drop at xs)) ≡ true
-  ascends-end at zero h = refl
-  ascends-end at (suc zero) h = refl
-  ascends-end at (suc (suc k)) h = absurd (omega arith)
+  -- the pairs from the one before i on
+  pub ascends-next : (i n : ℕ) → 1 ≤ i → i < n
+      → ascends (pairs_from (n - (i - 1)) (drop (2 * (i - 1)) xs)) ≡ (ltb (get_or xs (2 * (i - 1)) 0) (get_or xs (2 * i) 0) && ascends (pairs_from (n - (i + 1 - 1)) (drop (2 * (i + 1 - 1)) xs)))
+  ascends-next i n l h =
+      let e : i - 1 + 1 ≡ i = omega arith in
+      let f : i ≡ i + 1 - 1 = omega arith in
+      let first : Entry = record { word = get_or xs (2 * (i - 1)) 0; plan = get_or xs (2 * (i - 1) + 1) 0 } in
+      ap ascends (pairs_next (i - 1) n (omega arith))
+      ∙ ap (λ (j : ℕ). ascends (first ∷ pairs_from (n - j) (drop (2 * j) xs))) e
+      ∙ ap (λ (l : List Entry). ascends (first ∷ l)) (pairs_next i n h)
+      ∙ ap (λ (l : List Entry). ltb first.word (get_or xs (2 * i) 0) && ascends l) (sym (pairs_next i n h))
+      ∙ ap (λ (j : ℕ). ltb first.word (get_or xs (2 * i) 0) && ascends (pairs_from (n - j) (drop (2 * j) xs))) f
 
   -- ---- numbers that are all 0
 
@@ -449,6 +487,3 @@ module _ (xs : List ℕ) where
       ap (λ (c : Bool). c && all_of (λ x. eqb x 0) (drop (at + 1) xs)) (or_none seen (get_or xs at 0))
       ∙ and_assoc (eqb seen 0) (eqb (get_or xs at 0) 0) (all_of (λ x. eqb x 0) (drop (at + 1) xs))
       ∙ ap (λ (c : Bool). eqb seen 0 && c) (sym (all-next xs (λ x. eqb x 0) at h))
-
-  pub seen_end : (seen at : ℕ) → length xs ≤ at → (eqb seen 0 && all_of (λ x. eqb x 0) (drop at xs)) ≡ eqb seen 0
-  seen_end seen at h = ap (λ (c : Bool). eqb seen 0 && c) (all_end xs (λ x. eqb x 0) at h) ∙ and-true (eqb seen 0)

@@ -4,7 +4,7 @@
 // (specs/Test.antt, Calls.antt); specs/Held.antt is for the crate's own functions: the base list and the counts.
 #![tactic(auto)]
 
-ghost use Rattle.std.specs.Prelude.{◌≡◌, true, ◌+◌, ◌*◌, ◌≤◌, eqb, length, get_or, take, drop};
+ghost use Rattle.std.specs.Prelude.{◌≡◌, true, ◌+◌, ◌*◌, ◌/◌, ◌≤◌, eqb, length, get_or, take, drop};
 ghost use Rattle.table.specs.Table.{total_numbers};
 ghost use Rattle.table.specs.Layout.{base_count_at, totals_at, level_from, pairs_from};
 ghost use Rattle.table.specs.Content.{occupied};
@@ -14,7 +14,7 @@ ghost use Rattle.table_rows.specs.Counting.{one_off, count_off, Leaves};
 ghost use Rattle.table_sound.specs.Held.{pair_test, counts_sound, base_left};
 
 use bucket::Bucket;
-use table_layout::Table;
+use table_layout::{Level, Table};
 
 // The totals of the table, plan 0 first.
 pub(crate) fn totals_of(t: &[u64]) -> [u64; Table::TOTALS]
@@ -22,26 +22,18 @@ pub(crate) fn totals_of(t: &[u64]) -> [u64; Table::TOTALS]
     ensures { result ≡ take total_numbers (drop totals_at t.now) }
 {
     let mut out = [0u64; Table::TOTALS];
-    let mut i: usize = 0;
-    while i < Table::TOTALS {
-        out[i] = t[Table::TOTALS_AT + i];
-        i += 1;
-    }
+    bucket_words::put(&mut out, &t[Table::TOTALS_AT..Table::HEADER]);
     out
 }
 
-// The occupied rows of m buckets, from a place on, and the base entries.
-pub(crate) fn live_count(t: &[u64], m: u64, place: usize, base: u64) -> u64
-    requires { (place + m * Bucket.WORDS ≤ length t.now) × (base ≤ Table.BASE_ENTRIES) }
-    ensures { result ≡ occupied (level_from rows solutions m (drop place t.now)) + base }
+// The occupied rows of these buckets and the base entries.
+pub(crate) fn live_count(buckets: &[u64], base: u64) -> u64
+    requires { base ≤ Table.BASE_ENTRIES }
+    ensures { result ≡ occupied (level_from rows solutions (length buckets.now / Bucket.WORDS) buckets.now) + base }
 {
     let mut sum = base;
-    let mut i: u64 = 0;
-    let mut at = place;
-    while i < m {
-        sum += u64::count_ones(t[at + Bucket::MARK_AT]) as u64;
-        i += 1;
-        at += Bucket::WORDS;
+    for i in 0..buckets.len() / Bucket::WORDS {
+        sum += u64::count_ones(buckets[i * Bucket::WORDS + Bucket::MARK_AT]) as u64;
     }
     sum
 }
@@ -51,73 +43,51 @@ pub(crate) fn pair_held(t: &[u64], word: u64, plan: u64) -> bool
     requires { shaped t.now ≡ true }
     ensures { result ≡ pair_test t.now (record { word = word; plan = plan }) }
 {
-    if table_layout::assignable(plan) {
-        if table_layout::holds_second(t, word) {
-            return false;
-        }
-        return !table_layout::holds_first(t, identifier::first(word));
-    }
-    false
+    table_layout::assignable(plan)
+        && !table_layout::holds(t, Level::Second, word)
+        && !table_layout::holds(t, Level::First, identifier::first(word))
 }
 
 // Such an entry is held so, and counted off.
-pub(crate) fn pair_off(t: &[u64], word: u64, plan: u64, left: &mut [u64]) -> bool
-    requires { (shaped t.now ≡ true) × (length left.old ≡ total_numbers) }
+pub(crate) fn pair_off(t: &[u64], word: u64, plan: u64, left: &mut [u64; Table::TOTALS]) -> bool
+    requires { shaped t.now ≡ true }
     ensures { Leaves (one_off (pair_test t.now) (record { word = word; plan = plan }) left.old) result left.new }
 {
-    if pair_held(t, word, plan) {
-        return table_rows::count_off(left, plan);
-    }
-    false
+    pair_held(t, word, plan) && table_rows::count_off(left, plan)
 }
 
-// Each of the first pairs from a place on is held so, and counted off.
-pub(crate) fn pairs_off(t: &[u64], count: u64, place: usize, left: &mut [u64]) -> bool
-    requires { (shaped t.now ≡ true) × ((place + 2 * count ≤ length t.now) × (length left.old ≡ total_numbers)) }
-    ensures { Leaves (count_off (pair_test t.now) (pairs_from count (drop place t.now)) left.old) result left.new }
+// Each of the pairs is held so, and counted off.
+pub(crate) fn pairs_off(t: &[u64], pairs: &[u64], left: &mut [u64; Table::TOTALS]) -> bool
+    requires { shaped t.now ≡ true }
+    ensures { Leaves (count_off (pair_test t.now) (pairs_from (length pairs.now / 2) pairs.now) left.old) result left.new }
 {
-    let mut rest = count;
-    let mut at = place;
-    while 0 < rest {
-        if pair_off(t, t[at], t[at + 1], left) {
-            rest -= 1;
-            at += 2;
-        } else {
+    for i in 0..pairs.len() / 2 {
+        if !pair_off(t, pairs[2 * i], pairs[2 * i + 1], left) {
             return false;
         }
     }
     true
 }
 
-// The words of the first pairs from a place on ascend.
-pub(crate) fn pairs_ascend(t: &[u64], count: u64, place: usize) -> bool
-    requires { place + 2 * count ≤ length t.now }
-    ensures { result ≡ ascends (pairs_from count (drop place t.now)) }
+// The words of the pairs ascend.
+pub(crate) fn pairs_ascend(pairs: &[u64]) -> bool
+    ensures { result ≡ ascends (pairs_from (length pairs.now / 2) pairs.now) }
 {
-    let mut left = count;
-    let mut at = place;
-    while 1 < left {
-        let next = at + 2;
-        if t[at] < t[next] {
-            left -= 1;
-            at = next;
-        } else {
+    for i in 1..pairs.len() / 2 {
+        if pairs[2 * i] <= pairs[2 * (i - 1)] {
             return false;
         }
     }
     true
 }
 
-// From a place on each number is 0: their bits together are, a loop without an early return, so that it can be vectorised.
-pub(crate) fn zero_from(t: &[u64], place: usize) -> bool
-    requires { place ≤ length t.now }
-    ensures { result ≡ all_of (λ x. eqb x 0) (drop place t.now) }
+// Each number is 0: their bits together are, a loop without an early return, so that it can be vectorised.
+pub(crate) fn all_zero(words: &[u64]) -> bool
+    ensures { result ≡ all_of (λ x. eqb x 0) words.now }
 {
-    let mut i = place;
     let mut seen: u64 = 0;
-    while i < t.len() {
-        seen = seen | t[i];
-        i += 1;
+    for x in words {
+        seen |= *x;
     }
     seen == 0
 }
@@ -128,29 +98,21 @@ pub(crate) fn counts_sound(t: &[u64]) -> bool
     ensures { result ≡ counts_sound t.now }
 {
     let count = t[Table::BASE_COUNT_AT];
-    if Table::BASE_ENTRIES < count {
-        return false;
-    }
-    if 0 < t[Table::DESK_TOTAL_AT] {
-        return false;
-    }
-    let buckets = t[Table::BUCKETS_1_AT] + t[Table::BUCKETS_2_AT];
-    t[Table::LIVE_COUNT_AT] == live_count(t, buckets, Table::HEADER, count)
+    let buckets = &t[Table::HEADER..table_layout::base_place(t)];
+    count <= Table::BASE_ENTRIES
+        && t[Table::DESK_TOTAL_AT] == 0
+        && t[Table::LIVE_COUNT_AT] == live_count(buckets, count)
 }
 
 // The base list is sound, and its entries are counted off.
-pub(crate) fn base_off(t: &[u64], left: &mut [u64]) -> bool
-    requires { (shaped t.now ≡ true) × ((get_or t.now base_count_at 0 ≤ Table.BASE_ENTRIES) × (length left.old ≡ total_numbers)) }
+pub(crate) fn base_off(t: &[u64], left: &mut [u64; Table::TOTALS]) -> bool
+    requires { (shaped t.now ≡ true) × (get_or t.now base_count_at 0 ≤ Table.BASE_ENTRIES) }
     ensures { Leaves (base_left t.now left.old) result left.new }
 {
-    let count = t[Table::BASE_COUNT_AT];
     let place = table_layout::base_place(t);
-    if pairs_ascend(t, count, place) {
-        if zero_from(t, place + 2 * (count as usize)) {
-            return pairs_off(t, count, place, left);
-        }
-    }
-    false
+    let end = place + 2 * (t[Table::BASE_COUNT_AT] as usize);
+    let pairs = &t[place..end];
+    pairs_ascend(pairs) && all_zero(&t[end..]) && pairs_off(t, pairs, left)
 }
 
 // Not cause 5. What is cheap is tested first; each entry found is counted off a copy of the totals, and nothing may be left over.
@@ -160,21 +122,16 @@ pub fn sound(t: &[u64]) -> bool
 {
     let first = t[Table::BUCKETS_1_AT];
     let second = t[Table::BUCKETS_2_AT];
-    if counts_sound(t) {
-        let mut left = totals_of(t);
-        if base_off(t, &mut left) {
-            if table_rows::level_off(t, false, first, Table::HEADER, &mut left) {
-                if table_rows::level_off(
-                    t,
-                    true,
-                    second,
-                    table_layout::bucket_place(first as usize),
-                    &mut left,
-                ) {
-                    return zero_from(&left, 0);
-                }
-            }
-        }
+    if !counts_sound(t) {
+        return false;
     }
-    false
+    let mut left = totals_of(t);
+    if !base_off(t, &mut left) {
+        return false;
+    }
+    if !table_rows::level_off(t, Level::First, first, Table::HEADER, &mut left) {
+        return false;
+    }
+    let place = table_layout::bucket_place(first as usize);
+    table_rows::level_off(t, Level::Second, second, place, &mut left) && all_zero(&left)
 }

@@ -21,13 +21,11 @@ fn shuffle(words: [u64; WIDTH], h: usize, mask: u64) -> [u64; WIDTH]
     ensures { Shuffled (width / 2) h mask words result }
 {
     let mut out = [0u64; WIDTH];
-    let mut i: usize = 0;
-    while i < HALF {
+    for i in 0..HALF {
         let x = words[i];
         let y = words[i + HALF];
         out[2 * i] = (x & mask) ^ ((y & mask) << h);
         out[2 * i + 1] = ((x >> h) & mask) ^ (y ^ (y & mask));
-        i += 1;
     }
     out
 }

@@ -2,13 +2,10 @@
 -- Assumes nothing.
 use mathlib.Core.Path.{◌≡◌}
 use mathlib.Core.List.{◌++◌}
-use Prim.Native.Nat.{◌-◌, ◌/◌, ◌^◌}
-use lib.ListN.{length, take, drop}
+use Prim.Native.Nat.{◌/◌, ◌^◌}
+use lib.ListN.{take, drop}
 use Rattle.gf2.specs.Vectors.{row_step}
 use Rattle.bucket.proofs.col_step.Given as goal
 
 abbrev pub invariant-loop-at : goal.invariant-loop-at
-invariant-loop-at l = (length l.out ≡ length l.initial.out) × (take l.at l.out ++ row_step l.u l.i (l.p / 2 ^ l.at) (drop l.at l.out) ≡ row_step l.u l.i l.p l.initial.out)
-
-abbrev pub decreases-loop-at : goal.decreases-loop-at
-decreases-loop-at l = length l.initial.out - l.at
+invariant-loop-at l = take l.at l.a-items ++ row_step l.u l.i (l.p / 2 ^ l.at) (drop l.at l.a-items) ≡ row_step l.u l.i l.p l.initial.a-items

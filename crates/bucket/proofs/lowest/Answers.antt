@@ -1,8 +1,8 @@
--- `bucket::lowest` meets its contract: the count is at most 64.
+-- `bucket::lowest` meets its contract.
 -- Assumes nothing.
-use native.Mathlib.Omega.{arith}
-use lib.Count.{trailing_le}
+use lib.Count.{count_trailing_zeros}
 use Rattle.bucket.proofs.lowest.Goals as goal
 
-pub overflow_cast-result : goal.overflow_cast-result
-overflow_cast-result c = let h = trailing_le 64 c.args.x in omega arith
+pub returns-then-x-eq0 : goal.returns-then-x-eq0
+unfolding count_trailing_zeros
+returns-then-x-eq0 c = rw c.if-x-eq0.true

@@ -6,7 +6,7 @@ use Prim.Native.Nat.{ℕ, ◌+◌, ◌-◌, ◌*◌, ◌≤◌, ◌<◌}
 use native.Mathlib.Omega.{arith}
 use borrow.Author.Rules.{rules}
 use lib.ListN.{length, take, drop}
-use Rattle.lists.proofs.Parts.{stretch, length_stretch}
+use Rattle.lists.proofs.Parts.{stretch}
 use Rattle.gf2.specs.Vectors.{product}
 use Rattle.gf2.proofs.Loops.{product-end, product-rest, product_stretch}
 use Rattle.bucket.proofs.product.Goals.{After-product_in, Start}
@@ -26,16 +26,10 @@ sum c =
     let sized : length c.args.cols ≡ 64 =
     search rules in
     let l = sized in
-    omega (arith, further c.args.cols c.args.k c.loop-i.i (omega arith) (omega arith), c.product_in.ensures, c.loop-i.invariant.1)
+    omega (arith, further c.args.cols c.args.k c.loop-i.i (omega arith) (omega arith), c.product_in.ensures, c.loop-i.invariant)
 
 pub loop-i-init : goal.loop-i-init
-loop-i-init c = let l = sized (goal.at.loop-i-init c).Start in (search rules, sym (product-end c.args.cols c.args.k 64 (omega arith)))
-
-pub product_in-requires : goal.product_in-requires
-product_in-requires c =
-    let l = sized (goal.at.product_in-requires c).Start in
-    let n = length_stretch (16 * (c.loop-i.i - 1)) 16 c.args.cols (omega arith) in
-    omega arith
+loop-i-init c = let l = sized (goal.at.loop-i-init c).Start in sym (product-end c.args.cols c.args.k 64 (omega arith))
 
 pub overflow_mul-p : goal.overflow_mul-p
 overflow_mul-p c =
@@ -46,9 +40,4 @@ overflow_add-p c =
     omega (arith, sum (goal.at.overflow_add-p c).After-product_in, product-rest c.args.cols c.args.k (16 * (c.loop-i.i - 1)) 64 (omega (arith, sized (goal.at.overflow_add-p c).Start)))
 
 pub loop-i-preserved : goal.loop-i-preserved
-loop-i-preserved c = (omega arith, sum (goal.at.loop-i-preserved c).After-product_in)
-
-pub returns : goal.returns
-returns c =
-    let z : c.loop-i.i ≡ 0 = omega arith in
-    rw z at c.loop-i.invariant.1
+loop-i-preserved c = sum (goal.at.loop-i-preserved c).After-product_in

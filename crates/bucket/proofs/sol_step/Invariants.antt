@@ -2,13 +2,9 @@
 -- Assumes nothing.
 use mathlib.Core.Path.{◌≡◌}
 use mathlib.Core.List.{◌++◌}
-use Prim.Native.Nat.{◌-◌}
-use lib.ListN.{length, take, drop}
+use lib.ListN.{take, drop}
 use Rattle.gf2.specs.Vectors.{sol_step}
 use Rattle.bucket.proofs.sol_step.Given as goal
 
-abbrev pub invariant-loop-i : goal.invariant-loop-i
-invariant-loop-i l = (length l.out ≡ length l.initial.out) × (take l.i l.out ++ sol_step l.u l.left (drop l.i l.out) ≡ sol_step l.u l.d l.initial.out)
-
-abbrev pub decreases-loop-i : goal.decreases-loop-i
-decreases-loop-i l = length l.initial.out - l.i
+abbrev pub invariant-loop-s : goal.invariant-loop-s
+invariant-loop-s l = take l.s-index l.s-items ++ sol_step l.u l.left (drop l.s-index l.s-items) ≡ sol_step l.u l.d l.initial.s-items

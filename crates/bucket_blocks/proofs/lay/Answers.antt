@@ -1,20 +1,29 @@
 -- `bucket_blocks::lay` meets its contract. The loop keeps what is tied.
 -- Assumes nothing.
-use mathlib.Core.Path.{refl, ◌∙◌}
+use mathlib.Core.Path.{sym, subst}
+use Prim.Native.Nat.{ℕ, ◌+◌, ◌≤◌, ◌<◌}
 use native.Mathlib.Omega.{arith}
-use Prim.Native.Nat.{◌+◌, ◌≤◌}
-use borrow.Author.Rules.{rules}
+use lib.Pow.{pow-lt}
+use Rattle.std.proofs.lemmas.List.Elements.{All-set}
+use Rattle.bucket_pairs.specs.Pairs.{TiedPair, Tied}
+use Rattle.bucket_pairs.proofs.Tied.{tied_entry}
 use Rattle.bucket_blocks.proofs.lay.Goals as goal
+use Rattle.bucket_blocks.proofs.lay.Goals.{then-have-k-ne0, else-have-k-ne0}
 
-pub loop-k-init : goal.loop-k-init
-loop-k-init c = (search rules, search rules, refl, λ f lf t. (t.1.0, tt))
+pub bounds-table-power : goal.bounds-table-power
+bounds-table-power c = subst (λ (x : ℕ). x < 16) (sym c.power.ensures) (pow-lt {i = c.loop-k.k} {j = 4} c.loop-k-test.true)
 
 pub loop-k-preserved : goal.loop-k-preserved
 loop-k-preserved c =
-    (omega arith, omega (arith, c.lay_one-p.ensures.0), c.lay_one-p.ensures.1 ∙ c.loop-k.invariant.2, λ f lf t. c.lay_one-p.ensures.2 f lf (t.0, ((c.loop-k.invariant.3 f lf t).0, tt)))
-
-pub shape_of-ws : goal.shape_of-ws
-shape_of-ws c = c.loop-k.invariant.2
-
-pub returns : goal.returns
-returns c = let z : c.loop-k.p ≤ c.args.at + 4 = omega arith in (z, c.loop-k.invariant.2, c.loop-k.invariant.3)
+    let n : c.if-have-k-ne0.p ≤ c.args.at + (c.loop-k.k + 1) =
+    elim c.if-have-k-ne0.branch [ then-have-k-ne0 w ↦ omega (arith, w.p-is) | else-have-k-ne0 w ↦ omega (arith, w.p-is) ] in (
+      n,
+      λ f lf t.
+          let v = (c.loop-k.invariant.1 f lf t).0 in (
+            elim c.if-have-k-ne0.branch [
+              | then-have-k-ne0 w ↦ subst (Tied f) (sym w.ws-is) (All-set (TiedPair f) c.loop-k.ws c.loop-k.p _ (tied_entry f c.args.table.now w.power.result lf t.0) v)
+              | else-have-k-ne0 w ↦ subst (Tied f) (sym w.ws-is) v
+            ],
+            tt,
+          ),
+    )

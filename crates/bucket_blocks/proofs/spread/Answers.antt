@@ -1,14 +1,11 @@
 -- `bucket_blocks::spread` meets its contract.
 -- Assumes nothing.
-use mathlib.Core.Path.{◌∙◌}
-use Prim.Native.Nat.{◌+◌}
-use native.Mathlib.Omega.{arith}
-use Rattle.bucket_pairs.proofs.Swept.{length-swept, swept_keeps}
+use Prim.Native.Nat.{◌-◌}
+use Rattle.bucket_pairs.proofs.Tied.{part_keeps}
 use Rattle.bucket_blocks.proofs.spread.Goals as goal
 
 pub returns : goal.returns
-returns c =
-    let n = c.lay-end.ensures.1 ∙ c.lay-middle.ensures.1 ∙ length-swept _ _ _ 0 c.args.done _ _ c.sweep.ensures in
-    let v = swept_keeps _ _ _ 0 c.args.done c.args.ws.now _ c.sweep.ensures (omega (arith, c.requires.2)) in
-    let u = swept_keeps _ _ _ (c.lay-end.result + 16) c.args.count _ _ c.sweep-2.ensures (omega (arith, n, c.requires.3)) in
-    (length-swept _ _ _ (c.lay-end.result + 16) c.args.count _ _ c.sweep-2.ensures ∙ n, λ f lf t. u f lf (t.0, c.lay-end.ensures.2 f lf (t.0, c.lay-middle.ensures.2 f lf (t.0, v f lf t))))
+returns c = λ f lf t.
+    let n = part_keeps _ _ _ 0 c.args.done c.args.ws.now _ c.sweep.ensures f lf t in
+    let m = c.lay-end.ensures.1 f lf (t.1.0, c.lay-middle.ensures.1 f lf (t.0, n)) in
+    part_keeps _ _ _ c.min-todo.result (c.args.count - c.min-todo.result) c.lay-end.new.ws _ c.sweep-2.ensures f lf (t.0, (t.1.0, m))

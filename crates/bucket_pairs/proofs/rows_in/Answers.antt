@@ -1,32 +1,38 @@
--- `bucket_pairs::rows_in` meets its contract. The loop's invariant: what the pairs from `k` on give, with the rows so far, is what all give.
+-- `bucket_pairs::rows_in` meets its contract. The loop's invariant: what the pairs from `p` on give, with the rows so far, is what all give.
 -- Assumes nothing.
 use mathlib.Core.Path.{sym, ap, ◌∙◌}
-use Prim.Native.Nat.{◌<◌}
 use native.Mathlib.Omega.{arith}
+use native.Mathlib.Numerals.{add-one}
 use borrow.Author.Tests.{eq-eqb, ne_eqb}
 use lib.ListN.{length, length-set}
 use Rattle.lists.proofs.Tests.{cond_true, cond_false}
-use Rattle.bucket_pairs.proofs.Read.{rows_start, rows_stop, rows_more, rows_end}
-use borrow.Author.Rules.{rules}
+use Rattle.bucket_pairs.specs.Pairs.{read_rows}
+use Rattle.bucket_pairs.proofs.Read.{only_is, rows_stop, rows_more, rows_end}
 use Rattle.bucket_pairs.proofs.rows_in.Goals as goal
 
-pub loop-k-init : goal.loop-k-init
-loop-k-init c =
-    (search rules, ap length c.unit_rows-rows.ensures, rows_start 64 c.args.count c.args.mark c.args.cols c.args.ws.now c.unit_rows-rows.result c.unit_rows-rows.ensures)
+pub loop-p-init : goal.loop-p-init
+unfolding read_rows
+loop-p-init c = (ap length c.unit_rows-rows.ensures, rw c.unit_rows-rows.ensures)
 
-pub returns-then-j-ge-WIDTH : goal.returns-then-j-ge-WIDTH
-returns-then-j-ge-WIDTH c =
-    rows_stop 64 c.args.cols c.args.ws.now c.args.count c.loop-k.k c.loop-k.rows c.loop-k.left c.only_bit-j.result (omega arith) c.only_bit-j.ensures c.if-j-ge-WIDTH.true ∙ c.loop-k.invariant.2
+pub returns-in_default : goal.returns-in_default
+returns-in_default c = rows_stop 64 c.args.ws.now c.loop-p.p-index c.loop-p.rows c.loop-p.left c.loop-p-test.true c.in_default.ensures ∙ c.loop-p.invariant.1
 
-pub loop-k-preserved : goal.loop-k-preserved
-loop-k-preserved c =
-    let l : c.only_bit-j.result < 64 = omega arith in
-    (omega arith, simp length-set c.loop-k.invariant.1, rows_more 64 c.args.cols c.args.ws.now c.args.count c.loop-k.k c.loop-k.rows c.loop-k.left c.only_bit-j.result (omega arith) c.only_bit-j.ensures l ∙ c.loop-k.invariant.2)
+pub offset_bounds-rows-j : goal.offset_bounds-rows-j
+offset_bounds-rows-j c = let l = (only_is 64 _ c.in-Some.j c.in-Some.ensures).0 in record { fits = omega arith }
+
+pub bounds-rows-j : goal.bounds-rows-j
+bounds-rows-j c = (only_is 64 _ c.in-Some.j c.in-Some.ensures).0
+
+pub loop-p-preserved : goal.loop-p-preserved
+loop-p-preserved c = (
+  simp length-set c.loop-p.invariant.0,
+  rw add-one (rows_more 64 c.args.ws.now c.loop-p.p-index c.loop-p.rows c.loop-p.left c.in-Some.j c.loop-p-test.true c.in-Some.ensures ∙ c.loop-p.invariant.1),
+)
 
 pub returns-then-left-ne0 : goal.returns-then-left-ne0
 returns-then-left-ne0 c =
-    sym (rows_end 64 c.args.cols c.args.ws.now c.args.count c.loop-k.k c.loop-k.rows c.loop-k.left (omega arith) ∙ cond_false _ _ (ne_eqb c.loop-k.left 0 (λ z. omega arith))) ∙ c.loop-k.invariant.2
+    sym (rows_end 64 c.args.ws.now c.loop-p.p-index c.loop-p.rows c.loop-p.left (omega arith) ∙ cond_false _ _ (ne_eqb c.loop-p.left 0 (λ z. omega arith))) ∙ c.loop-p.invariant.1
 
 pub returns : goal.returns
 returns c =
-    sym (rows_end 64 c.args.cols c.args.ws.now c.args.count c.loop-k.k c.loop-k.rows c.loop-k.left (omega arith) ∙ cond_true _ _ (eq-eqb c.loop-k.left 0 (omega arith))) ∙ c.loop-k.invariant.2
+    sym (rows_end 64 c.args.ws.now c.loop-p.p-index c.loop-p.rows c.loop-p.left (omega arith) ∙ cond_true _ _ (eq-eqb c.loop-p.left 0 (omega arith))) ∙ c.loop-p.invariant.1

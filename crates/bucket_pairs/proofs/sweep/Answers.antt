@@ -1,22 +1,20 @@
--- `bucket_pairs::sweep` meets its contract. The loop's invariant: the sweep of the pairs from `a` on is the sweep of all.
+-- `bucket_pairs::sweep` meets its contract. The loop's invariant: the pairs before `p` are swept.
 -- Assumes nothing.
-use mathlib.Core.Path.{refl, sym, ap, ◌∙◌}
+use mathlib.Core.Path.{ap, ◌∙◌}
+use Prim.Native.Nat.{◌<◌}
 use native.Mathlib.Omega.{arith}
-use lib.ListN.{length}
-use Rattle.bucket_pairs.proofs.Swept.{swept_at_lem, swept-more, swept-end, length_at}
+use lib.ListN.{length, get_or, set}
+use Rattle.std.proofs.lemmas.List.{get_or_default}
+use Rattle.std.proofs.lemmas.List.Edits.{map_over_more}
+use Rattle.bucket_pairs.specs.declared.Pair.{Pair}
+use Rattle.bucket_pairs.specs.Pairs.{zeros, swept}
+use Rattle.bucket_pairs.proofs.Tied.{swept_is}
 use Rattle.bucket_pairs.proofs.sweep.Goals as goal
 
-pub loop-a-init : goal.loop-a-init
-loop-a-init c = (refl, refl)
-
-pub loop-a-preserved : goal.loop-a-preserved
-loop-a-preserved c =
-    let e = swept_at_lem c.args.tables.now c.args.c c.args.have c.loop-a.a c.loop-a.ws _ c.index_in-i.result c.index_in-h.result c.index_in-i.ensures c.index_in-h.ensures c.put.ensures in
-    (ap length e ∙ length_at c.args.tables.now c.args.c c.args.have c.loop-a.a c.loop-a.ws ∙ c.loop-a.invariant.0, swept-more c.args.tables.now c.args.c c.args.have c.loop-a.a c.args.to c.loop-a.ws _ (omega arith) e ∙ c.loop-a.invariant.1)
-
-pub shape_of-ws : goal.shape_of-ws
-shape_of-ws c = c.loop-a.invariant.0
-
-pub returns : goal.returns
-returns c =
-    sym (swept-end c.args.tables.now c.args.c c.args.have c.loop-a.a c.args.to c.loop-a.ws (omega arith)) ∙ c.loop-a.invariant.1
+pub loop-p-preserved : goal.loop-p-preserved
+loop-p-preserved c =
+    let i = c.loop-p.p-index in
+    let p : Pair = get_or c.loop-p.p-items i zeros in
+    let e = swept_is c.args.tables.now c.args.c c.args.have _ _ p _ _ c.index_in.ensures c.index_in-in-loop-p.ensures c.plus.ensures c.plus-in-loop-p.ensures in
+    let h : i < length c.args.ws.now = c.loop-p-test.true in
+    ap (set c.loop-p.p-items i) e ∙ map_over_more (swept c.args.tables.now c.args.c c.args.have) c.args.ws.now c.loop-p.p-items i p h c.loop-p.invariant (get_or_default c.loop-p.p-items i zeros p (omega (arith, c.loop-p.auto.p-items)))

@@ -1,13 +1,10 @@
--- `bucket_pairs::sweep` meets its contract. The loop's invariant: the sweep of the pairs from `a` on is the sweep of all.
+-- `bucket_pairs::sweep` meets its contract. The loop's invariant: the pairs before `p` are swept.
 -- Assumes nothing.
 use mathlib.Core.Path.{◌≡◌}
-use Prim.Native.Nat.{◌-◌}
-use lib.ListN.{length}
-use Rattle.bucket_pairs.specs.Pairs.{swept_from, swept}
+use mathlib.Core.List.{◌++◌, map}
+use lib.ListN.{take, drop}
+use Rattle.bucket_pairs.specs.Pairs.{swept}
 use Rattle.bucket_pairs.proofs.sweep.Given as goal
 
-abbrev pub invariant-loop-a : goal.invariant-loop-a
-invariant-loop-a l = (length l.ws ≡ length l.initial.ws) × (swept_from l.tables l.c l.have (l.to - l.a) l.a l.ws ≡ swept l.tables l.c l.have l.from l.to l.initial.ws)
-
-abbrev pub decreases-loop-a : goal.decreases-loop-a
-decreases-loop-a l = l.to - l.a
+abbrev pub invariant-loop-p : goal.invariant-loop-p
+invariant-loop-p l = l.p-items ≡ map (swept l.tables l.c l.have) (take l.p-index l.initial.p-items) ++ drop l.p-index l.initial.p-items

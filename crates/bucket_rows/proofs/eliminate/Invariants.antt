@@ -3,7 +3,6 @@
 -- Assumes nothing.
 use mathlib.Core.Path.{◌≡◌}
 use mathlib.Core.Bool.{true}
-use Prim.Native.Nat.{◌-◌, ◌≤◌}
 use lib.ListN.{length}
 use Rattle.bucket_rows.specs.Elimination.{Work, after, placed}
 use Rattle.bucket_rows.proofs.Free.{FreeBits}
@@ -12,8 +11,5 @@ use Rattle.bucket_rows.proofs.eliminate.Given as goal
 
 abbrev pub invariant-loop-j : goal.invariant-loop-j
 invariant-loop-j l =
-    (l.j ≤ 64) × (length l.prods ≡ 64) × (length l.duals ≡ 64) × (◌≡◌ {A = Work} (record { prods = l.prods; duals = l.duals; mark = l.mark }) (after 64 l.cols l.j)) × (placed 64 l.cols l.j ≡ true)
+    (length l.prods ≡ 64) × (length l.duals ≡ 64) × (◌≡◌ {A = Work} (record { prods = l.prods; duals = l.duals; mark = l.mark }) (after 64 l.fn.cols l.j)) × (placed 64 l.fn.cols l.j ≡ true)
     × FreeBits 64 l.occupied l.prods × Untaken l.occupied l.j l.mark
-
-abbrev pub decreases-loop-j : goal.decreases-loop-j
-decreases-loop-j l = 64 - l.j

@@ -12,31 +12,6 @@ use Rattle.gf2.proofs.Solutions.{sol_step_none}
 use Rattle.gf2.proofs.Loops.{sol_step_one, without_lt, low_off}
 use Rattle.bucket_rows.proofs.flip_all.Goals as goal
 
-pub overflow_cast-a : goal.overflow_cast-a
-overflow_cast-a c = let l = tz_lt 64 c.loop-left.left c.loop-left.invariant.1 c.loop-left-test.true in omega arith
-
-pub offset_bounds-t-a : goal.offset_bounds-t-a
-offset_bounds-t-a c = let l = tz_lt 64 c.loop-left.left c.loop-left.invariant.1 c.loop-left-test.true in omega arith
-
-pub bounds-t-a : goal.bounds-t-a
-bounds-t-a c = let l = tz_lt 64 c.loop-left.left c.loop-left.invariant.1 c.loop-left-test.true in l
-
-pub offset_bounds-t-a-in-loop-left : goal.offset_bounds-t-a-in-loop-left
-offset_bounds-t-a-in-loop-left c = let l = tz_lt 64 c.loop-left.left c.loop-left.invariant.1 c.loop-left-test.true in omega arith
-
-pub bounds-t-a-in-loop-left : goal.bounds-t-a-in-loop-left
-bounds-t-a-in-loop-left c = let l = tz_lt 64 c.loop-left.left c.loop-left.invariant.1 c.loop-left-test.true in l
-
-pub overflow_sub-left : goal.overflow_sub-left
-overflow_sub-left c = let z : c.loop-left.left ≡ 0 → ⊥ = c.loop-left-test.true in omega arith
-
-pub loop-left-smaller : goal.loop-left-smaller
-loop-left-smaller c =
-    let l : count_trailing_zeros 64 c.loop-left.left < 64 = tz_lt 64 c.loop-left.left c.loop-left.invariant.1 c.loop-left-test.true in
-    let e = tz_bit 64 c.loop-left.left l in
-    let o = low_off 64 c.loop-left.left c.loop-left.invariant.1 c.loop-left-test.true in
-    rw o (without_lt c.loop-left.left (count_trailing_zeros 64 c.loop-left.left) e)
-
 pub loop-left-preserved : goal.loop-left-preserved
 loop-left-preserved c =
     let l : count_trailing_zeros 64 c.loop-left.left < 64 = tz_lt 64 c.loop-left.left c.loop-left.invariant.1 c.loop-left-test.true in

@@ -2,13 +2,9 @@
 -- Assumes nothing.
 use mathlib.Core.Path.{◌≡◌}
 use mathlib.Core.List.{◌++◌}
-use Prim.Native.Nat.{◌-◌, ◌≤◌}
 use lib.ListN.{length, take, drop}
 use Rattle.bucket_rows.specs.Elimination.{ordered}
 use Rattle.bucket_rows.proofs.in_order.Given as goal
 
-abbrev pub invariant-loop-i : goal.invariant-loop-i
-invariant-loop-i l = (l.i ≤ 64) × (length l.t ≡ 64) × (take l.i l.t ++ ordered 64 l.ds (drop l.i l.t) ≡ ordered 64 l.ds l.initial.t)
-
-abbrev pub decreases-loop-i : goal.decreases-loop-i
-decreases-loop-i l = 64 - l.i
+abbrev pub invariant-loop-x : goal.invariant-loop-x
+invariant-loop-x l = (length l.x-items ≡ 64) × (take l.x-index l.x-items ++ ordered 64 l.ds (drop l.x-index l.x-items) ≡ ordered 64 l.ds l.initial.x-items)

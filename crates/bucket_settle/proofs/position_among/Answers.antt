@@ -1,27 +1,42 @@
--- `bucket_settle::position_among` meets its contract: no vector that the loop passed is larger than v.
+-- `bucket_settle::position_among` meets its contract.
 -- Assumes nothing.
-use Prim.Native.Nat.{◌≤◌}
+use mathlib.Core.Path.{◌≡◌, refl, ap, ◌∙◌}
+use mathlib.Core.Bool.{cond}
+use mathlib.Core.List.{List, [], ◌∷◌}
+use Prim.Native.Nat.{ℕ, ◌≤◌}
 use native.Mathlib.Omega.{arith}
-use native.Mathlib.Numerals.{add-one}
+use lib.Dec.{ltb}
 use lib.ListN.{length}
-use Rattle.bucket_settle.proofs.Arrays.{position_here, position_next, position_end}
-use borrow.Author.Rules.{rules}
+use borrow.Author.Tests.{ltb-false}
+use Rattle.std.proofs.Common.{rules, tests}
+use Rattle.std.specs.Prelude.{Option, Some, None}
+use Rattle.std.specs.Option.{unwrap_or}
+use Rattle.std.specs.List.{position_or_len}
+use Rattle.std.proofs.lemmas.Iterator.{YieldsList-from_slice}
+use Rattle.std.proofs.lemmas.Iterator.Search.{position_from_yields_List}
+use Rattle.lists.proofs.Tests.{cases}
+use Rattle.lists.specs.Entries.{Entry}
+use Rattle.bucket_settle.specs.Steps.{position_of}
+use Rattle.bucket_settle.proofs.Insert.{position_le}
 use Rattle.bucket_settle.proofs.position_among.Goals as goal
 
-pub loop-i-init : goal.loop-i-init
-loop-i-init c = (search rules, search rules)
+-- the first entry whose word is larger
+abbrev first : ℕ → List Entry → ℕ
+first w es = position_or_len (λ (e : Entry). ltb w e.word) es
 
-pub returns-then-v-vectors : goal.returns-then-v-vectors
-returns-then-v-vectors c =
-    let h : c.args.count ≤ length c.args.vectors.now = omega arith in
-    omega (arith, position_here c.args.v c.args.vectors.now c.args.count c.loop-i.i h c.loop-i-test.true c.if-v-vectors.true)
+first-position : (w : ℕ) (es : List Entry) → first w es ≡ position_of w es
+first-position w [] = refl
+first-position w (e ∷ es) =
+    cases (ltb w e.word) (λ t. rw t) (λ f. rw f (omega (arith, first-position w es)))
 
-pub loop-i-preserved : goal.loop-i-preserved
-loop-i-preserved c =
-    let h : c.args.count ≤ length c.args.vectors.now = omega arith in
-    (search rules, rw add-one (omega (arith, position_next c.args.v c.args.vectors.now c.args.count c.loop-i.i h c.loop-i-test.true c.if-v-vectors.false)))
+-- or none
+or_all : (i n : ℕ) → i ≤ n → unwrap_or (cond (ltb i n) (Some i) None) n ≡ i
+or_all i n h = cases (ltb i n) (λ t. rw t) (λ f. rw f (let k = ltb-false i n f in omega arith))
 
 pub returns : goal.returns
 returns c =
-    let h : c.args.count ≤ c.loop-i.i = omega arith in
-    omega (arith, position_end c.args.v c.args.vectors.now c.args.count c.loop-i.i h)
+    let w = c.args.word in
+    let es = c.args.entries.now in
+    let found : c.position.result ≡ cond (ltb (first w es) (length es)) (Some (first w es)) None =
+    position_from_yields_List (λ (e : Entry). ltb w e.word) _ _ c.position.result c.position.ensures.ran (YieldsList-from_slice es cc) (λ x b q k. search (rules, tests)) in
+    c.unwrap_or.ensures ∙ ap (λ (o : Option ℕ). unwrap_or o (length es)) found ∙ or_all (first w es) (length es) (omega (arith, first-position w es, position_le w es)) ∙ first-position w es

@@ -5,4 +5,4 @@ use Rattle.bucket_words.proofs.load.Goals as goal
 
 pub returns : goal.returns
 unfolding bucket_from
-returns c = rw (c.cols_in-cols.ensures, c.sols_in-sols.ensures)
+returns c = rw (c.array_of.ensures, c.array_of-2.ensures)

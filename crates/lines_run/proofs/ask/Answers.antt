@@ -1,19 +1,18 @@
 -- `lines_run::ask` meets its contract.
 -- Assumes nothing.
-use mathlib.Core.Path.{refl, ap, ◌∙◌}
-use mathlib.Core.Bool.{Bool}
+use Rattle.std.proofs.Common.{Bool, refl, ap, ◌∙◌, rules}
 use Rattle.identifier.specs.Identifier.{token, read_of, with_plan}
-use Rattle.lines_run.proofs.Asked.{asked_word, asked_refused, asked-allowed}
+use Rattle.lines_run.proofs.Asked.{asked_word, asked_refused}
 use Rattle.lines_run.proofs.ask.Goals as goal
 
-pub serve-requires : goal.serve-requires
-serve-requires c =
-    (c.requires, asked-allowed c.args.t.now c.requires c.args.verb (token c.args.kind c.args.id.now) c.args.plan c.word_for-word.result (c.word_for-word.ensures ∙ ap (λ (b : Bool). with_plan b (read_of (token c.args.kind c.args.id.now))) c.plan_allowed.ensures) c.in-Word.w c.in-Word.is)
+pub returns : goal.returns
+returns c =
+    let i = token c.args.kind c.args.id.now in
+    rw (asked_word c.args.t.now c.requires c.args.verb i c.word_for.result (c.word_for.ensures ∙ ap (λ (b : Bool). with_plan b (read_of i)) c.plan_allowed.ensures) c.in_ok-word.word c.in_ok-word.was)
+    c.serve.ensures
 
-pub returns-in-Word : goal.returns-in-Word
-returns-in-Word c =
-    rw (asked_word c.args.t.now c.requires c.args.verb (token c.args.kind c.args.id.now) c.args.plan c.word_for-word.result (c.word_for-word.ensures ∙ ap (λ (b : Bool). with_plan b (read_of (token c.args.kind c.args.id.now))) c.plan_allowed.ensures) c.in-Word.w c.in-Word.is) c.serve.ensures
-
-pub returns-in-Refused : goal.returns-in-Refused
-returns-in-Refused c =
-    rw (asked_refused c.args.t.now c.requires c.args.verb (token c.args.kind c.args.id.now) c.args.plan c.word_for-word.result (c.word_for-word.ensures ∙ ap (λ (b : Bool). with_plan b (read_of (token c.args.kind c.args.id.now))) c.plan_allowed.ensures) c.in-Refused.a c.in-Refused.is) (refl, refl)
+pub returns-in_err-word : goal.returns-in_err-word
+returns-in_err-word c =
+    let i = token c.args.kind c.args.id.now in
+    rw (asked_refused c.args.t.now c.requires c.args.verb i c.word_for.result (c.word_for.ensures ∙ ap (λ (b : Bool). with_plan b (read_of i)) c.plan_allowed.ensures) _ c.in_err-word.was)
+    (search rules, refl)

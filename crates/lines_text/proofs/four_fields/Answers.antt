@@ -1,25 +1,29 @@
 -- `lines_text::four_fields` meets its contract.
 -- Assumes nothing.
-use mathlib.Core.Path.{sym, ◌∙◌}
-use native.Mathlib.Omega.{arith}
-use lib.Seq.{length-take-le}
-use Rattle.lines_text.proofs.Forms.{four-add, four-set, four_bad}
+use Rattle.std.proofs.Common.{ap}
+use Rattle.lines_text.specs.Line.{of_four}
+use Rattle.lines_text.specs.Parsed.{meant_or_bad}
+use Rattle.lines_text.proofs.Forms.{no_number}
 use Rattle.lines_text.proofs.four_fields.Goals as goal
 
-pub slice_bounds-word-end : goal.slice_bounds-word-end
-slice_bounds-word-end c =
-    sym (length-take-le c.args.a c.args.s.now (omega arith))
+pub returns-in_err-plan-clause-means : goal.returns-in_err-plan-clause-means
+unfolding of_four
+returns-in_err-plan-clause-means c = rw (← c.same.ensures, c.if-same.true, ← c.in_err-plan.ensures.value, no_number) (ap meant_or_bad c.from_residual.ensures)
 
-pub returns-then-same : goal.returns-then-same
-returns-then-same c =
-    four-add c.args.s.now c.args.a c.args.b c.args.c c.requires.1 c.requires.2 c.ask_form.result c.read_number-kind.result c.read_number-plan.result c.read_number-kind.ensures c.read_number-plan.ensures
-    (sym c.same.ensures ∙ c.if-same.true) c.ask_form.ensures
+pub returns-then-same-clause-means : goal.returns-then-same-clause-means
+unfolding of_four
+returns-then-same-clause-means c = rw (← c.same.ensures, c.if-same.true, ← c.in_ok-plan.ensures.value) c.ask_form.ensures.means
 
-pub returns-then-same-2 : goal.returns-then-same-2
-returns-then-same-2 c =
-    four-set c.args.s.now c.args.a c.args.b c.args.c c.requires.1 c.requires.2 c.ask_form-then-same-2.result c.read_number-kind.result c.read_number-plan.result c.read_number-kind.ensures c.read_number-plan.ensures
-    (sym c.same.ensures ∙ c.if-same.false) (sym c.same-2.ensures ∙ c.if-same-2.true) c.ask_form-then-same-2.ensures
+pub returns-in_err-plan-2-clause-means : goal.returns-in_err-plan-2-clause-means
+unfolding of_four
+returns-in_err-plan-2-clause-means c =
+    rw (← c.same.ensures, c.if-same.false, ← c.same-2.ensures, c.if-same-2.true, ← c.in_err-plan-2.ensures.value, no_number) (ap meant_or_bad c.from_residual-in_err-plan-2.ensures)
 
-pub returns : goal.returns
-returns c =
-    four_bad c.args.s.now _ _ _ _ (sym c.same.ensures ∙ c.if-same.false) (sym c.same-2.ensures ∙ c.if-same-2.false)
+pub returns-then-same-2-clause-means : goal.returns-then-same-2-clause-means
+unfolding of_four
+returns-then-same-2-clause-means c =
+    rw (← c.same.ensures, c.if-same.false, ← c.same-2.ensures, c.if-same-2.true, ← c.in_ok-plan-2.ensures.value) c.ask_form-then-same-2.ensures.means
+
+pub returns-clause-means : goal.returns-clause-means
+unfolding of_four
+returns-clause-means c = rw (← c.same.ensures, c.if-same.false, ← c.same-2.ensures, c.if-same-2.false)

@@ -1,13 +1,18 @@
 -- `lines_text::put_answer` meets its contract.
 -- Assumes nothing.
-use mathlib.Core.Path.{sym, ◌∙◌}
-use Rattle.lines_text.proofs.Printed.{printed-ok, printed_no}
+use native.Mathlib.Omega.{arith}
+use mathlib.Core.Path.{◌≡◌}
+use Rattle.answer.specs.Numbers.{number_of}
+use Rattle.answer.proofs.Determined.{cause_above}
+use Rattle.lines_text.specs.Printed.{printed}
+use Rattle.lines_text.proofs.Printed.{printed_no}
 use Rattle.lines_text.proofs.put_answer.Goals as goal
 
-pub returns-then-cause-eq0 : goal.returns-then-cause-eq0
-returns-then-cause-eq0 c =
-    rw (printed-ok c.args.a (sym c.number-cause.ensures ∙ c.if-cause-eq0.true), ← c.value.ensures) c.put_line.ensures
+pub returns-in-Ok : goal.returns-in-Ok
+unfolding printed
+returns-in-Ok c = rw c.in-Ok.is c.put_line.ensures
 
-pub returns : goal.returns
-returns c =
-    rw (printed_no c.args.a (λ e. c.if-cause-eq0.false (c.number-cause.ensures ∙ e)), ← c.number-cause.ensures) c.put_line-2.ensures
+pub returns-in-Err : goal.returns-in-Err
+returns-in-Err c =
+    let some : number_of c.args.a ≡ 0 → ⊥ = λ e. let z = rw c.in-Err.is at e in omega (arith, cause_above c.in-Err.field-0) in
+    rw (printed_no c.args.a some, ← c.number.ensures) c.put_line-in-Err.ensures

@@ -1,43 +1,40 @@
--- `lines_text::read_number` meets its contract. The loop's invariant: reading on from n and what is left decides.
+-- `lines_text::read_number` meets its contract.
 -- Assumes nothing.
-use mathlib.Core.Path.{sym, ◌∙◌}
-use native.Mathlib.Omega.{arith}
-use Rattle.lines_text.proofs.Decimal.{number_none, number_zero, number_leading, number_read, read_low, read_high, read_over, read_more, read_end}
-use borrow.Author.Rules.{rules}
+use Rattle.std.proofs.Common.{◌≡◌, ◌<◌, sym, ◌∙◌, arith, rules, tests, length, get_or}
+use borrow.Author.Tests.{eqb-false}
+use Rattle.lines_text.proofs.Decimal.{number_none, number_leading, number_read, read_other, read_over, read_more, read_end}
+use Rattle.lines_text.proofs.read_number.Goals.{then-is_empty-via-then-is_empty, then-is_empty-via-else-is_empty+then-s-eq48, then-s-gt1, else-s-gt1}
 use Rattle.lines_text.proofs.read_number.Goals as goal
 
-pub returns-then-s-eq0 : goal.returns-then-s-eq0
-returns-then-s-eq0 c = sym (number_none c.args.limit c.args.s.now c.if-s-eq0.true)
+pub returns-then-is_empty-clause-value : goal.returns-then-is_empty-clause-value
+returns-then-is_empty-clause-value c =
+    elim c.then-is_empty.branch [
+      | then-is_empty-via-then-is_empty w ↦ sym (number_none c.args.limit c.args.s.now (search (rules, tests)))
+      | then-is_empty-via-else-is_empty+then-s-eq48 w ↦
+          elim w.if-s-gt1.branch [
+            | then-s-gt1 w' ↦ sym (number_leading c.args.limit c.args.s.now (search rules) (search (rules, tests)))
+            | else-s-gt1 w' ↦ search (rules, tests)
+          ]
+    ]
 
-pub returns-then-s-eq1 : goal.returns-then-s-eq1
-returns-then-s-eq1 c =
-    sym (number_zero c.args.limit c.args.s.now c.if-s-eq48.true (omega arith))
+pub loop-b-init : goal.loop-b-init
+loop-b-init c =
+    let short : 1 < length c.args.s.now → get_or c.args.s.now 0 0 ≡ 48 → ⊥ = λ l e. elim c.if-s-gt1.branch [ then-s-gt1 w ↦ eqb-false _ _ (sym w.value-is ∙ c.if-s-eq48.false) e | else-s-gt1 w ↦ omega arith ] in
+    (omega arith, number_read c.args.limit c.args.s.now (search (rules, tests)) short)
 
-pub returns-then-s-eq48 : goal.returns-then-s-eq48
-returns-then-s-eq48 c =
-    sym (number_leading c.args.limit c.args.s.now c.if-s-eq48.true (λ e. omega arith))
+pub returns-then-not-is_ascii_digit-clause-value : goal.returns-then-not-is_ascii_digit-clause-value
+returns-then-not-is_ascii_digit-clause-value c =
+    sym (read_other c.args.limit c.loop-b.n c.loop-b.b-index c.args.s.now c.loop-b-test.true (sym c.is_ascii_digit.ensures.value ∙ c.if-not-is_ascii_digit.true)) ∙ c.loop-b.invariant.1
 
-pub loop-i-init : goal.loop-i-init
-loop-i-init c =
-    (search rules, search rules, number_read c.args.limit c.args.s.now c.if-s-eq0.false c.if-s-eq48.false)
+pub returns-then-limit-n-clause-value : goal.returns-then-limit-n-clause-value
+returns-then-limit-n-clause-value c =
+    sym (read_over c.args.limit c.loop-b.n c.loop-b.b-index c.args.s.now c.loop-b-test.true (sym c.is_ascii_digit.ensures.value ∙ c.if-not-is_ascii_digit.false) (rw c.push_digit-n.ensures at c.if-limit-n.true)) ∙ c.loop-b.invariant.1
 
-pub returns-then-b-lt48 : goal.returns-then-b-lt48
-returns-then-b-lt48 c =
-    sym (read_low c.args.limit c.loop-i.n c.loop-i.i c.args.s.now (omega arith) (omega arith)) ∙ c.loop-i.invariant.2
+pub loop-b-preserved : goal.loop-b-preserved
+loop-b-preserved c =
+    let more = read_more c.args.limit c.loop-b.n c.loop-b.b-index c.args.s.now c.loop-b-test.true (sym c.is_ascii_digit.ensures.value ∙ c.if-not-is_ascii_digit.false) (rw c.push_digit-n.ensures at c.if-limit-n.false) in
+    (search rules, rw c.push_digit-n.ensures more ∙ c.loop-b.invariant.1)
 
-pub returns-then-b-gt57 : goal.returns-then-b-gt57
-returns-then-b-gt57 c =
-    sym (read_high c.args.limit c.loop-i.n c.loop-i.i c.args.s.now (omega arith) (omega arith) (omega arith)) ∙ c.loop-i.invariant.2
-
-pub returns-then-limit-n : goal.returns-then-limit-n
-returns-then-limit-n c =
-    sym (read_over c.args.limit c.loop-i.n c.loop-i.i c.args.s.now (omega arith) (omega arith) (omega arith) (omega arith)) ∙ c.loop-i.invariant.2
-
-pub loop-i-preserved : goal.loop-i-preserved
-loop-i-preserved c =
-    let more = read_more c.args.limit c.loop-i.n c.loop-i.i c.args.s.now (omega arith) (omega arith) (omega arith) (omega arith) in
-    (search rules, search rules, rw c.push_digit-n.ensures more ∙ c.loop-i.invariant.2)
-
-pub returns : goal.returns
-returns c =
-    sym (read_end c.args.limit c.loop-i.n c.loop-i.i c.args.s.now (omega arith)) ∙ c.loop-i.invariant.2
+pub returns-clause-value : goal.returns-clause-value
+returns-clause-value c =
+    sym (read_end c.args.limit c.loop-b.n c.loop-b.b-index c.args.s.now c.loop-b-test.false) ∙ c.loop-b.invariant.1

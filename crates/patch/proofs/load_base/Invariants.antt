@@ -1,16 +1,10 @@
--- `patch::load_base` meets its contract. The pairs of the first i entries are written, and entry i starts at the offset `at`.
+-- `patch::load_base` meets its contract. The entries so far, with those to come, are the base list.
 -- Assumes nothing.
-use mathlib.Core.Path.{◌≡◌}
-use Prim.Native.Nat.{◌+◌, ◌-◌, ◌*◌, ◌≤◌}
-use lib.ListN.{drop}
-use Rattle.codec.specs.Parts.{written}
-use Rattle.table.specs.Layout.{pair_numbers}
-use Rattle.plane.specs.Record.{read_all, entry_length, entry_from}
+use Rattle.std.proofs.Common.{◌≡◌, ◌++◌}
+use Rattle.plane.specs.Record.{format1, entry_length}
+use Rattle.plane.specs.Plane.{plane_from}
+use Rattle.plane.specs.Right.{entries_read}
 use Rattle.patch.proofs.load_base.Given as goal
 
-abbrev pub invariant-loop-i : goal.invariant-loop-i
-invariant-loop-i l =
-    (l.i ≤ l.k) × (l.at ≡ l.initial.at + l.i * entry_length) × (l.pairs ≡ written 0 (pair_numbers (read_all entry_length entry_from l.i (drop l.initial.at l.plane))) l.initial.pairs)
-
-abbrev pub decreases-loop-i : goal.decreases-loop-i
-decreases-loop-i l = l.k - l.i
+abbrev pub invariant-loop-e : goal.invariant-loop-e
+invariant-loop-e l = (l.base ++ entries_read l.e-iterator.rest.now ≡ (plane_from format1 l.plane.bytes.now).base) × (l.e-iterator.size ≡ entry_length)

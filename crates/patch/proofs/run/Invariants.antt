@@ -6,9 +6,9 @@ use lib.ListN.{length, drop}
 use Rattle.patch.specs.Wrong.{run}
 use Rattle.patch.proofs.run.Given as goal
 
-abbrev pub invariant-loop-at : goal.invariant-loop-at
-invariant-loop-at l =
+abbrev pub invariant-loop-kind : goal.invariant-loop-kind
+invariant-loop-kind l =
     (l.first + l.n ≤ l.at) × (run l.kind l.size (length l.d) (drop l.first l.d) ≡ l.n + run l.kind l.size (length l.d - l.n) (drop l.at l.d))
 
-abbrev pub decreases-loop-at : goal.decreases-loop-at
-decreases-loop-at l = length l.d - l.at
+abbrev pub decreases-loop-kind : goal.decreases-loop-kind
+decreases-loop-kind l = length l.d - l.at

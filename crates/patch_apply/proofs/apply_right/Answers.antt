@@ -15,13 +15,13 @@ use Rattle.patch_apply.proofs.apply_right.Goals as goal
 -- the new plane is in `new`
 room : (c : After-build-len) → c.build-len.result ≤ length c.build-len.new.new
 room c =
-    let f = known format1 c.args.plane.now c.args.d.now (λ i. (c.type_inv.plane i).fits) (λ i. (c.type_inv.d i).fits) c.requires.0 c.requires.1 c.args.pairs.now c.args.count c.requires.3 in
+    let f = known format1 c.args.plane.now.bytes.now c.args.d.now c.args.plane.now.octets (λ i. (c.type_inv.d i).fits) c.args.plane.now.right c.requires.0 (length c.args.base.now) (ap length c.requires.1) in
     let l = ap length c.build-len.ensures.1 ∙ length-written 0 _ _ in
     omega (arith, l, c.build-len.ensures.0, f)
 
 pub returns-then-get_u64-fnv : goal.returns-then-get_u64-fnv
 returns-then-get_u64-fnv c =
-    old_wrong format1 c.args.plane.now c.args.d.now c.args.out.now c.get_u64.result c.fnv.result c.get_u64.ensures c.fnv.ensures c.if-get_u64-fnv.true
+    old_wrong format1 c.args.plane.now.bytes.now c.args.d.now c.args.out.now c.get_u64.result c.fnv.result c.get_u64.ensures c.fnv.ensures c.if-get_u64-fnv.true
 
 pub slice_bounds-new-end : goal.slice_bounds-new-end
 slice_bounds-new-end c = room (goal.at.slice_bounds-new-end c).After-build-len
@@ -32,4 +32,4 @@ slice_bounds-put_summed-end c = sym (length-take-le _ _ (room (goal.at.slice_bou
 pub returns : goal.returns
 returns c =
     let bytes = front-part _ _ _ c.build-len.result c.build-len.ensures.0 c.build-len.ensures.1 (room (goal.at.returns c).After-build-len) in
-    old_right format1 c.args.plane.now c.args.d.now c.args.out.now c.get_u64.result c.fnv.result c.get_u64.ensures c.fnv.ensures c.if-get_u64-fnv.false _ _ c.get_u64-sum.result c.put_summed.result bytes c.get_u64-sum.ensures c.put_summed.ensures
+    old_right format1 c.args.plane.now.bytes.now c.args.d.now c.args.out.now c.get_u64.result c.fnv.result c.get_u64.ensures c.fnv.ensures c.if-get_u64-fnv.false _ _ c.get_u64-sum.result c.put_summed.result bytes c.get_u64-sum.ensures c.put_summed.ensures

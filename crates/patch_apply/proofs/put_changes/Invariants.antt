@@ -1,8 +1,8 @@
--- `patch_apply::put_changes` meets its contract. The changes before the offset `at` are written.
+-- `patch_apply::put_changes` meets its contract. The first i changes are written.
 -- Assumes nothing.
 use mathlib.Core.Path.{◌≡◌}
-use Prim.Native.Nat.{◌+◌, ◌*◌, ◌≤◌}
-use lib.ListN.{length, drop}
+use Prim.Native.Nat.{◌+◌, ◌-◌, ◌*◌}
+use lib.ListN.{drop}
 use Rattle.plane.specs.Record.{format1}
 use Rattle.patch.specs.Record.{change_length}
 use Rattle.patch.specs.Wrong.{changes_at}
@@ -10,9 +10,6 @@ use Rattle.patch_apply.specs.Steps.{changed}
 use Rattle.patch_apply.proofs.New.{changes_from}
 use Rattle.patch_apply.proofs.put_changes.Given as goal
 
-abbrev pub invariant-loop-left : goal.invariant-loop-left
-invariant-loop-left l =
-    (l.at + l.left * change_length format1 ≤ length l.d) × (changed format1 (changes_from format1 l.left (drop l.at l.d)) l.new ≡ changed format1 (changes_from format1 l.k (drop changes_at l.d)) l.initial.new)
-
-abbrev pub decreases-loop-left : goal.decreases-loop-left
-decreases-loop-left l = l.left
+abbrev pub invariant-loop-i : goal.invariant-loop-i
+invariant-loop-i l =
+    changed format1 (changes_from format1 (l.k - l.i) (drop (changes_at + l.i * change_length format1) l.d)) l.new ≡ changed format1 (changes_from format1 l.k (drop changes_at l.d)) l.initial.new

@@ -1,75 +1,41 @@
--- `patch_check::enter_news` meets its contract. The entries before the offset `at` are entered: the first l of `new` come of them and of the first i of
--- `kept`; the words of the first o of `old` are below the next one.
+-- `patch_check::enter_news` meets its contract. The first i entries are entered: `new` has what comes of them and of the entries of `kept` before
+-- those that are left.
 -- Assumes nothing.
-use mathlib.Core.Path.{refl}
-use Prim.Native.Nat.{◌+◌, ◌-◌, ◌≤◌}
+use mathlib.Core.Path.{◌≡◌, sym, ap, ap₂, ◌∙◌}
+use mathlib.Core.List.{List, [], ◌∷◌, ◌++◌}
 use native.Mathlib.Omega.{arith}
-use borrow.Author.Rules.{rules}
-use lib.Dec.{ltb}
-use lib.ListN.{length, length-take, length-drop}
-use Rattle.model.specs.Model.{base_limit}
-use Rattle.patch.specs.Record.{new_length}
-use Rattle.patch_fits.specs.Steps.{least_after}
-use Rattle.patch_check.proofs.Enter.{entering_starts, entering-ends, new_low, new-room, new_unfit, within, entering-step}
-use Rattle.patch_check.proofs.enter_news.Goals.{Else-not-new_fits, Else-not-new_follows}
+use Prim.Native.Nat.{◌+◌}
+use lib.ListN.{length}
+use Rattle.std.specs.Option.{is_some}
+use Rattle.lists.specs.Entries.{Entry}
+use Rattle.plane.proofs.Scan.{refused, passed}
+use Rattle.patch_fits.specs.Steps.{taken}
+use Rattle.patch_check.proofs.Enter.{entering_starts, entering-ends, new_low, new_unfit, entering-step}
+use Rattle.patch_check.proofs.enter_news.Goals.{After-new_fits}
 use Rattle.patch_check.proofs.enter_news.Goals as goal
 
-room : (c : Else-not-new_follows) → c.loop-left.at + new_length ≤ length c.args.d.now
-room c =
-    new-room c.args.d.now c.args.first c.args.k c.args.old.now c.args.n c.args.kept.now c.args.m ((least_after (ltb c.loop-left.left c.args.k) c.loop-left.last)) c.loop-left.at c.loop-left.left c.loop-left.o c.loop-left.i c.loop-left.l c.loop-left.new c.loop-left.invariant.1 c.loop-left-test.true
-    c.new_follows.ensures c.if-not-new_follows.false
+-- whether the base list takes it
+test : (c : After-new_fits) → c.new_fits.result ≡ taken (is_some c.seek-place.result.plan) (is_some c.seek-was.result.plan) (length c.loop-i.new + length c.loop-i.left.now)
+test c =
+    let n : length c.entries.result.now ≡ length c.loop-i.new = ap length c.entries.ensures.0 in
+    c.new_fits.ensures ∙ rw (c.is_some.ensures, c.is_some-in-loop-i.ensures, n)
 
--- the base list takes it
-spot : (c : Else-not-new_fits) → (c.loop-left.i ≤ c.seek-j.result) × (c.seek-j.result ≤ c.args.m)
-    × (c.loop-left.l + (c.seek-j.result - c.loop-left.i) + 1 ≤ base_limit)
-spot c =
-    within c.args.d.now c.args.first c.args.k c.args.old.now c.args.n c.args.kept.now c.args.m ((least_after (ltb c.loop-left.left c.args.k) c.loop-left.last)) c.loop-left.at c.loop-left.left c.loop-left.o c.loop-left.i c.loop-left.l c.loop-left.new c.loop-left.invariant.1 c.loop-left-test.true
-    c.new_follows.ensures c.if-not-new_follows.false c.requires.5 c.requires.6
-    c.entry_word-last.ensures c.seek-j.ensures c.seek-o.ensures c.new_fits.ensures c.if-not-new_fits.false
-
-pub loop-left-init : goal.loop-left-init
-loop-left-init c =
-    (refl, entering_starts c.args.d.now c.args.first c.args.k c.args.old.now c.args.n c.args.kept.now c.args.m c.args.new.now (search rules) (search rules))
+pub loop-i-init : goal.loop-i-init
+loop-i-init c = rw c.new-new.ensures (entering_starts _ _ _ _ _ c.requires.0 c.requires.1 c.requires.2 c.requires.3)
 
 pub returns-then-not-new_follows : goal.returns-then-not-new_follows
-returns-then-not-new_follows c = (
-  new_low c.args.d.now c.args.first c.args.k c.args.old.now c.args.n c.args.kept.now c.args.m ((least_after (ltb c.loop-left.left c.args.k) c.loop-left.last)) c.loop-left.at c.loop-left.left c.loop-left.o c.loop-left.i c.loop-left.l c.loop-left.new c.loop-left.invariant.1 c.loop-left-test.true
-      c.new_follows.ensures c.if-not-new_follows.true,
-  tt,
-)
+returns-then-not-new_follows c = new_low _ _ _ _ _ c.loop-i.invariant c.loop-i-test.true (refused _ c.new_follows.ensures c.if-not-new_follows.true)
 
 pub returns-then-not-new_fits : goal.returns-then-not-new_fits
-returns-then-not-new_fits c = (
-  new_unfit c.args.d.now c.args.first c.args.k c.args.old.now c.args.n c.args.kept.now c.args.m ((least_after (ltb c.loop-left.left c.args.k) c.loop-left.last)) c.loop-left.at c.loop-left.left c.loop-left.o c.loop-left.i c.loop-left.l c.loop-left.new c.loop-left.invariant.1 c.loop-left-test.true
-      c.new_follows.ensures c.if-not-new_follows.false c.requires.5 c.requires.6
-      c.entry_word-last.ensures c.seek-j.ensures c.seek-o.ensures c.new_fits.ensures c.if-not-new_fits.true,
-  tt,
-)
+returns-then-not-new_fits c =
+    new_unfit _ _ _ _ _ c.loop-i.invariant c.loop-i-test.true (passed _ c.new_follows.ensures c.if-not-new_follows.false) (c.e.view_is ∙ c.read-e.ensures) c.seek-place.ensures.plan c.seek-was.ensures.plan
+    (refused _ (test (goal.at.returns-then-not-new_fits c).After-new_fits) c.if-not-new_fits.true)
 
-pub bounds-p-9 : goal.bounds-p-9
-bounds-p-9 c = simp (length-take, length-drop) (omega (arith, room (goal.at.bounds-p-9 c).Else-not-new_follows))
-
-pub put_next-l-requires : goal.put_next-l-requires
-put_next-l-requires c =
-    let s = spot (goal.at.put_next-l-requires c).Else-not-new_fits in
-    (s.0, omega (arith, s.1, c.requires.2), omega (arith, s.2, c.loop-left.invariant.0, c.requires.4))
-
-pub past-i-requires : goal.past-i-requires
-past-i-requires c = (search rules, (spot (goal.at.past-i-requires c).Else-not-new_fits).1)
-
-pub overflow_add-at : goal.overflow_add-at
-overflow_add-at c =
-    record { fits = omega (arith, room (goal.at.overflow_add-at c).Else-not-new_follows) }
-
-pub loop-left-preserved : goal.loop-left-preserved
-loop-left-preserved c = (
-  search rules,
-  entering-step c.args.d.now c.args.first c.args.k c.args.old.now c.args.n c.args.kept.now c.args.m ((least_after (ltb c.loop-left.left c.args.k) c.loop-left.last)) c.loop-left.at c.loop-left.left c.loop-left.o c.loop-left.i c.loop-left.l c.loop-left.new c.loop-left.invariant.1 c.loop-left-test.true
-      c.new_follows.ensures c.if-not-new_follows.false c.requires.5 c.requires.6
-      c.entry_word-last.ensures c.seek-j.ensures c.seek-o.ensures c.new_fits.ensures c.if-not-new_fits.false
-      c.past-i.result c.put_next-l.result c.put_next-l.new.to c.past-i.ensures c.put_next-l.ensures.1,
-)
+pub loop-i-preserved : goal.loop-i-preserved
+loop-i-preserved c =
+    entering-step _ _ _ _ _ c.loop-i.invariant c.loop-i-test.true (passed _ c.new_follows.ensures c.if-not-new_follows.false) (c.e.view_is ∙ c.read-e.ensures) c.seek-place.ensures.plan c.seek-was.ensures.plan
+    (passed _ (test (goal.at.loop-i-preserved c).After-new_fits) c.if-not-new_fits.false)
+    _ (c.push.ensures ∙ ap₂ (λ (l : List Entry) (e : Entry). l ++ e ∷ []) (c.extend.ensures ∙ ap (λ (l : List Entry). c.loop-i.new ++ l) c.seek-place.ensures.below) (sym c.e.view_is)) _ _ c.seek-place.ensures.above c.seek-was.ensures.above
 
 pub returns : goal.returns
-returns c =
-    entering-ends c.args.d.now c.args.first c.args.k c.args.old.now c.args.n c.args.kept.now c.args.m ((least_after (ltb c.loop-left.left c.args.k) c.loop-left.last)) c.loop-left.at c.loop-left.left c.loop-left.o c.loop-left.i c.loop-left.l c.loop-left.new c.loop-left.invariant.1 (omega arith) _ c.put_pairs.ensures
+returns c = entering-ends _ _ _ _ _ c.loop-i.invariant (omega arith) _ c.extend-2.ensures

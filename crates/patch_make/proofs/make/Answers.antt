@@ -1,17 +1,13 @@
 -- `patch_make::make` meets its contract.
 -- Assumes nothing.
-use mathlib.Core.Path.{refl, sym, ◌∙◌}
+use mathlib.Core.Path.{refl}
 use Rattle.patch.specs.Calls.{make_call}
 use Rattle.patch_make.proofs.make.Goals as goal
 
-pub make_from-requires : goal.make_from-requires
-make_from-requires c = sym c.wrong_at-wrong.ensures ∙ c.in-Nowhere.is
-
-pub returns-in-At : goal.returns-in-At
+pub returns-in-Err : goal.returns-in-Err
 unfolding make_call
-returns-in-At c = rw (sym c.wrong_at-wrong.ensures ∙ c.in-At.is) (refl, refl)
+returns-in-Err c = rw c.in-Err.ensures (refl, refl)
 
-pub returns-in-Nowhere : goal.returns-in-Nowhere
+pub returns-in-Ok : goal.returns-in-Ok
 unfolding make_call
-returns-in-Nowhere c =
-    rw (sym c.wrong_at-wrong.ensures ∙ c.in-Nowhere.is) c.make_from.ensures
+returns-in-Ok c = rw (← c.in-Ok.ensures, c.in-Ok.old.right) c.make_from.ensures

@@ -17,36 +17,36 @@ use Rattle.patch_make.proofs.Whole.{made-front}
 use Rattle.patch_make.proofs.make_right.Goals.{After-build-len, Else-old-new-2}
 use Rattle.patch_make.proofs.make_right.Goals as goal
 
-planes : (c : Else-old-new-2) → alike c.args.old.now c.args.new.now ≡ true
+planes : (c : Else-old-new-2) → alike c.args.old.now.bytes.now c.args.new.now.bytes.now ≡ true
 planes c = rw (eq-eqb _ _ c.if-old-new.false, eq-eqb _ _ c.if-old-new-2.false)
 
-room : (c : Else-old-new-2) → length (patch_bytes format1 (patch_of format1 c.args.old.now c.args.new.now)) ≤ 6598
-room c = made_most c.args.old.now c.args.new.now (λ i. (c.type_inv.old i).fits) (λ i. (c.type_inv.new i).fits) c.requires.0 c.requires.1
+room : (c : Else-old-new-2) → length (patch_bytes format1 (patch_of format1 c.args.old.now.bytes.now c.args.new.now.bytes.now)) ≤ 6598
+room c = made_most c.args.old.now.bytes.now c.args.new.now.bytes.now c.args.old.now.octets c.args.new.now.octets c.args.old.now.right c.args.new.now.right
 
 within : (c : After-build-len) → c.build-len.result ≤ length c.build-len.new.out
 within c =
-    omega (arith, ap length c.build-len.ensures.1 ∙ length-written 0 _ _, c.build-len.ensures.0, made_most c.args.old.now c.args.new.now (λ i. (c.type_inv.old i).fits) (λ i. (c.type_inv.new i).fits) c.requires.0 c.requires.1)
+    omega (arith, ap length c.build-len.ensures.1 ∙ length-written 0 _ _, c.build-len.ensures.0, made_most c.args.old.now.bytes.now c.args.new.now.bytes.now c.args.old.now.octets c.args.new.now.octets c.args.old.now.right c.args.new.now.right)
 
 pub bounds-old-2 : goal.bounds-old-2
-bounds-old-2 c = omega (arith, known format1 c.args.old.now c.requires.0)
+bounds-old-2 c = omega (arith, known format1 c.args.old.now.bytes.now c.args.old.now.right)
 
 pub bounds-new-2 : goal.bounds-new-2
-bounds-new-2 c = omega (arith, known format1 c.args.new.now c.requires.1)
+bounds-new-2 c = omega (arith, known format1 c.args.new.now.bytes.now c.args.new.now.right)
 
 pub returns-then-old-new : goal.returns-then-old-new
 returns-then-old-new c = rw (ne_eqb _ _ c.if-old-new.true) (refl, refl)
 
 pub bounds-old-3 : goal.bounds-old-3
-bounds-old-3 c = omega (arith, known format1 c.args.old.now c.requires.0)
+bounds-old-3 c = omega (arith, known format1 c.args.old.now.bytes.now c.args.old.now.right)
 
 pub bounds-new-3 : goal.bounds-new-3
-bounds-new-3 c = omega (arith, known format1 c.args.new.now c.requires.1)
+bounds-new-3 c = omega (arith, known format1 c.args.new.now.bytes.now c.args.new.now.right)
 
 pub returns-then-old-new-2 : goal.returns-then-old-new-2
 returns-then-old-new-2 c = rw (eq-eqb _ _ c.if-old-new.false, ne_eqb _ _ c.if-old-new-2.true) (refl, refl)
 
 pub build-len-requires : goal.build-len-requires
-build-len-requires c = record { value = (c.requires.0, c.requires.1, planes (goal.at.build-len-requires c).Else-old-new-2); room = omega arith }
+build-len-requires c = record { value = planes (goal.at.build-len-requires c).Else-old-new-2; room = omega arith }
 
 pub slice_bounds-made-end : goal.slice_bounds-made-end
 slice_bounds-made-end c = within (goal.at.slice_bounds-made-end c).After-build-len
@@ -56,5 +56,5 @@ slice_bounds-put_front-end c = sym (length-take-le c.build-len.result c.build-le
 
 pub returns : goal.returns
 returns c =
-    let front = made-front (patch_bytes format1 (patch_of format1 c.args.old.now c.args.new.now)) c.build-len.new.out _ c.build-len.result (room (goal.at.returns c).Else-old-new-2) c.build-len.ensures in
+    let front = made-front (patch_bytes format1 (patch_of format1 c.args.old.now.bytes.now c.args.new.now.bytes.now)) c.build-len.new.out _ c.build-len.result (room (goal.at.returns c).Else-old-new-2) c.build-len.ensures in
     rw (planes (goal.at.returns c).Else-old-new-2) (rw front at c.put_front.ensures)

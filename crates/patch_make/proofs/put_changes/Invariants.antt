@@ -1,6 +1,6 @@
 -- `patch_make::put_changes` meets its contract. The records of the buckets from i on are still to come.
 -- Assumes nothing.
-use Prim.Native.Nat.{◌+◌, ◌-◌, ◌*◌, ◌≤◌}
+use Prim.Native.Nat.{◌+◌, ◌*◌, ◌≤◌}
 use Rattle.plane.specs.Record.{format1}
 use Rattle.plane.specs.Plane.{plane_from}
 use Rattle.patch.specs.Record.{change_length}
@@ -10,9 +10,5 @@ use Rattle.patch_make.proofs.put_changes.Given as goal
 
 abbrev pub invariant-loop-i : goal.invariant-loop-i
 invariant-loop-i l =
-    (l.i ≤ l.buckets)
-    × Left (changes_left format1 (buckets_of (plane_from format1 l.old)) (buckets_of (plane_from format1 l.new)) 0) l.first l.initial.out (changes_left format1 (buckets_of (plane_from format1 l.old)) (buckets_of (plane_from format1 l.new)) l.i) l.at l.out
+    Left (changes_left format1 (buckets_of (plane_from format1 l.old.bytes.now)) (buckets_of (plane_from format1 l.new.bytes.now)) 0) l.first l.initial.out (changes_left format1 (buckets_of (plane_from format1 l.old.bytes.now)) (buckets_of (plane_from format1 l.new.bytes.now)) l.i) l.at l.out
     × (l.at ≤ l.first + l.i * change_length format1)
-
-abbrev pub decreases-loop-i : goal.decreases-loop-i
-decreases-loop-i l = l.buckets - l.i

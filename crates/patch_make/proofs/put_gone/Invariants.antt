@@ -1,17 +1,8 @@
--- `patch_make::put_gone` meets its contract. The records of the entries from i on are still to come; j is the cursor in the new base list.
+-- `patch_make::put_gone` meets its contract. The first entries are looked at; `left` is what is left of the new base list.
 -- Assumes nothing.
-use Prim.Native.Nat.{◌+◌, ◌-◌, ◌*◌, ◌≤◌}
-use lib.ListN.{drop}
-use Rattle.table.specs.Layout.{pairs_from}
-use Rattle.patch.specs.Record.{gone_length}
-use Rattle.patch_make.proofs.Put.{Left, Passed, gone_left}
+use Rattle.patch.specs.Record.{gone_length, gone_record}
+use Rattle.patch_make.proofs.Put.{gone_size, Sending, gone}
 use Rattle.patch_make.proofs.put_gone.Given as goal
 
-abbrev pub invariant-loop-i : goal.invariant-loop-i
-invariant-loop-i l =
-    (l.i ≤ l.n) × (l.j ≤ l.m) × (l.at ≤ l.first + l.i * gone_length)
-    × Left (gone_left l.n l.old (pairs_from l.m l.new) 0) l.first l.initial.out (gone_left l.n l.old (pairs_from l.m l.new) l.i) l.at l.out
-    × Passed (pairs_from l.m l.new) l.j (drop l.i (pairs_from l.n l.old))
-
-abbrev pub decreases-loop-i : goal.decreases-loop-i
-decreases-loop-i l = l.n - l.i
+abbrev pub invariant-loop-e : goal.invariant-loop-e
+invariant-loop-e l = Sending (λ e. gone_record e.word) gone_length (λ e. gone_size e.word) (gone l.old l.new) l.old l.new l.first l.initial.out l.e-index l.left l.at l.out

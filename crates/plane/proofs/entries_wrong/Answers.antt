@@ -1,35 +1,29 @@
--- `plane::entries_wrong` meets its contract.
+-- `plane::entries_wrong` meets its contract: past the entries that are there the next one is cut.
 -- Assumes nothing.
 use mathlib.Core.Path.{◌≡◌, sym, ◌∙◌}
-use mathlib.Core.Bool.{true}
+use mathlib.Core.List.{List}
+use Prim.Native.Nat.{ℕ, ◌+◌, ◌-◌, ◌*◌, ◌/◌, ◌<◌}
 use native.Mathlib.Omega.{arith}
-use lib.ListN.{drop}
-use Rattle.lists.proofs.Parts.{rest}
-use Rattle.plane.specs.Record.{entry_kind, entry_body}
-use Rattle.plane.specs.Plane.{whole, entries_wrong}
-use Rattle.plane.proofs.Scan.{both, refused, passed, whole-next, assignable_entry, entries_here, entries_step}
-use Rattle.plane.proofs.entries_wrong.Goals.{Else-not-entry_assignable}
+use lib.ListN.{length, drop, length-drop}
+use Rattle.std.specs.Prelude.{Err}
+use Rattle.std.specs.Result.{result_and}
+use Rattle.std.proofs.lemmas.Result.{err_from_is_err_and}
+use Rattle.plane.specs.Record.{entry_length}
+use Rattle.plane.specs.Plane.{entries_wrong}
+use Rattle.plane.proofs.Scan.{entries_short}
 use Rattle.plane.proofs.entries_wrong.Goals as goal
 
--- the first entry is there
-there : (c : Else-not-entry_assignable) → assignable_entry entry_kind (drop c.args.first c.args.plane.now) ≡ true
-there c = rw rest at (passed c.entry_assignable.result c.entry_assignable.ensures c.if-not-entry_assignable.false)
+-- k entries, of which just `there` are not cut
+short : (least k first : ℕ) (p : List ℕ) → (length p - first) / entry_length < k
+    → entries_wrong least k first (drop first p) ≡ result_and (entries_wrong least ((length p - first) / entry_length) first (drop first p)) (Err (first + (length p - first) / entry_length * entry_length))
+short least k first p h = entries_short least k ((length p - first) / entry_length) first (drop first p) h (rw length-drop (omega arith))
 
-pub returns-then-k-eq0 : goal.returns-then-k-eq0
-unfolding entries_wrong
-returns-then-k-eq0 c = rw c.if-k-eq0.true
-
-pub returns-then-not-entry_assignable : goal.returns-then-not-entry_assignable
-returns-then-not-entry_assignable c =
-    let off = rw (rest c.args.first c.args.plane.now) at (refused c.entry_assignable.result c.entry_assignable.ensures c.if-not-entry_assignable.true) in
-    sym (entries_here 0 c.args.k c.args.first (drop c.args.first c.args.plane.now) (omega arith) off)
-
-pub entries_after-requires : goal.entries_after-requires
-entries_after-requires c =
-    whole-next entry_kind entry_body c.args.first c.args.plane.now (both (whole entry_kind entry_body (drop c.args.first c.args.plane.now)) _ (there (goal.at.entries_after-requires c).Else-not-entry_assignable)).0
+pub returns-in_err-ascending : goal.returns-in_err-ascending
+returns-in_err-ascending c =
+    let s = short 0 c.args.k c.args.first c.args.plane.now (omega arith) in
+    let e = err_from_is_err_and c.from_residual.result c.from_residual.ensures.1 in
+    rw (e.1, e.2, s, sym c.ascending-2.ensures ∙ c.in_err-ascending.was)
 
 pub returns : goal.returns
 returns c =
-    let word = rw (rest c.args.first c.args.plane.now) at c.entry_word.ensures in
-    c.entries_after.ensures
-    ∙ sym (entries_step 0 c.args.k c.args.first c.entry_word.result c.args.plane.now (omega arith) (there (goal.at.returns c).Else-not-entry_assignable) word (omega arith))
+    rw (short 0 c.args.k c.args.first c.args.plane.now (omega arith), sym c.ascending-2.ensures ∙ c.in_ok-ascending.was)

@@ -28,8 +28,8 @@ bounds-plane-2 c = omega (arith, known (goal.at.bounds-plane-2 c).Else-not-heade
 pub bounds-plane-3 : goal.bounds-plane-3
 bounds-plane-3 c = omega (arith, known (goal.at.bounds-plane-3 c).Else-not-header_fits)
 
-pub overflow_add-size : goal.overflow_add-size
-overflow_add-size c = omega (arith, known (goal.at.overflow_add-size c).Else-not-header_fits)
+pub overflow_add-from : goal.overflow_add-from
+overflow_add-from c = omega (arith, known (goal.at.overflow_add-from c).Else-not-header_fits)
 
 pub bounds-plane-4 : goal.bounds-plane-4
 bounds-plane-4 c = omega (arith, known (goal.at.bounds-plane-4 c).Else-not-header_fits)
@@ -40,5 +40,5 @@ records_wrong-requires c = omega (arith, known (goal.at.records_wrong-requires c
 pub returns : goal.returns
 unfolding wrong_at
 returns c =
-    rw (fits (goal.at.returns c).Else-not-header_fits, ← c.size.ensures, ← c.size-2.ensures, ← c.size-3.ensures)
+    rw (fits (goal.at.returns c).Else-not-header_fits, ← c.from.ensures, ← c.from-2.ensures, ← c.from-3.ensures)
     c.records_wrong.ensures

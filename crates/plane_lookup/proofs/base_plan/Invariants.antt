@@ -1,14 +1,13 @@
--- `plane::base_plan` meets its contract. The loop has passed the entries before the offset at, whose words are others.
+-- `plane_lookup::base_plan` meets its contract. The entries that the loop has passed have other words.
 -- Assumes nothing.
-use mathlib.Core.Path.{◌≡◌}
-use Prim.Native.Nat.{◌+◌, ◌*◌, ◌≤◌}
-use lib.ListN.{length, drop}
+use Rattle.std.proofs.Common.{◌≡◌}
+use Rattle.std.specs.Slice.Iter.{chunks_exact_rest, chunks_exact_size}
 use Rattle.lists.specs.Entries.{find}
-use Rattle.plane.specs.Record.{read_all, entry_length, entry_from}
+use Rattle.plane.specs.Record.{entry_length}
+use Rattle.plane.specs.Right.{entries_read}
 use Rattle.plane_lookup.proofs.base_plan.Given as goal
 
-abbrev pub invariant-loop-left : goal.invariant-loop-left
-invariant-loop-left l = (l.at + l.left * entry_length ≤ length l.p) × (find l.v (read_all entry_length entry_from l.k l.p) ≡ find l.v (read_all entry_length entry_from l.left (drop l.at l.p)))
-
-abbrev pub decreases-loop-left : goal.decreases-loop-left
-decreases-loop-left l = l.left
+abbrev pub invariant-loop-e : goal.invariant-loop-e
+invariant-loop-e l =
+    (goal.iterator-loop-e).can_next l.e-iterator × (goal.iterator-loop-e).is_finite l.e-iterator × (chunks_exact_size l.e-iterator ≡ entry_length)
+    × (find l.v (entries_read l.entries) ≡ find l.v (entries_read (chunks_exact_rest l.e-iterator)))

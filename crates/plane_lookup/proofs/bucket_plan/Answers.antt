@@ -1,10 +1,9 @@
--- `plane::bucket_plan` meets its contract. The loop counts down: it has the product of the solution words from i on.
+-- `plane_lookup::bucket_plan` meets its contract. The loop counts down: it has the product of the solution words from i on.
 -- Assumes nothing.
 use mathlib.Core.Path.{◌≡◌, sym}
 use mathlib.Core.List.{List}
 use Prim.Native.Nat.{ℕ, ◌^◌, ◌<◌}
 use native.Mathlib.Omega.{arith}
-use borrow.Author.Rules.{rules}
 use lib.ListN.{length, drop}
 use Rattle.gf2.proofs.Bit.{dot_lt}
 use Rattle.gf2.proofs.Loops.{product_down, product-end, product-rest}
@@ -20,13 +19,13 @@ length_sols p = length-read_all word_bytes word_from solutions (drop 2 p)
 
 small : (c : After-dot) → (c.loop-i.plan < 2 ^ 63) × (c.dot.result < 2)
 small c = (
-  rw c.loop-i.invariant.1 (product-rest (sols c.args.p.now) c.args.v c.loop-i.i 63 (omega (arith, length_sols c.args.p.now))),
+  rw c.loop-i.invariant (product-rest (sols c.args.p.now) c.args.v c.loop-i.i 63 (omega (arith, length_sols c.args.p.now))),
   rw c.dot.ensures (dot_lt _ _),
 )
 
 pub loop-i-init : goal.loop-i-init
 loop-i-init c =
-    (search rules, sym (product-end (sols c.args.p.now) c.args.v solutions (omega (arith, length_sols c.args.p.now))))
+    sym (product-end (sols c.args.p.now) c.args.v solutions (omega (arith, length_sols c.args.p.now)))
 
 pub overflow_mul-plan : goal.overflow_mul-plan
 overflow_mul-plan c = omega (arith, small (goal.at.overflow_mul-plan c).After-dot)
@@ -36,9 +35,4 @@ overflow_add-plan c = omega (arith, small (goal.at.overflow_add-plan c).After-do
 
 pub loop-i-preserved : goal.loop-i-preserved
 loop-i-preserved c =
-    (omega arith, cc (product_down (sols c.args.p.now) c.args.v c.loop-i.i (omega arith) (omega (arith, length_sols c.args.p.now))))
-
-pub returns : goal.returns
-returns c =
-    let z : c.loop-i.i ≡ 0 = omega arith in
-    rw z at c.loop-i.invariant.1
+    cc (product_down (sols c.args.p.now) c.args.v c.loop-i.i (omega arith) (omega (arith, length_sols c.args.p.now)))

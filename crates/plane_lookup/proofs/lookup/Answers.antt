@@ -1,13 +1,14 @@
--- `plane::lookup` meets its contract.
+-- `plane_lookup::lookup` meets its contract.
 -- Assumes nothing.
+use borrow.Author.Rules.{rules}
 use mathlib.Core.Path.{sym, ◌∙◌}
 use Rattle.plane.specs.Lookup.{lookup_call}
 use Rattle.plane_lookup.proofs.lookup.Goals as goal
 
-pub returns-in-Word : goal.returns-in-Word
+pub returns-in_err-word : goal.returns-in_err-word
 unfolding lookup_call
-returns-in-Word c = rw (sym c.read-read.ensures ∙ c.in-Word.is) c.lookup_word.ensures
+returns-in_err-word c = rw (sym c.read.ensures ∙ c.in_err-word.was) (search rules)
 
-pub returns-in-Refused : goal.returns-in-Refused
+pub returns : goal.returns
 unfolding lookup_call
-returns-in-Refused c = rw (sym c.read-read.ensures ∙ c.in-Refused.is)
+returns c = rw (sym c.read.ensures ∙ c.in_ok-word.was) c.lookup_word.ensures

@@ -2,7 +2,6 @@
 -- Assumes nothing.
 use mathlib.Core.Path.{sym, ap, ◌∙◌}
 use native.Mathlib.Omega.{arith}
-use borrow.Author.Rules.{rules}
 use lib.ListN.{length}
 use lib.Seq.{take_all}
 use Rattle.codec.proofs.Part.{length-written, written_none}
@@ -12,16 +11,16 @@ use Rattle.plane_write.proofs.put_words.Goals as goal
 
 pub loop-i-init : goal.loop-i-init
 unfolding bytes_of
-loop-i-init c = (search rules, sym (written_none c.args.at c.args.out.now))
+loop-i-init c = sym (written_none c.args.at c.args.out.now)
 
 pub loop-i-preserved : goal.loop-i-preserved
 loop-i-preserved c =
-    let more = rw c.loop-i.invariant.1 at c.put_u64.ensures in
-    (search rules, more ∙ words-next c.args.words.now c.loop-i.i c.args.at c.args.out.now (omega arith))
+    let more = rw c.loop-i.invariant at c.put_u64.ensures in
+    more ∙ words-next c.args.words.now c.loop-i.i c.args.at c.args.out.now (omega arith)
 
 pub shape_of-out : goal.shape_of-out
-shape_of-out c = ap length c.loop-i.invariant.1 ∙ length-written _ _ _
+shape_of-out c = ap length c.loop-i.invariant ∙ length-written _ _ _
 
 pub returns : goal.returns
 returns c =
-    rw (take_all c.loop-i.i c.args.words.now (omega arith)) at c.loop-i.invariant.1
+    rw (take_all c.loop-i.i c.args.words.now (omega arith)) at c.loop-i.invariant

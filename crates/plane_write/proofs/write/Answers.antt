@@ -1,26 +1,17 @@
 -- `plane_write::write` meets its contract: each return by the tests that led there.
 -- Assumes nothing.
-use mathlib.Core.Path.{refl, sym, ◌∙◌}
+use mathlib.Core.Path.{refl, sym}
 use Rattle.plane_write.specs.Write.{write_call}
 use Rattle.plane_write.proofs.write.Goals as goal
 
-pub sound-requires : goal.sound-requires
-sound-requires c = sym c.shaped.ensures ∙ c.if-shaped.true
-
-pub write_sound-requires : goal.write_sound-requires
-write_sound-requires c =
-    (sym c.shaped.ensures ∙ c.if-shaped.true, sym c.sound.ensures ∙ c.if-sound.true)
-
-pub returns-then-sound : goal.returns-then-sound
+pub returns-then-not-shaped : goal.returns-then-not-shaped
 unfolding write_call
-returns-then-sound c =
-    rw (sym c.shaped.ensures ∙ c.if-shaped.true, sym c.sound.ensures ∙ c.if-sound.true) c.write_sound.ensures
+returns-then-not-shaped c = rw (sym c.if-not-shaped.ensures) (refl, refl)
 
-pub returns-then-shaped : goal.returns-then-shaped
+pub returns-then-not-sound : goal.returns-then-not-sound
 unfolding write_call
-returns-then-shaped c =
-    rw (sym c.shaped.ensures ∙ c.if-shaped.true, sym c.sound.ensures ∙ c.if-sound.false) (refl, refl)
+returns-then-not-sound c = rw (sym c.if-not-shaped.ensures, sym c.if-not-sound.ensures) (refl, refl)
 
 pub returns : goal.returns
 unfolding write_call
-returns c = rw (sym c.shaped.ensures ∙ c.if-shaped.false) (refl, refl)
+returns c = rw (sym c.if-not-shaped.ensures, sym c.if-not-sound.ensures) c.write_sound.ensures

@@ -15,7 +15,7 @@ returns-then-part-ne-WORDS c = wrong (add 64 c.args.k c.args.plan) c.args.part.n
 pub add_by-requires : goal.add_by-requires
 unfolding bucket_from
 add_by-requires c =
-    (c.if-part-ne-WORDS.false, c.product-p.ensures ∙ ap (λ (l : List ℕ). product l c.args.k) c.cols_in.ensures)
+    (c.if-part-ne-WORDS.false, c.product-p.ensures ∙ ap (λ (l : List ℕ). product l c.args.k) c.array_of.ensures)
 
 pub returns-then-add_by : goal.returns-then-add_by
 returns-then-add_by c =

@@ -10,4 +10,4 @@ returns-then-part-ne-WORDS c = rw (ne_eqb _ _ c.if-part-ne-WORDS.true)
 
 pub returns : goal.returns
 unfolding probed_row
-returns c = rw (eq-eqb _ _ c.if-part-ne-WORDS.false, c.row_of.ensures, c.load-b.ensures)
+returns c = rw (eq-eqb _ _ c.if-part-ne-WORDS.false, c.unwrap_or.ensures, c.row_of.ensures, c.load-b.ensures)

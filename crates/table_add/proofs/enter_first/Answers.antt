@@ -21,7 +21,7 @@ use Rattle.table_add.proofs.enter_first.Goals as goal
 -- the word went straight in
 straight : (c : Then-put_by) → Counted rows solutions mix_of c.args.t.now ((record { word = c.args.w; plan = c.args.plan })) c.put_by.new.t
 straight c =
-    counted_straight rows solutions mix_of _ (ready_kept _ c.requires.0.ready) ((record { word = c.args.w; plan = c.args.plan })) c.ranges.w.fits _ c.first_place-at.ensures _
+    counted_straight rows solutions mix_of _ (ready_kept _ c.requires.0.ready) ((record { word = c.args.w; plan = c.args.plan })) c.ranges.w.fits _ c.place-at.ensures _
     (straight_as rows solutions threshold_of _ ((record { word = c.args.w; plan = c.args.plan })) _ c.if-put_by.true c.put_by.ensures)
 
 -- it did not: the table is as it was
@@ -31,7 +31,7 @@ same c = straight_left rows solutions threshold_of _ ((record { word = c.args.w;
 pub put_by-requires : goal.put_by-requires
 put_by-requires c =
     let k = (flat rows solutions _ (ready_kept _ c.requires.0.ready)).shape in
-    (first_in rows solutions _ k mix_of c.args.w _ c.first_place-at.ensures, c.requires.1 ∙ ap (λ (b : Bucket). product b.cols c.args.w) (sym (first-here rows solutions _ k mix_of c.args.w _ c.first_place-at.ensures)))
+    (first_in rows solutions _ k mix_of c.args.w _ c.place-at.ensures, c.requires.1 ∙ ap (λ (b : Bucket). product b.cols c.args.w) (sym (first-here rows solutions _ k mix_of c.args.w _ c.place-at.ensures)))
 
 pub count_one-requires : goal.count_one-requires
 count_one-requires c = count_room _ c.requires.0.ready ((record { word = c.args.w; plan = c.args.plan })) _ (straight (goal.at.count_one-requires c).Then-put_by) (assignable_byte c.args.plan c.requires.0.plan)
@@ -41,7 +41,7 @@ returns-then-put_by c = entered_done c.args.t.now c.args.w c.args.plan _ (straig
 
 pub enter_depending-requires : goal.enter_depending-requires
 enter_depending-requires c =
-    let here = first-here rows solutions _ (flat rows solutions _ (ready_kept _ c.requires.0.ready)).shape mix_of c.args.w _ c.first_place-at.ensures in
+    let here = first-here rows solutions _ (flat rows solutions _ (ready_kept _ c.requires.0.ready)).shape mix_of c.args.w _ c.place-at.ensures in
     subst⁻¹ (λ (t : List ℕ). Depending t c.args.w c.args.plan) (same (goal.at.enter_depending-requires c).Else-put_by) (record {
       ready = c.requires.0.ready;
       plan = c.requires.0.plan;

@@ -21,12 +21,12 @@ use Rattle.table_arrive.proofs.Settled.{straight_as, straight_left, straight_dep
 use Rattle.table_add.specs.Arrivals.{entering, Depending}
 use Rattle.table_add.proofs.Added.{ready_kept, passing_room, passing-done}
 use borrow.Author.Rules.{rules}
-use Rattle.table_add.proofs.enter_second.Goals.{After-second-v, After-second_place-at, Else-put_by, Then-put_by}
+use Rattle.table_add.proofs.enter_second.Goals.{After-second-v, After-place-at, Else-put_by, Then-put_by}
 use Rattle.table_add.proofs.enter_second.Goals as goal
 
-here : (c : After-second_place-at) → bucket_from rows solutions (drop c.second_place-at.result c.args.t.now) ≡ bucket_of rows solutions mix_of (table_of c.args.t.now).level2 c.second-v.result
+here : (c : After-place-at) → bucket_from rows solutions (drop c.place-at.result c.args.t.now) ≡ bucket_of rows solutions mix_of (table_of c.args.t.now).level2 c.second-v.result
 here c =
-    second-here rows solutions _ (flat rows solutions _ (ready_kept _ c.requires.0.ready)).shape mix_of c.second-v.result _ c.second_place-at.ensures
+    second-here rows solutions _ (flat rows solutions _ (ready_kept _ c.requires.0.ready)).shape mix_of c.second-v.result _ c.place-at.ensures
 
 held : (c : After-second-v) → holds rows solutions mix_of (table_of c.args.t.now).level2 c.second-v.result ≡ true
 held c = ap (holds rows solutions mix_of (table_of c.args.t.now).level2) c.second-v.ensures ∙ c.requires.1.0
@@ -39,13 +39,13 @@ same c = straight_left rows solutions threshold_of _ ((record { word = c.second-
 straight : (c : Then-put_by) → Passed rows solutions c.args.t.now (to_second rows solutions mix_of (table_of c.args.t.now) ((record { word = c.second-v.result; plan = c.args.plan }))) true c.put_by.new.t
 straight c =
     let f : Fits w64 c.second-v.result = search rules in
-    arrive_straight rows solutions mix_of _ (ready_kept _ c.requires.0.ready) ((record { word = c.second-v.result; plan = c.args.plan })) _ c.second_place-at.ensures f.fits _
+    arrive_straight rows solutions mix_of _ (ready_kept _ c.requires.0.ready) ((record { word = c.second-v.result; plan = c.args.plan })) _ c.place-at.ensures f.fits _
     (straight_as rows solutions threshold_of _ ((record { word = c.second-v.result; plan = c.args.plan })) _ c.if-put_by.true c.put_by.ensures)
 
 pub put_by-requires : goal.put_by-requires
 put_by-requires c = (
-  second_in rows solutions _ (flat rows solutions _ (ready_kept _ c.requires.0.ready)).shape mix_of c.second-v.result _ c.second_place-at.ensures,
-  c.requires.1.1 ∙ ap (product_in rows solutions mix_of (table_of c.args.t.now).level2) (sym c.second-v.ensures) ∙ ap (λ (b : Bucket). product b.cols c.second-v.result) (sym (here (goal.at.put_by-requires c).After-second_place-at)),
+  second_in rows solutions _ (flat rows solutions _ (ready_kept _ c.requires.0.ready)).shape mix_of c.second-v.result _ c.place-at.ensures,
+  c.requires.1.1 ∙ ap (product_in rows solutions mix_of (table_of c.args.t.now).level2) (sym c.second-v.ensures) ∙ ap (λ (b : Bucket). product b.cols c.second-v.result) (sym (here (goal.at.put_by-requires c).After-place-at)),
 )
 
 pub count_one-requires : goal.count_one-requires
@@ -63,7 +63,7 @@ enter_depending-requires c =
       plan = c.requires.0.plan;
       first = λ h. absurd (true≢false (sym h ∙ c.requires.0.past));
       second = λ h. subst (λ (x : ℕ). DependsIn rows solutions mix_of (table_of c.args.t.now).level2 (record { word = x; plan = c.args.plan })) c.second-v.ensures
-          (straight_depends rows solutions mix_of (table_of c.args.t.now).level2 ((record { word = c.second-v.result; plan = c.args.plan })) _ _ (here (goal.at.enter_depending-requires c).After-second_place-at) (held (goal.at.enter_depending-requires c).After-second-v) c.if-put_by.false c.put_by.ensures);
+          (straight_depends rows solutions mix_of (table_of c.args.t.now).level2 ((record { word = c.second-v.result; plan = c.args.plan })) _ _ (here (goal.at.enter_depending-requires c).After-place-at) (held (goal.at.enter_depending-requires c).After-second-v) c.if-put_by.false c.put_by.ensures);
     })
 
 pub returns : goal.returns

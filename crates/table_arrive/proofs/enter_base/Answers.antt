@@ -8,10 +8,9 @@ use lib.ListN.{length}
 use Rattle.lists.specs.Entries.{Entry, insert_all}
 use Rattle.table.specs.Layout.{base_pairs}
 use Rattle.table.specs.Calls.{rows, solutions, table_of}
-use Rattle.table_arrive.specs.Arrival.{entries_of}
 use Rattle.table_layout.proofs.Shape.{place_le, last_read, last_room, last-put}
 use Rattle.table_arrive.proofs.Tables.{count0, flat, shape, long, last_pairs}
-use Rattle.table_arrive.proofs.Settled.{entries_length, insert-all-length}
+use Rattle.table_arrive.proofs.Settled.{insert-all-length}
 use borrow.Author.Rules.{rules}
 use Rattle.table_arrive.proofs.enter_base.Goals.{After-slice_known-2-1}
 use Rattle.table_arrive.proofs.enter_base.Goals as goal
@@ -47,6 +46,6 @@ bounds-t-2-2 c =
 
 pub returns : goal.returns
 returns c =
-    let es : List Entry = entries_of c.args.out in
+    let es : List Entry = c.args.entries.now in
     last-put rows solutions _ (flat rows solutions _ c.requires.0) _ c.base_place-a.ensures _ _ _ (c.insert_all.ensures ∙ ap (λ (bs : List Entry). base_pairs (insert_all es bs)) (last_read rows solutions _ (flat rows solutions _ c.requires.0) _ c.base_place-a.ensures))
-    (omega (arith, insert-all-length es (table_of c.args.t.now).base, entries_length c.args.out.count c.args.out.vectors c.args.out.plans, count0 rows solutions _ c.requires.0))
+    (omega (arith, insert-all-length es (table_of c.args.t.now).base, count0 rows solutions _ c.requires.0))

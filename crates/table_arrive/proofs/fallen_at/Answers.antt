@@ -10,8 +10,8 @@ use Rattle.table_arrive.proofs.fallen_at.Goals as goal
 
 pub fall-requires : goal.fall-requires
 fall-requires c =
-    (subst⁻¹ (SoundBucket rows solutions) c.bucket_at.ensures c.requires.1.0, ap (λ (b : Bucket). (add rows c.args.v c.args.plan b).done) c.bucket_at.ensures ∙ c.requires.1.1)
+    (subst⁻¹ (SoundBucket rows solutions) c.bucket_at.ensures c.requires.1.0, ap (λ (b : Bucket). add rows c.args.v c.args.plan b) c.bucket_at.ensures ∙ c.requires.1.1)
 
 pub returns : goal.returns
 returns c =
-    c.fall.ensures ∙ ap (λ (b : Bucket). settled_of 65 (settle 64 threshold_of (record { word = c.args.v; plan = c.args.plan }) b.bound b)) c.bucket_at.ensures
+    c.fall.ensures ∙ ap (λ (b : Bucket). settled_of (settle 64 threshold_of (record { word = c.args.v; plan = c.args.plan }) b.bound b)) c.bucket_at.ensures

@@ -12,4 +12,4 @@ use Rattle.table_arrive.proofs.product_at.Goals as goal
 pub returns : goal.returns
 unfolding bucket_from
 returns c =
-    c.product.ensures ∙ ap (λ (l : List ℕ). product l c.args.v) (c.cols_in.ensures ∙ stretch c.args.at rows c.args.t.now)
+    c.product.ensures ∙ ap (λ (l : List ℕ). product l c.args.v) (c.array_of.ensures ∙ stretch c.args.at rows c.args.t.now)

@@ -1,7 +1,7 @@
 -- `table_base::first_hit` meets its contract: no w' that the loop passed is hit.
 -- Assumes nothing.
 use mathlib.Core.Path.{◌≡◌}
-use Prim.Native.Nat.{◌+◌, ◌-◌, ◌≤◌}
+use Prim.Native.Nat.{◌+◌}
 use lib.ListN.{drop}
 use Rattle.table.specs.Layout.{pairs_from}
 use Rattle.table_base.specs.Base.{hits, before}
@@ -9,7 +9,4 @@ use Rattle.table_base.proofs.first_hit.Given as goal
 
 abbrev pub invariant-loop-i : goal.invariant-loop-i
 invariant-loop-i l =
-    (l.i ≤ l.count) × (before (hits l.larger l.v) (pairs_from l.count l.pairs) ≡ l.i + before (hits l.larger l.v) (drop l.i (pairs_from l.count l.pairs)))
-
-abbrev pub decreases-loop-i : goal.decreases-loop-i
-decreases-loop-i l = l.count - l.i
+    before (hits l.larger l.v) (pairs_from l.count l.pairs) ≡ l.i + before (hits l.larger l.v) (drop l.i (pairs_from l.count l.pairs))

@@ -13,23 +13,23 @@ use Rattle.table_edit.proofs.Touched.{flat_of, long, plan-first, plan-second, pl
 use Rattle.table_edit.proofs.plan_in.Goals as goal
 
 pub bucket_at-requires : goal.bucket_at-requires
-bucket_at-requires c = first_in rows solutions _ (flat_of c.requires).shape mix_of _ _ c.first_place.ensures
+bucket_at-requires c = first_in rows solutions _ (flat_of c.requires).shape mix_of _ _ c.place.ensures
 
-pub returns-then-holds_first : goal.returns-then-holds_first
-returns-then-holds_first c =
+pub returns-then-holds : goal.returns-then-holds
+returns-then-holds c =
     c.plan_of.ensures
     ∙ ap found_of (ap (λ (b : Bucket). plan_of rows c.args.w b) c.bucket_at.ensures
-    ∙ plan-first rows solutions mix_of c.args.t.now (flat_of c.requires) c.args.w (sym c.holds_first.ensures ∙ c.if-holds_first.true) c.first_place.result c.first_place.ensures)
+    ∙ plan-first rows solutions mix_of c.args.t.now (flat_of c.requires) c.args.w (sym c.holds.ensures ∙ c.if-holds.true) c.place.result c.place.ensures)
 
-pub bucket_at-requires-then-holds_second : goal.bucket_at-requires-then-holds_second
-bucket_at-requires-then-holds_second c = second_in rows solutions _ (flat_of c.requires).shape mix_of _ _ c.second_place.ensures
+pub bucket_at-requires-then-holds-2 : goal.bucket_at-requires-then-holds-2
+bucket_at-requires-then-holds-2 c = second_in rows solutions _ (flat_of c.requires).shape mix_of _ _ c.place-then-holds-2.ensures
 
-pub returns-then-holds_second : goal.returns-then-holds_second
-returns-then-holds_second c =
-    c.plan_of-then-holds_second.ensures
-    ∙ ap found_of (ap (λ (b : Bucket). plan_of rows c.second-v.result b) c.bucket_at-then-holds_second.ensures
-    ∙ plan-second rows solutions mix_of c.args.t.now (flat_of c.requires) c.args.w (sym c.holds_first.ensures ∙ c.if-holds_first.false) c.second-v.result c.second-v.ensures
-    (sym c.holds_second.ensures ∙ c.if-holds_second.true) c.second_place.result c.second_place.ensures)
+pub returns-then-holds-2 : goal.returns-then-holds-2
+returns-then-holds-2 c =
+    c.plan_of-then-holds-2.ensures
+    ∙ ap found_of (ap (λ (b : Bucket). plan_of rows c.second-v.result b) c.bucket_at-then-holds-2.ensures
+    ∙ plan-second rows solutions mix_of c.args.t.now (flat_of c.requires) c.args.w (sym c.holds.ensures ∙ c.if-holds.false) c.second-v.result c.second-v.ensures
+    (sym c.holds-2.ensures ∙ c.if-holds-2.true) c.place-then-holds-2.result c.place-then-holds-2.ensures)
 
 pub bounds-t-2 : goal.bounds-t-2
 bounds-t-2 c = omega (arith, long c.requires)
@@ -50,5 +50,5 @@ find-requires c =
 pub returns : goal.returns
 returns c =
     c.find.ensures
-    ∙ ap found_of (plan-base rows solutions mix_of c.args.t.now (flat_of c.requires) c.args.w (sym c.holds_first.ensures ∙ c.if-holds_first.false) c.second-v.result c.second-v.ensures
-    (sym c.holds_second.ensures ∙ c.if-holds_second.false) c.base_place-a.result c.base_place-a.ensures)
+    ∙ ap found_of (plan-base rows solutions mix_of c.args.t.now (flat_of c.requires) c.args.w (sym c.holds.ensures ∙ c.if-holds.false) c.second-v.result c.second-v.ensures
+    (sym c.holds-2.ensures ∙ c.if-holds-2.false) c.base_place-a.result c.base_place-a.ensures)

@@ -9,14 +9,11 @@ pub returns-then-t-lt-LEADING : goal.returns-then-t-lt-LEADING
 unfolding shape_test
 returns-then-t-lt-LEADING c = simp (lt-leb _ _ c.if-t-lt-LEADING.true)
 
-pub length_of-requires : goal.length_of-requires
-length_of-requires c = sym c.in_range.ensures ∙ c.if-in_range.true
-
 pub returns-then-in_range : goal.returns-then-in_range
 unfolding shape_test
 returns-then-in_range c =
     simp (c.length_of.ensures, le-leb _ _ c.if-t-lt-LEADING.false, sym c.in_range.ensures ∙ c.if-in_range.true)
 
-pub returns : goal.returns
+pub returns-else-in_range : goal.returns-else-in_range
 unfolding shape_test
-returns c = simp (le-leb _ _ c.if-t-lt-LEADING.false, sym c.in_range.ensures ∙ c.if-in_range.false)
+returns-else-in_range c = simp (c.if-in_range.false, le-leb _ _ c.if-t-lt-LEADING.false, sym c.in_range.ensures ∙ c.if-in_range.false)

@@ -1,8 +1,8 @@
 -- `table_open::empty_buckets` meets its contract: i buckets are stored.
 -- Assumes nothing.
 use mathlib.Core.Path.{◌≡◌}
-use Prim.Native.Nat.{◌-◌, ◌*◌, ◌≤◌}
-use lib.ListN.{length, take, replicate}
+use Prim.Native.Nat.{◌*◌}
+use lib.ListN.{take, replicate}
 use Rattle.bucket_words.specs.Words.{bucket_words}
 use Rattle.bucket.specs.Bucket.{empty_bucket}
 use Rattle.table.specs.Layout.{level_numbers}
@@ -11,7 +11,4 @@ use Rattle.table_open.proofs.empty_buckets.Given as goal
 
 abbrev pub invariant-loop-i : goal.invariant-loop-i
 invariant-loop-i l =
-    (l.i ≤ l.count) × (l.at ≡ l.i * bucket_words rows solutions) × (length l.words ≡ l.count * bucket_words rows solutions) × (take l.at l.words ≡ level_numbers (replicate l.i (empty_bucket rows solutions)))
-
-abbrev pub decreases-loop-i : goal.decreases-loop-i
-decreases-loop-i l = l.count - l.i
+    take (l.i * bucket_words rows solutions) l.words ≡ level_numbers (replicate l.i (empty_bucket rows solutions))

@@ -14,4 +14,4 @@ bucket_place-base-requires c =
 pub returns : goal.returns
 returns c =
     laid_out rows solutions c.args.b1 c.args.b2 c.args.t.now c.put_header.new.t c.empty_buckets.new.words c.bucket_place-base.result
-    c.bucket_place-base.ensures c.requires.1 c.put_header.ensures c.empty_buckets.ensures c.clear.new.words c.clear.ensures
+    c.bucket_place-base.ensures c.requires.1 c.put_header.ensures c.empty_buckets.ensures c.fill.new.self (c.fill.ensures.after (λ _ e. e))

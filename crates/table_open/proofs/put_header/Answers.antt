@@ -20,7 +20,7 @@ pub bounds-t-3 : goal.bounds-t-3
 bounds-t-3 c = simp length-set (omega arith)
 
 pub shape_of-t : goal.shape_of-t
-shape_of-t c = same_len_mid totals_at total_numbers _ c.clear.new.words c.clear.auto.words ∙ simp length-set refl
+shape_of-t c = same_len_mid totals_at total_numbers _ c.fill.new.self c.fill.auto.self ∙ simp length-set refl
 
 pub returns : goal.returns
-returns c = header-set rows solutions c.args.t.now c.args.b1 c.args.b2 c.requires _ c.clear.new.words refl c.clear.ensures
+returns c = header-set rows solutions c.args.t.now c.args.b1 c.args.b2 c.requires _ c.fill.new.self refl (c.fill.ensures.after (λ _ e. e))

@@ -21,14 +21,14 @@ solved s = search rules
 
 pub count_off-requires : goal.count_off-requires
 count_off-requires c =
-    (c.requires.1.0, subst₂ (λ (x y : ℕ). x < 2 ^ y) (sym c.requires.1.1) (solved (goal.at.count_off-requires c).Start) (product_lt c.args.b.sols c.args.v))
+    subst₂ (λ (x y : ℕ). x < 2 ^ y) (sym c.requires.1) (solved (goal.at.count_off-requires c).Start) (product_lt c.args.b.sols c.args.v)
 
 pub returns-then-row_held : goal.returns-then-row_held
 returns-then-row_held c =
     let ts = c.args.left.now in
-    off_counted (row_of c.args.t.now c.args.second c.args.m c.args.i c.args.b) (record { word = c.args.v; plan = lookup c.args.b c.args.v }) ts (sym c.row_held.ensures ∙ c.if-row_held.true) _ _
-    (c.count_off.ensures.0 ∙ ap (λ (p : ℕ). ltb 0 (get_or ts p 0)) c.requires.1.1) (c.count_off.ensures.1 ∙ ap (λ (p : ℕ). cond c.count_off.result (one_less p ts) ts) c.requires.1.1)
+    off_counted (row_of c.args.t.now c.args.level c.args.m c.args.i c.args.b) (record { word = c.args.v; plan = lookup c.args.b c.args.v }) ts (sym c.row_held.ensures ∙ c.if-row_held.true) _ _
+    (c.count_off.ensures.0 ∙ ap (λ (p : ℕ). ltb 0 (get_or ts p 0)) c.requires.1) (c.count_off.ensures.1 ∙ ap (λ (p : ℕ). cond c.count_off.result (one_less p ts) ts) c.requires.1)
 
-pub returns : goal.returns
-returns c =
-    left-stopped c.args.left.now (off_failed (row_of c.args.t.now c.args.second c.args.m c.args.i c.args.b) (record { word = c.args.v; plan = lookup c.args.b c.args.v }) c.args.left.now (sym c.row_held.ensures ∙ c.if-row_held.false))
+pub returns-else-row_held : goal.returns-else-row_held
+returns-else-row_held c =
+    rw c.if-row_held.false (left-stopped c.args.left.now (off_failed (row_of c.args.t.now c.args.level c.args.m c.args.i c.args.b) (record { word = c.args.v; plan = lookup c.args.b c.args.v }) c.args.left.now (sym c.row_held.ensures ∙ c.if-row_held.false)))

@@ -37,7 +37,7 @@ pub plans_of-plans-requires : goal.plans_of-plans-requires
 plans_of-plans-requires c = let l = leading (goal.at.plans_of-plans-requires c).After-struct_known-1 in omega arith
 
 pub loop-rest-init : goal.loop-rest-init
-loop-rest-init c = (marked (goal.at.loop-rest-init c).Start, c.requires.1, refl, below_length rows c.args.b.mark (marked (goal.at.loop-rest-init c).Start))
+loop-rest-init c = (marked (goal.at.loop-rest-init c).Start, refl, below_length rows c.args.b.mark (marked (goal.at.loop-rest-init c).Start))
 
 pub overflow_cast-a : goal.overflow_cast-a
 overflow_cast-a c = let l = tz_lt rows c.loop-rest.rest c.loop-rest.invariant.0 c.loop-rest-test.true in omega arith
@@ -57,8 +57,8 @@ bounds-plans-a c = tz_lt rows c.loop-rest.rest c.loop-rest.invariant.0 c.loop-re
 pub row_off-requires : goal.row_off-requires
 row_off-requires c =
     let a = count_trailing_zeros rows c.loop-rest.rest in
-    let e = ap (λ (ps : List ℕ). get_or ps a 0) c.plans_of-plans.ensures ∙ plan-at c.args.b rows _ c.loop-rest.rest c.args.vectors (sized (goal.at.row_off-requires c).Start) c.loop-rest.invariant.0 c.loop-rest.invariant.3 c.loop-rest-test.true in
-    (c.requires.0, (c.loop-rest.invariant.1, e))
+    let e = ap (λ (ps : List ℕ). get_or ps a 0) c.plans_of-plans.ensures ∙ plan-at c.args.b rows _ c.loop-rest.rest c.args.vectors (sized (goal.at.row_off-requires c).Start) c.loop-rest.invariant.0 c.loop-rest.invariant.2 c.loop-rest-test.true in
+    (c.requires, e)
 
 pub loop-rest-smaller : goal.loop-rest-smaller
 loop-rest-smaller c = low_lt rows c.loop-rest.rest c.loop-rest.invariant.0 c.loop-rest-test.true
@@ -66,13 +66,13 @@ loop-rest-smaller c = low_lt rows c.loop-rest.rest c.loop-rest.invariant.0 c.loo
 pub loop-rest-preserved : goal.loop-rest-preserved
 loop-rest-preserved c =
     let less = low_lt rows c.loop-rest.rest c.loop-rest.invariant.0 c.loop-rest-test.true in
-    (lt_trans less c.loop-rest.invariant.0, search rules, rows_on c.args.b (row_of c.args.t.now c.args.second c.args.m c.args.i c.args.b) rows c.loop-rest.rest c.args.vectors c.loop-rest.left (sized (goal.at.loop-rest-preserved c).Start) c.loop-rest.invariant.0 c.loop-rest-test.true c.loop-rest.invariant.2 c.row_off.new.left c.row_off.ensures c.if-row_off.true, lt_trans less c.loop-rest.invariant.3)
+    (lt_trans less c.loop-rest.invariant.0, rows_on c.args.b (row_of c.args.t.now c.args.level c.args.m c.args.i c.args.b) rows c.loop-rest.rest c.args.vectors c.loop-rest.left (sized (goal.at.loop-rest-preserved c).Start) c.loop-rest.invariant.0 c.loop-rest-test.true c.loop-rest.invariant.1 c.row_off.new.left c.row_off.ensures c.if-not-row_off.false, lt_trans less c.loop-rest.invariant.2)
 
-pub returns-else-row_off : goal.returns-else-row_off
-returns-else-row_off c =
-    rows_out c.args.b (row_of c.args.t.now c.args.second c.args.m c.args.i c.args.b) rows c.loop-rest.rest c.args.vectors c.loop-rest.left (sized (goal.at.returns-else-row_off c).Start) c.loop-rest.invariant.0 c.loop-rest-test.true c.loop-rest.invariant.2 c.row_off.new.left c.row_off.ensures c.if-row_off.false
+pub returns-then-not-row_off : goal.returns-then-not-row_off
+returns-then-not-row_off c =
+    rows_out c.args.b (row_of c.args.t.now c.args.level c.args.m c.args.i c.args.b) rows c.loop-rest.rest c.args.vectors c.loop-rest.left (sized (goal.at.returns-then-not-row_off c).Start) c.loop-rest.invariant.0 c.loop-rest-test.true c.loop-rest.invariant.1 c.row_off.new.left c.row_off.ensures c.if-not-row_off.true
 
 pub returns : goal.returns
 returns c =
     let z : c.loop-rest.rest ≡ 0 = c.loop-rest-test.false in
-    left_ended (sym c.loop-rest.invariant.2 ∙ (rw (sym z) at (rows_end c.args.b (row_of c.args.t.now c.args.second c.args.m c.args.i c.args.b) c.args.vectors c.loop-rest.left)))
+    left_ended (sym c.loop-rest.invariant.1 ∙ (rw (sym z) at (rows_end c.args.b (row_of c.args.t.now c.args.level c.args.m c.args.i c.args.b) c.args.vectors c.loop-rest.left)))

@@ -1,7 +1,7 @@
 -- `table_sound::live_count` meets its contract.
 -- Assumes nothing.
 use mathlib.Core.Path.{◌≡◌}
-use Prim.Native.Nat.{◌+◌, ◌-◌, ◌*◌, ◌≤◌}
+use Prim.Native.Nat.{ℕ, ◌+◌, ◌-◌, ◌*◌, ◌/◌, ◌≤◌}
 use lib.ListN.{length, drop}
 use Rattle.bucket_words.specs.Words.{bucket_words}
 use Rattle.model.specs.Model.{base_limit}
@@ -11,7 +11,6 @@ use Rattle.table.specs.Calls.{rows, solutions}
 use Rattle.table_sound.proofs.live_count.Given as goal
 
 abbrev pub invariant-loop-i : goal.invariant-loop-i
-invariant-loop-i l = (l.i ≤ l.m) × (l.at + (l.m - l.i) * bucket_words rows solutions ≤ length l.t) × (l.sum ≤ rows * l.i + base_limit) × (l.sum + occupied (level_from rows solutions (l.m - l.i) (drop l.at l.t)) ≡ occupied (level_from rows solutions l.m (drop l.place l.t)) + l.base)
-
-abbrev pub decreases-loop-i : goal.decreases-loop-i
-decreases-loop-i l = l.m - l.i
+invariant-loop-i l =
+    let m : ℕ = length l.buckets / bucket_words rows solutions in
+    (l.sum ≤ rows * l.i + base_limit) × (l.sum + occupied (level_from rows solutions (m - l.i) (drop (l.i * bucket_words rows solutions) l.buckets)) ≡ occupied (level_from rows solutions m l.buckets) + l.base)

@@ -1,21 +1,26 @@
 -- `bucket::Bucket::change` meets its contract.
 -- Assumes nothing.
-use mathlib.Core.Path.{◌≡◌}
-use lib.ListN.{length}
+use mathlib.Core.Path.{sym, ◌∙◌}
+use Prim.Native.Nat.{◌<◌}
 use borrow.Author.Rules.{rules}
-use borrow.Author.Tests.{lt-ltb, le-ltb}
 use Rattle.bucket.specs.Bucket.{change_at, change}
-use Rattle.bucket.proofs.Laws.{live-row}
+use Rattle.bucket.proofs.Laws.{row_lt}
+use Rattle.bucket.proofs.Bucket.change.Goals.{In_ok-i}
 use Rattle.bucket.proofs.Bucket.change.Goals as goal
 
-pub returns-then-i-lt-ROWS : goal.returns-then-i-lt-ROWS
-unfolding change change_at
-returns-then-i-lt-ROWS c =
-    let h : length c.args.self.cols ≡ 64 = search rules in
-    rw (live-row 64 c.args.k c.args.self h, ← c.row_of-i.ensures, lt-ltb _ _ c.if-i-lt-ROWS.true, c.sol_step-solved.ensures, c.lookup.ensures)
+in_range : (c : In_ok-i) → c.in_ok-i.i < 64
+in_range c = row_lt 64 c.args.k c.args.self (sym c.row_of.ensures ∙ c.in_ok-i.was) (search rules)
+
+pub returns-in_err-i : goal.returns-in_err-i
+unfolding change
+returns-in_err-i c = rw (← c.row_of.ensures, c.in_err-i.was) (search rules)
+
+pub offset_bounds-cols-i : goal.offset_bounds-cols-i
+offset_bounds-cols-i c = let h = in_range (goal.at.offset_bounds-cols-i c).In_ok-i in search rules
+
+pub bounds-cols-i : goal.bounds-cols-i
+bounds-cols-i c = in_range (goal.at.bounds-cols-i c).In_ok-i
 
 pub returns : goal.returns
-unfolding change
-returns c =
-    let h : length c.args.self.cols ≡ 64 = search rules in
-    rw (live-row 64 c.args.k c.args.self h, ← c.row_of-i.ensures, le-ltb _ _ c.if-i-lt-ROWS.false)
+unfolding change change_at
+returns c = rw (← c.row_of.ensures, c.in_ok-i.was, c.sol_step-sols.ensures, c.lookup.ensures)

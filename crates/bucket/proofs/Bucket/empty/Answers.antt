@@ -5,4 +5,4 @@ use Rattle.bucket.proofs.Bucket.empty.Goals as goal
 
 pub returns : goal.returns
 unfolding empty_bucket
-returns c = rw c.unit_rows-cols.ensures
+returns c = rw c.unit_rows.ensures

@@ -1,0 +1,7 @@
+-- `codec::copy` meets its contract. The loop's invariant: the first i bytes are copied.
+-- Assumes nothing.
+use Rattle.std.proofs.Common.{◌≡◌, take}
+use Rattle.codec.proofs.copy.Given as goal
+
+abbrev pub invariant-loop-i : goal.invariant-loop-i
+invariant-loop-i l = take l.i l.to ≡ take l.i l.from
