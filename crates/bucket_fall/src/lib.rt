@@ -13,7 +13,7 @@ use bucket_settle::{Entry, Outgoing};
 use identifier::threshold;
 
 // A bucket after an add, and the words that left it.
-#[derive(Drop)]
+#[derive(Clone, Copy)]
 pub struct Settled {
     pub bucket: Bucket,
     pub out: Outgoing,

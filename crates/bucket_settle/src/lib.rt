@@ -34,23 +34,31 @@ impl Model for Entry {
     ghost inverse = { λ e. record { word = e.word; plan = e.plan } };
 }
 
-// The words that leave a bucket, with their plans, in order.
-#[derive(Drop)]
+// The words that leave a bucket, with their plans, in order; the entries behind them are zeros.
+#[derive(Clone, Copy)]
 pub struct Outgoing {
     entries: [Entry; Outgoing::MOST],
     count: usize,
 }
 
 impl Model for Outgoing {
-    ghost use Rattle.std.specs.Prelude.{List, take, ◌≤◌};
+    ghost use Rattle.std.specs.Prelude.{List, length, take, ◌≤◌, ◌≡◌};
+    ghost use Rattle.std.proofs.Common.{length-take-le, subst, sym};
     ghost use Rattle.lists.specs.Entries.{Entry};
-    ghost use Rattle.bucket_settle.specs.Outgoing.{most_outgoing};
+    ghost use Rattle.bucket_settle.specs.Outgoing.{most_outgoing, padded};
 
     ghost Value = { List Entry };
 
     ghost view = { λ o. take o.count o.entries };
 
-    ghost invariant = { λ o. o.count ≤ most_outgoing };
+    ghost invariant = { λ o. (o.count ≤ most_outgoing) × (length o.entries ≡ most_outgoing) × (padded most_outgoing (take o.count o.entries) ≡ o.entries) };
+
+    ghost inverse = { λ es. record { entries = padded most_outgoing es; count = length es } };
+
+    ghost inverse_ok = { λ o h i. record {
+      entries = h.2 i;
+      count = length-take-le o.count o.entries (subst (λ n. o.count ≤ n) (sym h.1) h.0) i;
+    } };
 }
 
 // e before entry i; the last entry goes.

@@ -96,7 +96,9 @@ pub(crate) fn turn(b: &mut Buffer, s: &[u8]) -> Option<Answer>
     None
 }
 
-// Prints an answer, or `bad` if there is none, from index at on, as much as fits. The next index.
+// Prints an answer, or `bad` if there is none, from index at on, as much as fits. The next index. Inlined: for a line that is
+// `bad` no answer is stored then.
+#[inline(always)]
 pub(crate) fn put_said(out: &mut [u8], at: usize, a: Option<Answer>) -> usize
     requires { at < 2 ^ 31 }
     ensures { (result ≡ at + length (said a)) × (out.new ≡ written at (said a) out.old) }

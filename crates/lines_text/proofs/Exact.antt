@@ -10,7 +10,7 @@ use native.Mathlib.Omega.{arith}
 use lib.Dec.{eqb, leb, ltb}
 use borrow.Author.Tests.{le-leb, ne_eqb, eqb-true, eqb-false, leb-true, ltb-true, ltb-false}
 use Rattle.lists.proofs.Tests.{cases}
-use Rattle.std.specs.Prelude.{Some, None, IfSome}
+use Rattle.std.specs.Prelude.{Option, Some, None, IfSome}
 use Rattle.lines_text.specs.Decimal.{digit_of, grown, read_on, only_zero, number_to, digits_then, most_digits, decimal}
 use Rattle.lines_text.specs.Line.{most_buckets, most_kind, most_plan}
 use Rattle.lines_text.proofs.Decimal.{digits_more, digits_last, number_most}
@@ -124,6 +124,16 @@ module _ (limit : ℕ) where
     λ e. (subst (λ r. IfSome r (λ k. k ≤ limit)) e (number_most limit s), number_printed n s h e),
     λ e. rw e.1 (number_decimal n (omega arith) e.0),
   )
+
+-- what is no number to a limit is none to a smaller one
+pub number_smaller : (a b : ℕ) (s : List ℕ) → a ≤ b → b < 10 ^ most_digits → number_to b s ≡ None → number_to a s ≡ None
+number_smaller a b s l h e = by_option (number_to a s) refl
+  where
+    by_option : (r : Option ℕ) → number_to a s ≡ r → r ≡ None
+    by_option None z = refl
+    by_option (Some n) z =
+        let (m, f) = (number_exactly a (omega arith) n s).0 z in
+        absurd (none_some n (sym e ∙ (number_exactly b h n s).1 (omega arith, f)))
 
 -- B1 and B2
 pub buckets_exactly : Exactly most_buckets

@@ -70,11 +70,11 @@ module _ (w : ℕ) where
   pub none_above : (es : List Entry) → Above w es → find w es ≡ none
   none_above es h = none_find w es (λ x m e. let l = above_mem w es h x m in omega (arith, e))
 
-  not_below : (x : Entry) (r : List Entry) → below w (x ∷ r) ≡ 0 → w ≤ x.word
+  pub not_below : (x : Entry) (r : List Entry) → below w (x ∷ r) ≡ 0 → w ≤ x.word
   not_below x r z = cases (ltb x.word w) (λ t. absurd (let k : suc (below w r) ≡ 0 = rw t at z in omega arith)) (λ g. ltb-false x.word w g)
 
   -- another word in front is larger, and so are all
-  larger : (x : Entry) (r : List Entry) → Ascending (x ∷ r) → below w (x ∷ r) ≡ 0 → eqb x.word w ≡ false → Above w (x ∷ r)
+  pub larger : (x : Entry) (r : List Entry) → Ascending (x ∷ r) → below w (x ∷ r) ≡ 0 → eqb x.word w ≡ false → Above w (x ∷ r)
   larger x r a z f =
       let l : w < x.word = omega (arith, not_below x r z, eqb-false x.word w f) in
       (l, above_up l r a.0)
@@ -150,7 +150,7 @@ module _ (w : ℕ) where
   below_length (e ∷ es) =
       by_test (λ (i : ℕ). i ≤ suc (length es)) (ltb e.word w) (λ t. let h = below_length es in omega arith) (λ f. omega arith)
 
-  below-low : (es : List Entry) → Low w (take (below w es) es)
+  pub below-low : (es : List Entry) → Low w (take (below w es) es)
   below-low [] = tt
   below-low (e ∷ es) = cases (ltb e.word w) (λ t. rw t (ltb-true e.word w t, below-low es)) (λ f. rw f tt)
 
@@ -158,12 +158,12 @@ module _ (w : ℕ) where
   below-from [] = refl
   below-from (e ∷ es) = cases (ltb e.word w) (λ t. rw t (below-from es)) (λ f. rw (f, f))
 
-  find-below : (R : List Entry) (v : ℕ) → w ≤ v → find v R ≡ find v (from R)
+  pub find-below : (R : List Entry) (v : ℕ) → w ≤ v → find v R ≡ find v (from R)
   find-below R v l =
       ap (find v) (sym (take-append-drop (below w R) R)) ∙ find-low v (take (below w R) R) (from R) (low_up w v l (take (below w R) R) (below-low R))
 
 -- an entry removed or entered there: a are the entries before R
-module _ (w : ℕ) (a R : List Entry) (l : Low w a) (s : Ascending R) where
+module _ (w : ℕ) (a R : List Entry) (l : Low w a) where
   abbrev front : List Entry
   front = a ++ take (below w R) R
 
@@ -173,15 +173,15 @@ module _ (w : ℕ) (a R : List Entry) (l : Low w a) (s : Ascending R) where
   split : a ++ R ≡ front ++ from w R
   split = ap (λ (r : List Entry). a ++ r) (sym (take-append-drop (below w R) R)) ∙ sym (append_assoc a (take (below w R) R) (from w R))
 
-  pub remove-at : remove w (a ++ R) ≡ front ++ after w (from w R)
-  remove-at =
+  pub remove-at : Ascending R → remove w (a ++ R) ≡ front ++ after w (from w R)
+  remove-at s =
       ap (remove w) split ∙ remove-low w front (from w R) low-front
       ∙ ap (λ (r : List Entry). front ++ r) (remove-front w (from w R) (ascending_drop (below w R) R s) (below-from w R))
 
 pub enter-at : (e : Entry) (a R : List Entry) → Low e.word a → Ascending R → enter e (a ++ R) ≡ ((a ++ take (below e.word R) R) ++ e ∷ []) ++ after e.word (from e.word R)
 enter-at e a R l s =
     let before : List Entry = a ++ take (below e.word R) R in
-    ap (enter e) (split e.word a R l s) ∙ enter-low e before (from e.word R) (low-front e.word a R l s)
+    ap (enter e) (split e.word a R l) ∙ enter-low e before (from e.word R) (low-front e.word a R l)
     ∙ ap (λ (x : List Entry). before ++ x) (enter-front e (from e.word R) (ascending_drop (below e.word R) R s) (below-from e.word R)) ∙ sym (append_snoc before e _)
 
 -- ---- the cursor: `left` are the entries of R that are still to come, and no word below `least` is sought any more

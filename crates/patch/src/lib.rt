@@ -149,6 +149,13 @@ impl BaseList {
         &self.entries[..self.count]
     }
 
+    // No entry.
+    fn clear(&mut self)
+        ensures { self.new ≡ [] }
+    {
+        self.count = 0;
+    }
+
     // One entry more.
     pub fn push(&mut self, e: Entry)
         requires { length self.old < base_limit }
@@ -196,15 +203,14 @@ pub fn run(d: &[u8], first: usize, kind: u8, size: usize) -> usize
     n
 }
 
-// The base list of a plane.
-pub fn load_base(plane: &Plane) -> BaseList
-    ensures { result ≡ (plane_from format1 plane.now.bytes.now).base }
+// The base list of a plane, into `base`: lent, as a list that is returned is copied.
+pub fn load_base(plane: &Plane, base: &mut BaseList)
+    ensures { base.new ≡ (plane_from format1 plane.now.bytes.now).base }
 {
-    let mut base = BaseList::new();
+    base.clear();
     for e in plane.base().chunks_exact(Record::ENTRY_LEN) {
         base.push(Entry::read(e));
     }
-    base
 }
 
 // How many entries in front have a word below w.

@@ -61,7 +61,7 @@ module _ (F : Format) (P : Plane) (d : List ℕ) where
     abbrev gone_scan : List Entry → Result (Unit {0}) ℕ
     gone_scan old = wrong_in gone_records (gone_allowed old) next_word 0 h.count h.first (drop h.first d)
 
-    gone-scan : gone_scan P.base ≡ gone_wrong F P d
+    pub gone-scan : gone_scan P.base ≡ gone_wrong F P d
     unfolding gone_wrong
     gone-scan = ap₂ (λ (k n : ℕ). wrong_in gone_records (gone_allowed P.base) next_word 0 k n (drop n d)) gone_is h.starts
 
@@ -111,7 +111,7 @@ module _ (F : Format) (P : Plane) (d : List ℕ) where
     abbrev news_scan : List Entry → List Entry → Result (Unit {0}) ℕ
     news_scan old left = wrong_in new_records (new_allowed_by old left) filled (started left) h.count start (drop start d)
 
-    news-scan : news_scan P.base kept ≡ news_wrong F P d
+    pub news-scan : news_scan P.base kept ≡ news_wrong F P d
     unfolding news_wrong
     news-scan =
         ap (λ (t : Filled → Entry → Bool). wrong_in new_records t filled (unfilled P.base (patch_from F d).gone) h.count start (drop start d)) (sym (same_test h.gone h.right))

@@ -157,7 +157,7 @@ module _ (d : List ℕ) (first k : ℕ) (O K : List Entry) where
                       (ap (λ (es : List Entry). record { least = suc w; base = es }) (sym is) ∙ ap (filled state) q);
                   entered = h.entered ∙ ap (λ (es : List Entry). enter_all es base) (unread_next new_length entry_from k first d i some)
                       ∙ ap (λ (x : Entry). enter_all (news (i + 1)) (enter x base)) (sym q) ∙ ap (enter_all (news (i + 1))) is;
-                  low = rw y (every_append (λ x. x.word < suc w) front (e ∷ []) (low_up w (suc w) (omega arith) front (low-front w new left low_new a)) (omega arith, tt));
+                  low = rw y (every_append (λ x. x.word < suc w) front (e ∷ []) (low_up w (suc w) (omega arith) front (low-front w new left low_new)) (omega arith, tt));
                   was = rw x (left_next h.was w least_le);
                   cursor = rw z (left_next h.cursor w least_le);
                   few = rw (y, z, length-append, length-append) (omega (arith, new-room));

@@ -98,7 +98,7 @@ module _ (d : List ℕ) (first k : ℕ) (O : List Entry) where
               scanned = scan-next gone_records (gone_allowed O) next_word 0 k first d h.scanned some (fits_is ∙ u) (ap suc e);
               removed = h.removed ∙ ap (λ (ws : List ℕ). remove_all ws (kept ++ left)) (unread_next gone_length gone_from k first d i some)
                   ∙ ap (λ (v : ℕ). remove_all (words (i + 1)) (remove v (kept ++ left))) (sym e) ∙ ap (remove_all (words (i + 1))) is;
-              low = rw y (low_up w (suc w) (omega arith) (kept ++ take (below w left) left) (low-front w kept left low-kept a));
+              low = rw y (low_up w (suc w) (omega arith) (kept ++ take (below w left) left) (low-front w kept left low-kept));
               cursor = rw z (left_next h.cursor w not_lower);
               few = let l = h.few in rw (y, z, length-append) (omega (arith, place_length w left));
             }

@@ -3,7 +3,7 @@
 // base list as it goes, so that what is accepted is there.
 #![tactic(auto)]
 
-ghost use Rattle.std.specs.Prelude.{◌≡◌, ◌≤◌, length, drop};
+ghost use Rattle.std.specs.Prelude.{◌≡◌, ◌≤◌, [], length, drop};
 ghost use Rattle.std.specs.Result.{result_and};
 ghost use Rattle.lists.specs.Entries.{Ascending};
 ghost use Rattle.model.specs.Model.{base_limit};
@@ -18,17 +18,17 @@ ghost use Rattle.patch_check.specs.Steps.{new_allowed_by, started, base_wrong};
 use patch::{BaseList, Entry, Patch};
 use plane::Plane;
 
-// The k words gone from the offset first on are taken out of the base list `old`. Returns what stays, or the offset of what is wrong.
+// The k words gone from the offset first on are taken out of the base list `old`. What stays goes to `kept`, or the offset of what is wrong is returned.
 pub(crate) fn remove_gone(
     d: &[u8],
     first: usize,
     k: usize,
     old: &[Entry],
-) -> Result<BaseList, usize>
-    requires { (first ≤ length d.now) × (length old.now ≤ base_limit) × Ascending old.now }
-    ensures { result ≡ result_and (wrong_in gone_records (gone_allowed old.now) next_word 0 k first (drop first d.now)) (Ok (remove_all (read_all gone_length gone_from k (drop first d.now)) old.now)) }
+    kept: &mut BaseList,
+) -> Result<(), usize>
+    requires { (first ≤ length d.now) × (length old.now ≤ base_limit) × Ascending old.now × (kept.old ≡ []) }
+    ensures { result_and result (Ok kept.new) ≡ result_and (wrong_in gone_records (gone_allowed old.now) next_word 0 k first (drop first d.now)) (Ok (remove_all (read_all gone_length gone_from k (drop first d.now)) old.now)) }
 {
-    let mut kept = BaseList::new();
     let mut left = old;
     for i in 0..k {
         let at = first + i * Patch::GONE_LEN;
@@ -44,22 +44,22 @@ pub(crate) fn remove_gone(
         left = place.above;
     }
     kept.extend(left);
-    Ok(kept)
+    Ok(())
 }
 
-// The k entries new or changed from the offset first on are entered in `kept`, the base list `old` without the words gone. Returns what
-// comes of it, or the offset of what is wrong.
+// The k entries new or changed from the offset first on are entered in `kept`, the base list `old` without the words gone. What comes of it goes
+// to `new`, or the offset of what is wrong is returned.
 pub(crate) fn enter_news(
     d: &[u8],
     first: usize,
     k: usize,
     old: &[Entry],
     kept: &[Entry],
-) -> Result<BaseList, usize>
-    requires { (first ≤ length d.now) × (length kept.now ≤ base_limit) × Ascending old.now × Ascending kept.now }
-    ensures { result ≡ result_and (wrong_in new_records (new_allowed_by old.now kept.now) filled (started kept.now) k first (drop first d.now)) (Ok (enter_all (read_all new_length entry_from k (drop first d.now)) kept.now)) }
+    new: &mut BaseList,
+) -> Result<(), usize>
+    requires { (first ≤ length d.now) × (length kept.now ≤ base_limit) × Ascending old.now × Ascending kept.now × (new.old ≡ []) }
+    ensures { result_and result (Ok new.new) ≡ result_and (wrong_in new_records (new_allowed_by old.now kept.now) filled (started kept.now) k first (drop first d.now)) (Ok (enter_all (read_all new_length entry_from k (drop first d.now)) kept.now)) }
 {
-    let mut new = BaseList::new();
     let mut old_left = old;
     let mut left = kept;
     let mut last = None;
@@ -84,22 +84,28 @@ pub(crate) fn enter_news(
         last = Some(w);
     }
     new.extend(left);
-    Ok(new)
+    Ok(())
 }
 
-// From kind 7 on, which starts at first: the new plane's base list, or the offset of what is wrong.
-pub(crate) fn check_base(plane: &Plane, d: &[u8], first: usize) -> Result<BaseList, usize>
-    requires { (first ≡ gone_at format1 d.now) × (first ≤ length d.now) }
-    ensures { result ≡ result_and (base_wrong format1 (plane_from format1 plane.now.bytes.now) d.now) (Ok (patched (plane_from format1 plane.now.bytes.now) (patch_from format1 d.now)).base) }
+// From kind 7 on, which starts at first: the new plane's base list goes to `new`, or the offset of what is wrong is returned.
+pub(crate) fn check_base(
+    plane: &Plane,
+    d: &[u8],
+    first: usize,
+    new: &mut BaseList,
+) -> Result<(), usize>
+    requires { (first ≡ gone_at format1 d.now) × (first ≤ length d.now) × (new.old ≡ []) }
+    ensures { result_and result (Ok new.new) ≡ result_and (base_wrong format1 (plane_from format1 plane.now.bytes.now) d.now) (Ok (patched (plane_from format1 plane.now.bytes.now) (patch_from format1 d.now)).base) }
 {
-    let old = patch::load_base(plane);
+    let mut old = BaseList::new();
+    let mut kept = BaseList::new();
+    patch::load_base(plane, &mut old);
     let gone = patch::run(d, first, Patch::GONE, Patch::GONE_LEN);
-    let kept = remove_gone(d, first, gone, old.entries())?;
+    remove_gone(d, first, gone, old.entries(), &mut kept)?;
     let news_at = first + gone * Patch::GONE_LEN;
     let news = patch::run(d, news_at, Patch::NEW, Patch::NEW_LEN);
-    let new = enter_news(d, news_at, news, old.entries(), kept.entries())?;
-    plane::end_wrong(d, news_at + news * Patch::NEW_LEN)?;
-    Ok(new)
+    enter_news(d, news_at, news, old.entries(), kept.entries(), new)?;
+    plane::end_wrong(d, news_at + news * Patch::NEW_LEN)
 }
 
 // The whole patch, for a plane: the new plane's base list, or the offset of what is wrong. Not inlined: its lists lie in its frame alone.
@@ -112,5 +118,12 @@ pub fn check(plane: &Plane, d: &[u8]) -> Result<BaseList, usize>
     }
     let changes = patch::run(d, Patch::CHANGES_AT, Patch::CHANGE, Patch::CHANGE_LEN);
     patch_fits::changes_wrong(d, changes, plane.buckets())?;
-    check_base(plane, d, Patch::CHANGES_AT + changes * Patch::CHANGE_LEN)
+    let mut new = BaseList::new();
+    check_base(
+        plane,
+        d,
+        Patch::CHANGES_AT + changes * Patch::CHANGE_LEN,
+        &mut new,
+    )?;
+    Ok(new)
 }

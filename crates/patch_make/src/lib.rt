@@ -19,7 +19,7 @@ ghost use Rattle.patch.specs.Calls.{alike, make_call};
 ghost use Rattle.patch_make.specs.Steps.{change_part, base_records, made_right, made_from};
 
 use answer::{Answer, Cause};
-use patch::{Entry, Patch};
+use patch::{BaseList, Entry, Patch};
 use plane::{Plane, Record};
 
 // Writes the record of bucket i, whose bytes are b, at the offset at, unless those in the old plane, a, are the same. Returns where it ends.
@@ -103,8 +103,10 @@ pub(crate) fn put_base(out: &mut [u8], first: usize, old: &Plane, new: &Plane) -
     requires { first + base_limit * (gone_length + new_length) ≤ length out.old }
     ensures { (result ≡ first + length (base_records (plane_from format1 old.now.bytes.now).base (plane_from format1 new.now.bytes.now).base)) × (out.new ≡ written first (base_records (plane_from format1 old.now.bytes.now).base (plane_from format1 new.now.bytes.now).base) out.old) }
 {
-    let before = patch::load_base(old);
-    let after = patch::load_base(new);
+    let mut before = BaseList::new();
+    let mut after = BaseList::new();
+    patch::load_base(old, &mut before);
+    patch::load_base(new, &mut after);
     let news_at = put_gone(out, first, before.entries(), after.entries());
     put_news(out, news_at, before.entries(), after.entries())
 }

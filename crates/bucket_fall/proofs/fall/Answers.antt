@@ -3,8 +3,7 @@
 use mathlib.Core.Path.{◌≡◌, refl, sym, ap, ◌∙◌}
 use Prim.Native.Nat.{◌-◌, ◌≤◌, ◌<◌}
 use native.Mathlib.Omega.{arith}
-use mathlib.Core.List.{List, ◌++◌}
-use lib.ListN.{length}
+use mathlib.Core.List.{List}
 use borrow.Author.Rules.{rules}
 use Rattle.lists.specs.Entries.{Entry, words}
 use Rattle.bucket_settle.specs.Settle.{threshold_of, withdraw_all, at_bound}

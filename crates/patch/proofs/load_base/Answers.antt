@@ -20,7 +20,7 @@ split c =
 
 pub loop-e-init : goal.loop-e-init
 loop-e-init c =
-    rw (c.into_iter-e-iterator.ensures.into_iter_gives, c.chunks_exact-e-items.ensures.rest, c.chunks_exact-e-items.ensures.size, c.new-base.ensures) (c.base.ensures, refl)
+    rw (c.into_iter-e-iterator.ensures.into_iter_gives, c.chunks_exact-e-items.ensures.rest, c.chunks_exact-e-items.ensures.size, c.clear.ensures) (c.base.ensures, refl)
 
 pub push-requires : goal.push-requires
 unfolding plane_from

@@ -38,7 +38,7 @@ returns-in_err-changes_wrong c =
     rw (e.1, e.2, changes-wrong format1 _ _ (sums (goal.at.returns-in_err-changes_wrong c).Else-not-whole) w)
 
 pub overflow_mul-changes : goal.overflow_mul-changes
-overflow_mul-changes c = let a = goal.at.overflow_mul-changes c in record { fits = omega (arith, gone_room c (sums a.Else-not-whole)) }
+overflow_mul-changes c = let a = goal.at.overflow_mul-changes c in record { fits = omega (arith, gone_room a.In_ok-changes_wrong (sums a.Else-not-whole)) }
 
 pub overflow_add-changes : goal.overflow_add-changes
 overflow_add-changes c = let a = goal.at.overflow_add-changes c in record { fits = omega (arith, gone_room a.In_ok-changes_wrong (sums a.Else-not-whole)) }
@@ -46,9 +46,15 @@ overflow_add-changes c = let a = goal.at.overflow_add-changes c in record { fits
 pub check_base-requires : goal.check_base-requires
 check_base-requires c =
     let a = goal.at.check_base-requires c in
-    (gone_at_lem format1 c.args.plane.now.bytes.now c.args.d.now c.run-changes.result c.run-changes.ensures, gone_room a.In_ok-changes_wrong (sums a.Else-not-whole))
+    (gone_at_lem format1 c.args.plane.now.bytes.now c.args.d.now c.run-changes.result c.run-changes.ensures, gone_room a.In_ok-changes_wrong (sums a.Else-not-whole), c.new-new.ensures)
+
+pub returns-in_err-check_base : goal.returns-in_err-check_base
+returns-in_err-check_base c =
+    let a = goal.at.returns-in_err-check_base c in
+    let e = err_from_is_err_and c.from_residual-in_err-check_base.result c.from_residual-in_err-check_base.ensures.1 in
+    rw (e.1, e.2) (c.in_err-check_base.ensures ∙ rw (base-wrong format1 _ _ (sums a.Else-not-whole) (changes_right a.In_ok-changes_wrong)))
 
 pub returns : goal.returns
 returns c =
     let a = goal.at.returns c in
-    c.check_base.ensures ∙ rw (base-wrong format1 _ _ (sums a.Else-not-whole) (changes_right a.In_ok-changes_wrong))
+    c.in_ok-check_base.ensures ∙ rw (base-wrong format1 _ _ (sums a.Else-not-whole) (changes_right a.In_ok-changes_wrong))

@@ -21,7 +21,7 @@ test c =
     c.new_fits.ensures ∙ rw (c.is_some.ensures, c.is_some-in-loop-i.ensures, n)
 
 pub loop-i-init : goal.loop-i-init
-loop-i-init c = rw c.new-new.ensures (entering_starts _ _ _ _ _ c.requires.0 c.requires.1 c.requires.2 c.requires.3)
+loop-i-init c = rw c.requires.4 (entering_starts _ _ _ _ _ c.requires.0 c.requires.1 c.requires.2 c.requires.3)
 
 pub returns-then-not-new_follows : goal.returns-then-not-new_follows
 returns-then-not-new_follows c = new_low _ _ _ _ _ c.loop-i.invariant c.loop-i-test.true (refused _ c.new_follows.ensures c.if-not-new_follows.true)

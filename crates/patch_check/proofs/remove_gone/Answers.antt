@@ -10,7 +10,7 @@ use Rattle.patch_check.proofs.Remove.{removing_starts, removing_ends, gone_cut, 
 use Rattle.patch_check.proofs.remove_gone.Goals as goal
 
 pub loop-i-init : goal.loop-i-init
-loop-i-init c = rw c.new-kept.ensures (removing_starts _ _ _ _ c.requires.0 c.requires.1 c.requires.2)
+loop-i-init c = rw c.requires.3 (removing_starts _ _ _ _ c.requires.0 c.requires.1 c.requires.2)
 
 pub returns-then-not-whole : goal.returns-then-not-whole
 returns-then-not-whole c = gone_cut _ _ _ _ c.loop-i.invariant c.loop-i-test.true (refused _ c.whole.ensures c.if-not-whole.true)
